@@ -1,0 +1,11 @@
+pub mod Ascending
+pub mod BuiltMaps
+pub mod FromData
+pub mod IntoData
+pub mod Lists
+pub mod Maps
+pub mod Meaning
+pub mod Names
+pub mod ReadLemmas
+pub mod RoundTrip
+pub mod TextLemmas

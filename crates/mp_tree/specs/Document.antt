@@ -1,0 +1,137 @@
+-- What a JSON document is (RFC 8259 section 3, with whole numbers alone): null, a truth value, a whole number,
+-- a text, a list of documents, or a finite map from names to documents. Texts and names are UTF-8 bytes.
+use Rattle.std.specs.Prelude.{◌≡◌, ◌≤ℤ◌, ◌^◌, ◌-◌, ℕ, suc, max, ℤ, pos, negsuc, List, Bool, cond, Option, None, Some, ⊤, IsUtf8}
+use Rattle.std.specs.declared.cmp.Ordering.{Ordering}
+use Rattle.std.specs.declared.cmp.Ordering.TheVariants.{Less}
+use Rattle.std.specs.Ordering.{nat_cmp, match_ordering, is_eq}
+use Rattle.std.specs.Cmp.Lexicographic.{slice_cmp}
+
+mutual
+  pub data Document : Type 0 where
+    null : Document
+    flag : Bool → Document
+    whole : ℤ → Document
+    string : List ℕ → Document
+    list : Items → Document
+    object : Members → Document
+
+  -- the elements of a list, in order
+  pub data Items : Type 0 where
+    no_items : Items
+    item : Document → Items → Items
+
+  -- the names of a map, each with its value
+  pub data Members : Type 0 where
+    no_members : Members
+    member : List ℕ → Document → Members → Members
+
+-- ---- a map's names
+
+-- names are ordered by their UTF-8 bytes
+abbrev pub name_cmp : List ℕ → List ℕ → Ordering
+name_cmp = slice_cmp nat_cmp
+
+abbrev pub is_name : List ℕ → List ℕ → Bool
+is_name n m = is_eq (name_cmp n m)
+
+-- the value at the name n
+abbrev pub find : List ℕ → Members → Option Document
+find n no_members = None
+find n (member m d ms) = cond (is_name n m) (Some d) (find n ms)
+
+-- the members with n set to d
+abbrev pub put : List ℕ → Document → Members → Members
+put n d no_members = member n d no_members
+put n d (member m e ms) = match_ordering (name_cmp n m) (member n d (member m e ms)) (member n d ms) (member m e (put n d ms))
+
+-- the members without n
+abbrev pub without : List ℕ → Members → Members
+without n no_members = no_members
+without n (member m d ms) = cond (is_name n m) ms (member m d (without n ms))
+
+-- n is below each name of the members
+abbrev pub IsBelow : List ℕ → Members → Type 0
+IsBelow n no_members = ⊤
+IsBelow n (member m d ms) = (name_cmp n m ≡ Less) × IsBelow n ms
+
+-- Each object has its names once, in ascending order: such a list of members is a finite map.
+abbrev mutual
+  pub IsDocument : Document → Type 0
+  IsDocument null = ⊤
+  IsDocument (flag b) = ⊤
+  IsDocument (whole z) = ⊤
+  IsDocument (string s) = ⊤
+  IsDocument (list ds) = AreDocuments ds
+  IsDocument (object ms) = IsMap ms
+
+  pub AreDocuments : Items → Type 0
+  AreDocuments no_items = ⊤
+  AreDocuments (item d ds) = IsDocument d × AreDocuments ds
+
+  pub IsMap : Members → Type 0
+  IsMap no_members = ⊤
+  IsMap (member n d ms) = IsDocument d × IsBelow n ms × IsMap ms
+
+-- ---- depth and range
+
+-- 0 for a scalar; one more than the deepest part for a list or an object, and 1 for an empty one
+abbrev mutual
+  pub depth : Document → ℕ
+  depth null = 0
+  depth (flag b) = 0
+  depth (whole z) = 0
+  depth (string s) = 0
+  depth (list ds) = suc (items_depth ds)
+  depth (object ms) = suc (members_depth ms)
+
+  pub items_depth : Items → ℕ
+  items_depth no_items = 0
+  items_depth (item d ds) = max (depth d) (items_depth ds)
+
+  pub members_depth : Members → ℕ
+  members_depth no_members = 0
+  members_depth (member n d ms) = max (depth d) (members_depth ms)
+
+-- the deepest document that is read
+abbrev pub depth_limit : ℕ
+depth_limit = 126
+
+-- from -2^63 to 2^64 - 1
+abbrev pub IsWhole : ℤ → Type 0
+IsWhole z = (negsuc (2 ^ 63 - 1) ≤ℤ z) × (z ≤ℤ pos (2 ^ 64 - 1))
+
+-- each number is within the number rule
+abbrev mutual
+  pub IsInRange : Document → Type 0
+  IsInRange null = ⊤
+  IsInRange (flag b) = ⊤
+  IsInRange (whole z) = IsWhole z
+  IsInRange (string s) = ⊤
+  IsInRange (list ds) = AreInRange ds
+  IsInRange (object ms) = MembersAreInRange ms
+
+  pub AreInRange : Items → Type 0
+  AreInRange no_items = ⊤
+  AreInRange (item d ds) = IsInRange d × AreInRange ds
+
+  pub MembersAreInRange : Members → Type 0
+  MembersAreInRange no_members = ⊤
+  MembersAreInRange (member n d ms) = IsInRange d × MembersAreInRange ms
+
+-- each text and each name is UTF-8
+abbrev mutual
+  pub HasTexts : Document → Type 0
+  HasTexts null = ⊤
+  HasTexts (flag b) = ⊤
+  HasTexts (whole z) = ⊤
+  HasTexts (string s) = IsUtf8 s
+  HasTexts (list ds) = ItemsHaveTexts ds
+  HasTexts (object ms) = MembersHaveTexts ms
+
+  pub ItemsHaveTexts : Items → Type 0
+  ItemsHaveTexts no_items = ⊤
+  ItemsHaveTexts (item d ds) = HasTexts d × ItemsHaveTexts ds
+
+  pub MembersHaveTexts : Members → Type 0
+  MembersHaveTexts no_members = ⊤
+  MembersHaveTexts (member n d ms) = IsUtf8 n × HasTexts d × MembersHaveTexts ms

@@ -1,0 +1,6 @@
+pub mod Document
+pub mod Laws
+pub mod Look
+pub mod Text
+pub mod Unread
+pub mod View

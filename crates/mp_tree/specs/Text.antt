@@ -1,0 +1,83 @@
+-- Reading and writing (RFC 8259), over `serde_json`'s own reading and compact text.
+use Rattle.std.specs.Prelude.{ℕ, ℤ, pos, List, if◌then◌else◌, Option, None, Some, option_map, option_and_then, Result, Ok, Err}
+use Rattle.std.specs.Option.{option_or}
+use Rattle.std.specs.Str.{is_utf8}
+use Rattle.serde_json.specs.Data as json
+use Rattle.serde_json.specs.Data.{Data, Num}
+use Rattle.serde_json.specs.Find.{as_u64, as_i64, of_integer}
+use Rattle.serde_json.specs.Read as serde_json
+use Rattle.serde_json.specs.Written.{compact_text}
+use Rattle.mp_tree.specs.Document.{Document, null, flag, whole, string, list, object, Items, no_items, item, Members, no_members, member, put}
+use Rattle.mp_tree.specs.declared.read.DocsFault.{DocsFault}
+use Rattle.mp_tree.specs.declared.read.DocsFault.TheVariants.{NotJson, NotWhole, NotAnArray}
+
+-- ---- reading
+
+-- The number rule: a number is whole where `serde_json` answers it as a `u64` or as an `i64`.
+abbrev pub whole_number : Num → Option ℤ
+whole_number n = option_or (option_map pos (as_u64 n)) (as_i64 n)
+
+-- the document of a reading, none where a number is not whole
+abbrev mutual
+  pub document_from : Data → Option Document
+  document_from json.null = Some null
+  document_from (json.boolean b) = Some (flag b)
+  document_from (json.number n) = option_map whole (whole_number n)
+  document_from (json.string s) = Some (string s)
+  document_from (json.array ds) = option_map list (items_from ds)
+  document_from (json.object ms) = option_map object (members_from ms)
+
+  pub items_from : json.Items → Option Items
+  items_from json.no_items = Some no_items
+  items_from (json.item d ds) = option_and_then (λ e. option_map (item e) (items_from ds)) (document_from d)
+
+  pub members_from : json.Members → Option Members
+  members_from json.no_members = Some no_members
+  members_from (json.member n d ms) = option_and_then (λ e. option_map (put n e) (members_from ms)) (document_from d)
+
+-- what `serde_json` reads of the bytes: nothing where they are not UTF-8 or no JSON text of nesting at most 127
+abbrev pub reading : List ℕ → Option Data
+reading bytes = if is_utf8 bytes then serde_json.read bytes else None
+
+abbrev pub read : List ℕ → Option Document
+read bytes = option_and_then document_from (reading bytes)
+
+-- ---- the elements of the array that the bytes are, or the first fault: not JSON, a number that is not whole, no array
+
+abbrev pub elements : Document → Result Items DocsFault
+elements (list ds) = Ok ds
+elements _ = Err NotAnArray
+
+abbrev whole_or_fault : Option Document → Result Items DocsFault
+whole_or_fault None = Err NotWhole
+whole_or_fault (Some d) = elements d
+
+abbrev read_or_fault : Option Data → Result Items DocsFault
+read_or_fault None = Err NotJson
+read_or_fault (Some d) = whole_or_fault (document_from d)
+
+abbrev pub documents_in : List ℕ → Result Items DocsFault
+documents_in bytes = read_or_fault (reading bytes)
+
+-- ---- writing
+
+abbrev mutual
+  pub data_of : Document → Data
+  data_of null = json.null
+  data_of (flag b) = json.boolean b
+  data_of (whole z) = json.number (of_integer z)
+  data_of (string s) = json.string s
+  data_of (list ds) = json.array (items_data ds)
+  data_of (object ms) = json.object (members_data ms)
+
+  pub items_data : Items → json.Items
+  items_data no_items = json.no_items
+  items_data (item d ds) = json.item (data_of d) (items_data ds)
+
+  pub members_data : Members → json.Members
+  members_data no_members = json.no_members
+  members_data (member n d ms) = json.member n (data_of d) (members_data ms)
+
+-- the compact text, names in the order in which the document has them: by their UTF-8 bytes
+abbrev pub text : Document → List ℕ
+text d = compact_text (data_of d)

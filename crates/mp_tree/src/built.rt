@@ -1,0 +1,19 @@
+// Maps that are built whole: for ascending names that costs less than an insertion each.
+ghost use Rattle.std.specs.Prelude.{◌≡◌, IfOk};
+ghost use Rattle.std.specs.List.Sorted.{IsStrictlySortedBy};
+ghost use Rattle.std.specs.Map.{keys_of};
+ghost use Rattle.std.specs.String.{string_cmp};
+ghost use Rattle.mp_tree.specs.View.{named};
+
+use std::alloc::{AllocError, Global};
+use std::collections::BTreeMap;
+
+pub(crate) fn map_of<V: Drop>(
+    alloc: Global,
+    pairs: Vec<(String, V)>,
+) -> Result<BTreeMap<String, V>, AllocError>
+    requires { IsStrictlySortedBy string_cmp (keys_of pairs.items) }
+    ensures { IfOk result (λ m. named m.entries ≡ named pairs.items) }
+{
+    pairs.into_iter().collect(alloc)
+}

@@ -1,0 +1,73 @@
+ghost use Rattle.std.specs.Prelude.{◌≡◌, IfOk};
+
+use crate::built::map_of;
+use crate::whole::Whole;
+use std::alloc::{AllocError, Global};
+use std::collections::BTreeMap;
+
+/// A JSON document (RFC 8259) whose numbers are whole: what replicas keep, and what a merge patch is written as.
+///
+/// `Members` has each name once, in the order of the names' UTF-8 bytes.
+#[derive(Drop)]
+pub enum Doc {
+    Null,
+    Flag(bool),
+    Whole(Whole),
+    Text(String),
+    Items(Vec<Doc>),
+    Members(BTreeMap<String, Doc>),
+}
+
+impl Doc {
+    ghost use Rattle.mp_tree.specs.View.{document};
+
+    /// An equal document, which shares nothing with this one. `AllocError` where memory ran out.
+    pub fn copy(&self, alloc: Global) -> Result<Doc, AllocError>
+        ensures equal { IfOk result (λ d. document d ≡ document self.now) }
+    {
+        copy_of(self, alloc)
+    }
+}
+
+ghost use Rattle.mp_tree.specs.View.{document, items, members};
+
+#[cycle(copy)]
+fn copy_of(doc: &Doc, alloc: Global) -> Result<Doc, AllocError>
+    ensures { IfOk result (λ d. document d ≡ document doc.now) }
+{
+    match doc {
+        Doc::Null => Ok(Doc::Null),
+        Doc::Flag(flag) => Ok(Doc::Flag(*flag)),
+        Doc::Whole(number) => Ok(Doc::Whole(*number)),
+        Doc::Text(text) => Ok(Doc::Text(String::from_str(alloc, text.as_str())?)),
+        Doc::Items(elements) => Ok(Doc::Items(copy_items(elements, alloc)?)),
+        Doc::Members(entries) => Ok(Doc::Members(copy_members(entries, alloc)?)),
+    }
+}
+
+#[cycle(copy)]
+fn copy_items(elements: &Vec<Doc>, alloc: Global) -> Result<Vec<Doc>, AllocError>
+    ensures { IfOk result (λ copies. items copies.items ≡ items elements.now.items) }
+{
+    let mut copies = Vec::with_capacity(alloc, elements.len())?;
+    for element in elements {
+        copies.push(copy_of(element, alloc)?)?;
+    }
+    Ok(copies)
+}
+
+#[cycle(copy)]
+fn copy_members(
+    entries: &BTreeMap<String, Doc>,
+    alloc: Global,
+) -> Result<BTreeMap<String, Doc>, AllocError>
+    ensures { IfOk result (λ copies. members copies.entries ≡ members entries.now.entries) }
+{
+    let mut pairs = Vec::with_capacity(alloc, entries.len())?;
+    for (name, value) in entries.iter() {
+        let copied_name = String::from_str(alloc, name.as_str())?;
+        let copied_value = copy_of(value, alloc)?;
+        pairs.push((copied_name, copied_value))?;
+    }
+    map_of(alloc, pairs)
+}

@@ -1,0 +1,15 @@
+//! JSON documents with whole numbers: their tree, and reading and writing them.
+#![tactic(auto)]
+
+mod built;
+pub mod doc;
+pub mod laws;
+mod parts;
+pub mod read;
+pub mod whole;
+pub mod write;
+
+pub use doc::Doc;
+pub use read::{DocsFault, read_docs};
+pub use whole::Whole;
+pub use write::write_doc;

@@ -1,0 +1,77 @@
+ghost use Rattle.std.specs.Prelude.{◌≡◌, ◌≢◌, ◌≤◌, All, None, Some, IsSome, Ok, Err, IfOk, IfErr};
+ghost use Rattle.serde_json.specs.Read.{max_depth};
+ghost use Rattle.mp_tree.specs.Document.{depth, depth_limit};
+ghost use Rattle.mp_tree.specs.View.{document, items};
+ghost use Rattle.mp_tree.specs.Text.{documents_in, read, reading};
+
+use crate::doc::Doc;
+use crate::parts::{Unread, doc_of};
+use serde_json::Value;
+use std::alloc::Global;
+use thiserror::Error;
+
+/// Why bytes gave no list of documents.
+#[derive(Clone, Copy, Debug, Drop, PartialEq, Eq, Error)]
+pub enum DocsFault {
+    #[error("not JSON")]
+    NotJson,
+    #[error("number not whole")]
+    NotWhole,
+    #[error("not an array")]
+    NotAnArray,
+    #[error("out of memory")]
+    OutOfMemory,
+}
+
+/// The documents that stand in one JSON array (RFC 8259), as `jq -s .` makes it from several texts.
+///
+/// The first fault that holds is answered: `NotJson` where `serde_json` has no reading (the bytes are not UTF-8,
+/// nest deeper than 127, or go on after the value), `NotWhole` where a number is not whole or is outside
+/// -2^63 to 2^64 - 1, `NotAnArray` where the value is something else; `OutOfMemory` may come at any point.
+///
+/// ```text
+/// read_docs(alloc, b"[1,{}]")   // two documents
+/// read_docs(alloc, b"5")        // Err(DocsFault::NotAnArray)
+/// ```
+pub fn read_docs(alloc: Global, bytes: &[u8]) -> Result<Vec<Doc>, DocsFault>
+    ensures documents { IfOk result (λ docs. documents_in bytes.now ≡ Ok (items docs.items)) }
+    ensures faults { IfErr result (λ fault. fault ≢ DocsFault.OutOfMemory
+        → documents_in bytes.now ≡ Err fault) }
+    ensures depth { IfOk result (λ docs. All (λ d. depth (document d) ≤ depth_limit) docs.items) }
+{
+    match read_tree(alloc, bytes)? {
+        Doc::Items(docs) => Ok(docs),
+        _ => Err(DocsFault::NotAnArray),
+    }
+}
+
+impl From<Unread> for DocsFault {
+    ghost use Rattle.mp_tree.specs.Unread.{docs_fault};
+
+    ghost from_gives = { λ unread fault. fault ≡ docs_fault unread };
+
+    fn from(unread: Unread) -> DocsFault {
+        match unread {
+            Unread::NotJson => DocsFault::NotJson,
+            Unread::NotWhole => DocsFault::NotWhole,
+            Unread::OutOfMemory => DocsFault::OutOfMemory,
+        }
+    }
+}
+
+fn read_tree(alloc: Global, bytes: &[u8]) -> Result<Doc, Unread>
+    ensures ok { IfOk result (λ d. read bytes.now ≡ Some (document d)) }
+    ensures nests { IfOk result (λ d. depth (document d) ≤ max_depth) }
+    ensures not_json { result ≡ Err Unread.NotJson → reading bytes.now ≡ None }
+    ensures not_whole { result ≡ Err Unread.NotWhole
+        → (IsSome (reading bytes.now) × (read bytes.now ≡ None)) }
+{
+    match Value::from_slice(alloc, bytes) {
+        Ok(value) => doc_of(value, alloc),
+        Err(fault) => if fault.is_memory() {
+            Err(Unread::OutOfMemory)
+        } else {
+            Err(Unread::NotJson)
+        },
+    }
+}

@@ -1,0 +1,43 @@
+ghost use Rattle.std.specs.Prelude.{◌≡◌, ◌^◌, ◌-◌, ◌≤ℤ◌, pos, negsuc};
+
+/// A whole number from -2^63 to 2^64 - 1: what a document's number may be.
+///
+/// ```text
+/// Whole::from_i64(-3).value()        // -3
+/// Whole::from_u64(u64::MAX).value()  // 18446744073709551615
+/// ```
+#[derive(Clone, Copy, PartialEq, Eq, Drop)]
+pub struct Whole {
+    value: i128,
+    ghost at_least: { negsuc (2 ^ 63 - 1) ≤ℤ value },
+    ghost at_most: { value ≤ℤ pos (2 ^ 64 - 1) },
+}
+
+impl Whole {
+    ghost use Rattle.mp_tree.specs.View.{number_of};
+
+    /// The number of an `i64`. Equal numbers from here and from [`Whole::from_u64`] are equal values.
+    pub fn from_i64(value: i64) -> Whole
+        ensures number { number_of result ≡ value }
+    {
+        Whole {
+            value: i128::from(value),
+        }
+    }
+
+    /// The number of a `u64`.
+    pub fn from_u64(value: u64) -> Whole
+        ensures number { number_of result ≡ pos value }
+    {
+        Whole {
+            value: i128::from(value),
+        }
+    }
+
+    /// The number, from -9,223,372,036,854,775,808 to 18,446,744,073,709,551,615.
+    pub fn value(&self) -> i128
+        ensures number { result ≡ number_of self.now }
+    {
+        self.value
+    }
+}
