@@ -1,0 +1,4 @@
+pub mod Answered
+pub mod Counted
+pub mod FaultLine
+pub mod Run
