@@ -9,6 +9,6 @@ mod counted;
 mod running;
 
 pub use answering::answer;
-pub use command::Command;
+pub use command::{Command, CommandFault, command_of};
 pub use counted::Counted;
 pub use running::{INPUT_LIMIT, READ_LIMIT, RunFault, fault_line, run};
