@@ -1,11 +1,13 @@
 -- What the two loops of a run keep.
 use Rattle.std.proofs.Common.{◌≡◌, ◌+◌, ◌<◌, ◌≤◌, ◌++◌, ℕ, List, Option, length, take, drop, ap, sym, ◌∙◌, arith}
-use Rattle.std.proofs.KnownBytes.{Appends-trans}
+use Rattle.std.proofs.KnownBytes.{Appends-trans, Consumes-trans}
 use Rattle.std.proofs.Math.Seq.{take-add}
-use Rattle.std.proofs.lemmas.List.{drop-drop, length-drop}
+use Rattle.std.proofs.lemmas.List.{drop-drop, length-append, length-drop}
 use Rattle.std.specs.Io.KnownBytes.{Appends, Consumes}
+use Rattle.mp_cli.specs.declared.running.TheConstants.{INPUT_LIMIT}
 use Rattle.mp_cli.specs.declared.counted.Counted.{Counted}
 use Rattle.mp_cli.specs.Counted.{device_of, calls_of, failures_of, bytes_of, CountsBytes}
+use Rattle.mp_cli.specs.Run.{ReadsBytes}
 
 -- after `reads` reads, each of which gave a byte, these bytes were read
 pub record ReadSoFar {R : Type 0} (remaining : R → Option (List ℕ)) (old new : Counted R) (reads : ℕ) (bytes : List ℕ) : Type 0 where
@@ -14,7 +16,16 @@ pub record ReadSoFar {R : Type 0} (remaining : R → Option (List ℕ)) (old new
   pub failures : failures_of new ≡ 0
   pub counted : bytes_of new ≡ length bytes
   pub each_gave : reads ≤ length bytes
-  pub short : length bytes ≤ 1048576
+  pub short : length bytes ≤ INPUT_LIMIT
+
+-- the bytes of one more read follow those so far
+pub ReadSoFar-read : {R : Type 0} (remaining : R → Option (List ℕ)) (old mid new : Counted R) (reads count : ℕ) (bytes more : List ℕ)
+    → bytes_of old ≡ 0 → ReadSoFar remaining old mid reads bytes → CountsBytes mid new count → count ≡ length more
+    → Consumes (remaining (device_of mid)) (remaining (device_of new)) more → ReadsBytes remaining old new (bytes ++ more)
+ReadSoFar-read remaining old mid new reads count bytes more fresh before counts is consumes = record {
+  consumed = Consumes-trans _ _ _ _ _ before.consumed consumes;
+  counted = omega (arith, length-append bytes more);
+}
 
 -- the front of the text was written, and the rest is left
 pub record WrittenSoFar {W : Type 0} (contents : W → Option (List ℕ)) (old new : Counted W) (text rest : List ℕ) : Type 0 where

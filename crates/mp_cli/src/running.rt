@@ -3,7 +3,7 @@ ghost use Rattle.std.specs.Prelude.{◌≡◌, ◌≢◌, ◌↔◌, ◌+◌, �
 ghost use Rattle.mp_cli.specs.Answered.{answered};
 ghost use Rattle.mp_cli.specs.Counted.{device_of, calls_of, failures_of, bytes_of};
 ghost use Rattle.mp_cli.specs.FaultLine.{line_of, status_of};
-ghost use Rattle.mp_cli.specs.Run.{ReadsWhole, WritesWhole, Delivers, TouchesOne};
+ghost use Rattle.mp_cli.specs.Run.{ReadsBytes, ReadsWhole, WritesWhole, Delivers, TouchesOne};
 ghost use Rattle.mp_cli.specs.declared.running.RunFault.TheVariants.{OutOfMemory};
 
 use crate::answering::answer;
@@ -98,17 +98,20 @@ pub fn run<R: Read, W: Write, E: Write>(
     ensures write_failed { IsErrOf result RunFault.WriteFailed
         ↔ (0 < failures_of out.new + failures_of err.new) }
 
+    // What was read.
     ensures read_calls { calls_of input.new ≤ READ_LIMIT }
+    ensures reads { (bytes : List ℕ) × ReadsBytes R.remaining input.old input.new bytes }
 
-    // What was written.
+    // What was written: for the bytes that were read, and the same for a reader that says which
+    // bytes it has.
     ensures answered { IfOk result (λ status. (bytes : List ℕ)
         × ReadsWhole R.remaining input.old input.new bytes
-        × (status ≡ (answered command.now bytes).status)
-        × Delivers W.contents E.contents (answered command.now bytes) out.old out.new err.old err.new) }
-    ensures answered_known { IfOk result (λ status. IfSome (R.remaining (device_of input.old)) (λ bytes.
-        (length bytes ≤ INPUT_LIMIT)
-        × (status ≡ (answered command.now bytes).status)
-        × Delivers W.contents E.contents (answered command.now bytes) out.old out.new err.old err.new)) }
+        × Delivers W.contents E.contents (answered command.now bytes) status
+            out.old out.new err.old err.new) }
+    ensures answered_known { IfOk result (λ status. IfSome (R.remaining (device_of input.old))
+        (λ bytes. ReadsWhole R.remaining input.old input.new bytes
+        × Delivers W.contents E.contents (answered command.now bytes) status
+            out.old out.new err.old err.new)) }
     ensures one_writer { IsErrOf result RunFault.WriteFailed → (bytes : List ℕ)
         × ReadsWhole R.remaining input.old input.new bytes
         × TouchesOne (answered command.now bytes) out.old out.new err.old err.new }
@@ -128,7 +131,8 @@ pub fn run<R: Read, W: Write, E: Write>(
 /// The bytes of the reader up to its end.
 fn read_whole<R: Read>(alloc: Global, input: &mut Counted<R>) -> Result<Vec<u8>, RunFault>
     requires { calls_of input.old ≡ 0 }
-    ensures read { IfOk result (λ bytes. ReadsWhole R.remaining input.old input.new bytes.items) }
+    ensures whole { IfOk result (λ bytes. ReadsWhole R.remaining input.old input.new bytes.items) }
+    ensures reads { (bytes : List ℕ) × ReadsBytes R.remaining input.old input.new bytes }
     ensures read_failed { IsErrOf result RunFault.ReadFailed ↔ (0 < failures_of input.new) }
     ensures too_long { IsErrOf result RunFault.TooLong ↔ (INPUT_LIMIT < bytes_of input.new) }
     ensures no_write_failed { IfErr result (λ fault. fault ≢ RunFault.WriteFailed) }
