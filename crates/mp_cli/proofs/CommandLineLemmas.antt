@@ -8,15 +8,14 @@ use Rattle.std.specs.Prelude.{Box}
 use Rattle.std.specs.Box.{box_value}
 use Rattle.clap.specs.Simple.{Shape, entered, rows_at, subcommand_rows, subcommand_rows_of}
 use Rattle.clap.specs.declared.parser.matches.SubCommand.{SubCommand}
-use Rattle.clap.specs.Walk.{stop_after}
 use Rattle.clap.specs.declared.error.Error.{Error}
 use Rattle.clap.specs.declared.error.kind.ErrorKind.TheVariants.{DisplayHelp, OutOfMemory}
-use Rattle.clap.specs.Words.{App, Text, HasKind, HasMatchesOf, IsAmong, IsParsedFrom, Kinds, kind_of, app_of, built, has_subcommand, is_simple, is_simple_and_free, subcommand_name_of, subcommand_of}
+use Rattle.clap.specs.Words.{App, Text, HasKind, HasMatchesOf, IsAmong, IsParsedFrom, Kinds, kind_of, app_of, built, is_simple, is_simple_and_free, subcommand_name_of, subcommand_of}
 use Rattle.clap.specs.declared.builder.command.Command.{Command}
 use Rattle.clap.specs.declared.builder.command.Command.TheViews.{out-Command}
 use Rattle.clap.specs.declared.parser.matches.ArgMatches.{ArgMatches}
 use Rattle.clap.specs.declared.parser.matches.ArgMatches.TheViews.{out-ArgMatches, out-SubCommand}
-use Rattle.mp_cli.specs.CommandLine.{command_line, asked_for, IsSubcommand}
+use Rattle.mp_cli.specs.CommandLine.{command_line, asked_for, HasMistake, IsSubcommand}
 
 -- the line is of the kind whose matches and faults are functions of the words
 pub command_line-simple : is_simple_and_free command_line ≡ true
@@ -103,7 +102,8 @@ pub HasKind-help : (error : Error) (found faults : Kinds) → kind_of error ≡ 
 HasKind-help error found faults help is (inl memory) = cc
 HasKind-help error found faults help is (inr among) = subst (IsAmong DisplayHelp) is (subst (λ kind. IsAmong kind found) help among)
 
--- another error than want of memory has a kind
-pub HasKind-none : (error : Error) (found : Kinds) → found ≡ [] → HasKind found error → kind_of error ≢ OutOfMemory → ⊥
-HasKind-none error found none (inl memory) other = other memory
-HasKind-none error found none (inr among) other = subst (IsAmong (kind_of error)) none among
+-- another error is a mistake in the words
+pub HasKind-mistake : (error : Error) (found faults : Kinds) → kind_of error ≢ OutOfMemory → kind_of error ≢ DisplayHelp → found ≡ faults → HasKind found error
+    → HasMistake faults
+HasKind-mistake error found faults memory_left no_help is (inl memory) = absurd (memory_left memory)
+HasKind-mistake error found faults memory_left no_help is (inr among) = (kind_of error, no_help, subst (IsAmong (kind_of error)) is among)

@@ -1,8 +1,8 @@
 //! The commands of the program, and the words that ask for them.
 ghost use Rattle.std.specs.Prelude.{◌≡◌, ◌≢◌, map, true, false, Some, [], IfOk, IfErr, OnOk, string_bytes};
-ghost use Rattle.clap.specs.Words.{app_of, fault_of, kind_of, subcommand_name_of, takes, IsAmong};
+ghost use Rattle.clap.specs.Words.{app_of, kind_of, subcommand_name_of, takes, IsAmong};
 ghost use Rattle.clap.specs.declared.builder.command.Command.TheViews.{out-Command};
-ghost use Rattle.mp_cli.specs.CommandLine.{command_line, asked_for, word_of, IsSubcommand, IsHelp, IsUsage};
+ghost use Rattle.mp_cli.specs.CommandLine.{command_line, asked_for, faults_of, word_of, HasMistake, IsSubcommand, IsHelp, IsUsage};
 
 use clap::ArgMatches;
 use clap::error::ErrorKind;
@@ -49,11 +49,11 @@ pub fn command_of(alloc: Global, words: Vec<String>) -> Result<Command, CommandF
         → IfErr result (λ fault. fault ≡ CommandFault.OutOfMemory) }
 
     // By the kinds of fault that the line finds in the words.
-    ensures faultless { OnOk result (fault_of command_line (map string_bytes words.items) ≡ []) }
+    ensures faultless { OnOk result (faults_of (map string_bytes words.items) ≡ []) }
     ensures help { IfErr result (λ fault. IsHelp fault
-        → IsAmong ErrorKind.DisplayHelp (fault_of command_line (map string_bytes words.items))) }
+        → IsAmong ErrorKind.DisplayHelp (faults_of (map string_bytes words.items))) }
     ensures usage { IfErr result (λ fault. IsUsage fault
-        → fault_of command_line (map string_bytes words.items) ≢ []) }
+        → HasMistake (faults_of (map string_bytes words.items))) }
 {
     let Ok(line) = program_line(alloc) else {
         return Err(CommandFault::OutOfMemory);
@@ -95,7 +95,8 @@ fn refusal(alloc: Global, error: &clap::Error) -> CommandFault
     ensures out_of_memory { kind_of error.now ≡ ErrorKind.OutOfMemory
         → result ≡ CommandFault.OutOfMemory }
     ensures help { IsHelp result → kind_of error.now ≡ ErrorKind.DisplayHelp }
-    ensures usage { IsUsage result → kind_of error.now ≢ ErrorKind.OutOfMemory }
+    ensures usage { IsUsage result → (kind_of error.now ≢ ErrorKind.OutOfMemory)
+        × (kind_of error.now ≢ ErrorKind.DisplayHelp) }
 {
     let kind = error.kind();
     if kind == ErrorKind::OutOfMemory {

@@ -12,3 +12,6 @@ pub use answering::answer;
 pub use command::{Command, CommandFault, command_of};
 pub use counted::Counted;
 pub use running::{INPUT_LIMIT, READ_LIMIT, RunFault, fault_line, run};
+
+#[cfg(test)]
+mod tests;

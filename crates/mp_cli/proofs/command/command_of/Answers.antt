@@ -1,10 +1,7 @@
-use Rattle.std.proofs.Common.{◌≡◌, ◌≢◌, ◌∙◌, ap, ap₂, sym, subst, map, string_bytes, [], inl, inr, ◌⊎◌, true, false, List}
-use Rattle.clap.specs.Words.{Kinds, HasKind, IsAmong, Text, fault_of, is_simple_and_free, kind_of, takes}
-use Rattle.clap.specs.declared.error.Error.{Error}
-use Rattle.clap.specs.declared.error.kind.ErrorKind.{ErrorKind}
-use Rattle.clap.specs.declared.error.kind.ErrorKind.TheVariants.{DisplayHelp, OutOfMemory}
-use Rattle.mp_cli.proofs.CommandLineLemmas.{command_line-simple, matches-asked_for, matches-known, HasKind-help, HasKind-none}
-use Rattle.mp_cli.specs.CommandLine.{command_line, asked_for}
+use Rattle.std.proofs.Common.{◌∙◌, ap, ap₂, sym, map, string_bytes}
+use Rattle.clap.specs.Words.{fault_of, is_simple_and_free, takes}
+use Rattle.mp_cli.proofs.CommandLineLemmas.{command_line-simple, matches-asked_for, matches-known, HasKind-help, HasKind-mistake}
+use Rattle.mp_cli.specs.CommandLine.{asked_for}
 use Rattle.mp_cli.proofs.command.command_of.Goals as goal
 
 pub chosen-requires : goal.chosen-requires
@@ -34,8 +31,9 @@ returns-clause-help c help =
     HasKind-help c.in-Err.error _ _ (c.refusal.ensures.help help) faults kinds
 
 pub returns-clause-usage : goal.returns-clause-usage
-returns-clause-usage c usage none =
+returns-clause-usage c usage =
     let is = c.in-Ok.ensures.line in
     let kinds = c.in-Err.ensures.kinds (ap is_simple_and_free is ∙ command_line-simple) in
     let faults = ap₂ fault_of is (ap (map string_bytes) c.as_slice.ensures.value) in
-    HasKind-none c.in-Err.error _ (faults ∙ none) kinds (c.refusal.ensures.usage usage)
+    let other = c.refusal.ensures.usage usage in
+    HasKind-mistake c.in-Err.error _ _ other.0 other.1 faults kinds
