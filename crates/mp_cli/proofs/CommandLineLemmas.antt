@@ -1,0 +1,109 @@
+-- What `clap`'s reading of the program's command line gives.
+use Rattle.std.proofs.Common.{◌≡◌, ◌≢◌, ◌∙◌, sym, ap, subst, refl, Bool, true, false, Option, None, Some, List, [], ◌∷◌, is_some, codes, option_map, inl, inr, ◌⊎◌}
+use Rattle.std.specs.Prelude.{find, map}
+use Rattle.clap.proofs.CallerLemmas.{subcommand_required}
+use Rattle.clap.proofs.OnLiterals.{clap_on_literals}
+use Rattle.clap.proofs.WalkLemmas.{both}
+use Rattle.std.specs.Prelude.{Box}
+use Rattle.std.specs.Box.{box_value}
+use Rattle.clap.specs.Simple.{Shape, entered, rows_at, subcommand_rows, subcommand_rows_of}
+use Rattle.clap.specs.declared.parser.matches.SubCommand.{SubCommand}
+use Rattle.clap.specs.declared.error.Error.{Error}
+use Rattle.clap.specs.declared.error.kind.ErrorKind.TheVariants.{DisplayHelp, OutOfMemory}
+use Rattle.clap.specs.Words.{App, Text, HasKind, HasMatchesOf, IsAmong, IsParsedFrom, Kinds, kind_of, app_of, built, is_simple, is_simple_and_free, subcommand_name_of, subcommand_of}
+use Rattle.clap.specs.declared.builder.command.Command.{Command}
+use Rattle.clap.specs.declared.builder.command.Command.TheViews.{out-Command}
+use Rattle.clap.specs.declared.parser.matches.ArgMatches.{ArgMatches}
+use Rattle.clap.specs.declared.parser.matches.ArgMatches.TheViews.{out-ArgMatches, out-SubCommand}
+use Rattle.mp_cli.specs.CommandLine.{command_line, asked_for, HasMistake, IsSubcommand}
+
+-- the line is of the kind whose matches and faults are functions of the words
+pub command_line-simple : is_simple_and_free command_line ≡ true
+unfolding clap_on_literals command_line
+command_line-simple = refl
+
+-- the names of the line's subcommands, once it is built
+subcommand_words : map (λ (s : Shape). s.name) (built command_line).subs ≡ codes "merge" ∷ []
+unfolding clap_on_literals command_line
+subcommand_words = refl
+
+-- a name that is found is one of the names
+IsOneOf : List Text → Text → Type 0
+IsOneOf [] name = ⊥
+IsOneOf (x ∷ xs) name = (name ≡ x) ⊎ IsOneOf xs name
+
+IfFound : List Text → Option Text → Type 0
+IfFound names None = Unit {0}
+IfFound names (Some name) = IsOneOf names name
+
+IfFound-more : (x : Text) (xs : List Text) (name : Option Text) → IfFound xs name → IfFound (x ∷ xs) name
+unfolding IfFound IsOneOf
+IfFound-more x xs None h = tt
+IfFound-more x xs (Some name) h = inr h
+
+find-name : (test : Shape → Bool) (words : List Text) (shapes : List Shape)
+    → IfFound (map (λ (s : Shape). s.name) shapes) (option_map (λ e. e.0) (option_map (λ s. rows_at s words) (find test shapes)))
+unfolding IfFound IsOneOf
+find-name test words [] = tt
+find-name test words (s ∷ rest) = go (test s) refl (find-name test words rest)
+  where
+    name_found : List Shape → Option Text
+    name_found shapes = option_map (λ e. e.0) (option_map (λ s. rows_at s words) (find test shapes))
+    go : (b : Bool) → test s ≡ b → IfFound (map (λ (s : Shape). s.name) rest) (name_found rest) → IfFound (s.name ∷ map (λ (s : Shape). s.name) rest) (name_found (s ∷ rest))
+    go true is later = rw is (inl refl)
+    go false is later = rw is (IfFound-more s.name _ _ later)
+
+entered-name : (a : App) (stop : Option (Text × List Text))
+    → IfFound (map (λ (s : Shape). s.name) a.subs) (option_map (λ e. e.0) (entered a stop))
+unfolding IfFound
+entered-name a None = tt
+entered-name a (Some p) = find-name _ p.1 a.subs
+
+known : (name : Option Text) → is_some name ≡ true → IfFound (codes "merge" ∷ []) name → IsSubcommand name
+unfolding IfFound IsOneOf
+known None some found = cc
+known (Some name) some (inl is) = is
+known (Some name) some (inr none) = absurd none
+
+-- a subcommand that the words name is one of the line's
+asked_for-known : (words : List Text) → is_some (asked_for words) ≡ true → IsSubcommand (asked_for words)
+asked_for-known words some = known (asked_for words) some (subst (λ names. IfFound names (asked_for words)) subcommand_words (entered-name (built command_line) _))
+
+module _ {Z : Type 0} where
+  first_name : (b : Option (Box SubCommand Z)) → option_map (λ b. (out-SubCommand (box_value b)).name.now) b ≡ option_map (λ e. e.0) (subcommand_rows b)
+  first_name None = refl
+  first_name (Some b) = refl
+
+  some_name : (b : Option (Box SubCommand Z)) → is_some (option_map (λ b. (out-SubCommand (box_value b)).name.now) b) ≡ is_some b
+  some_name None = refl
+  some_name (Some b) = refl
+
+-- the name of the subcommand that the parse met is the first part of its rows
+name-rows : (m : ArgMatches) → subcommand_name_of m ≡ option_map (λ e. e.0) (subcommand_rows_of m)
+name-rows m = first_name (out-ArgMatches m).subcommand
+
+-- the matches that the line gives at the words name the subcommand that the words ask for
+pub matches-asked_for : (line : Command) (m : ArgMatches) (words : List Text) → app_of line ≡ command_line → HasMatchesOf (app_of line) words m
+    → subcommand_name_of m ≡ asked_for words
+matches-asked_for line m words is matches =
+    let simple : is_simple (app_of line) ≡ true = ap is_simple is ∙ (both _ _ command_line-simple).0 in
+    name-rows m ∙ ap (option_map (λ e. e.0)) ((matches simple).1 ∙ ap (λ a. subcommand_of a words) is)
+
+-- the parse met a subcommand of the line
+pub matches-known : (line : Command) (m : ArgMatches) (words : List Text) → app_of line ≡ command_line → (out-Command line).has_globals ≡ false
+    → (out-Command line).subcommand_required ≡ true → IsParsedFrom line m → HasMatchesOf (app_of line) words m → IsSubcommand (subcommand_name_of m)
+matches-known line m words is globals required parsed matches =
+    let same = matches-asked_for line m words is matches in
+    let met : is_some (subcommand_name_of m) ≡ true = some_name (out-ArgMatches m).subcommand ∙ subcommand_required line m parsed globals required in
+    subst IsSubcommand (sym same) (asked_for-known words (ap is_some (sym same) ∙ met))
+
+-- help that is answered was asked for
+pub HasKind-help : (error : Error) (found faults : Kinds) → kind_of error ≡ DisplayHelp → found ≡ faults → HasKind found error → IsAmong DisplayHelp faults
+HasKind-help error found faults help is (inl memory) = cc
+HasKind-help error found faults help is (inr among) = subst (IsAmong DisplayHelp) is (subst (λ kind. IsAmong kind found) help among)
+
+-- another error is a mistake in the words
+pub HasKind-mistake : (error : Error) (found faults : Kinds) → kind_of error ≢ OutOfMemory → kind_of error ≢ DisplayHelp → found ≡ faults → HasKind found error
+    → HasMistake faults
+HasKind-mistake error found faults memory_left no_help is (inl memory) = absurd (memory_left memory)
+HasKind-mistake error found faults memory_left no_help is (inr among) = (kind_of error, no_help, subst (IsAmong (kind_of error)) is among)

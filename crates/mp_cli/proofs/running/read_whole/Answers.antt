@@ -1,0 +1,14 @@
+use Rattle.mp_cli.proofs.RunLemmas.{ReadSoFar-read}
+use Rattle.mp_cli.proofs.running.read_whole.Goals as goal
+
+pub returns-then-len-count-gt-INPUT_LIMIT-clause-reads :
+    goal.returns-then-len-count-gt-INPUT_LIMIT-clause-reads
+returns-then-len-count-gt-INPUT_LIMIT-clause-reads g c =
+    let read = c.in-Ok.ensures in
+    (_, ReadSoFar-read g.R.Read.remaining _ _ _ _ _ _ _ (c.args.input.now.no_bytes_before_calls c.requires) c.loop.invariant read.given read.bound.1 read.consumed.0)
+
+pub returns-in_err-extend_from_slice-clause-reads :
+    goal.returns-in_err-extend_from_slice-clause-reads
+returns-in_err-extend_from_slice-clause-reads g c =
+    let read = c.in-Ok.ensures in
+    (_, ReadSoFar-read g.R.Read.remaining _ _ _ _ _ _ _ (c.args.input.now.no_bytes_before_calls c.requires) c.loop.invariant read.given read.bound.1 read.consumed.0)

@@ -1,0 +1,32 @@
+-- What a counted reader or writer holds, and what a call of its device counts.
+use Rattle.std.specs.Prelude.{◌≡◌, ℕ, ◌+◌}
+use Rattle.mp_cli.specs.declared.counted.Counted.{Counted}
+
+module _ {T : Type 0} where
+  -- the reader or writer itself
+  abbrev pub device_of : Counted T → T
+  device_of c = c.device
+
+  -- how many calls of the device were made
+  abbrev pub calls_of : Counted T → ℕ
+  calls_of c = c.calls
+
+  -- how many of those calls failed
+  abbrev pub failures_of : Counted T → ℕ
+  failures_of c = c.failures
+
+  -- how many bytes those calls gave or took
+  abbrev pub bytes_of : Counted T → ℕ
+  bytes_of c = c.bytes
+
+  -- one more call was made: it did not fail, and gave or took `count` bytes
+  pub record CountsBytes (old new : Counted T) (count : ℕ) : Type 0 where
+    pub calls : calls_of new ≡ calls_of old + 1
+    pub failures : failures_of new ≡ failures_of old
+    pub bytes : bytes_of new ≡ bytes_of old + count
+
+  -- one more call was made, and it failed
+  pub record CountsFailure (old new : Counted T) : Type 0 where
+    pub calls : calls_of new ≡ calls_of old + 1
+    pub failures : failures_of new ≡ failures_of old + 1
+    pub bytes : bytes_of new ≡ bytes_of old

@@ -1,0 +1,5 @@
+pub mod Answered
+pub mod CommandLine
+pub mod Counted
+pub mod FaultLine
+pub mod Run

@@ -1,0 +1,17 @@
+//! The program `mergejoin` but for its `main`: the command that words ask for, the answer to an
+//! input, and the run that reads the input and writes the answer.
+#![tactic(auto)]
+
+mod answering;
+pub mod answers;
+mod command;
+mod counted;
+mod running;
+
+pub use answering::answer;
+pub use command::{Command, CommandFault, command_of};
+pub use counted::Counted;
+pub use running::{INPUT_LIMIT, READ_LIMIT, RunFault, fault_line, run};
+
+#[cfg(test)]
+mod tests;

@@ -1,0 +1,176 @@
+//! The run of the program: its input is read, answered and written.
+ghost use Rattle.std.specs.Prelude.{◌≡◌, ◌≢◌, ◌↔◌, ◌+◌, ◌<◌, ◌≤◌, ℕ, List, IsErrOf, IfOk, IfErr, IfSome, OnOk, OnErr, length, vec_len};
+ghost use Rattle.mp_cli.specs.Answered.{answered};
+ghost use Rattle.mp_cli.specs.Counted.{device_of, calls_of, failures_of, bytes_of};
+ghost use Rattle.mp_cli.specs.FaultLine.{line_of, status_of};
+ghost use Rattle.mp_cli.specs.Run.{ReadsBytes, ReadsWhole, WritesWhole, Delivers, TouchesOne};
+ghost use Rattle.mp_cli.specs.declared.running.RunFault.TheVariants.{OutOfMemory};
+
+use crate::answering::answer;
+use crate::answers::Answer;
+use crate::command::Command;
+use crate::counted::Counted;
+use std::alloc::{AllocError, Global};
+use std::io::{Read, Write};
+use thiserror::Error;
+
+/// The most bytes that an input may have.
+pub const INPUT_LIMIT: usize = 1_048_576;
+
+/// The most reads that a run makes: one for each byte, and one that finds the end.
+pub const READ_LIMIT: usize = INPUT_LIMIT + 1;
+
+/// How many bytes one read may give.
+const PIECE: usize = 16_384;
+
+/// Why a run gives no status.
+#[derive(Clone, Copy, Debug, PartialEq, Eq, Error)]
+pub enum RunFault {
+    /// A read failed; a read that was interrupted counts as failed.
+    #[error("read failed")]
+    ReadFailed,
+    /// A write or a flush failed; a write that took no byte counts as failed.
+    #[error("write failed")]
+    WriteFailed,
+    /// The input has more than `INPUT_LIMIT` bytes.
+    #[error("input too long")]
+    TooLong,
+    /// Memory ran out.
+    #[error("out of memory")]
+    OutOfMemory,
+}
+
+impl From<AllocError> for RunFault {
+    ghost from_gives = { λ _ fault. fault ≡ OutOfMemory };
+
+    fn from(_error: AllocError) -> RunFault {
+        RunFault::OutOfMemory
+    }
+}
+
+/// The line for a fault of `run`, without its newline, and the status that the program ends with.
+///
+/// For `RunFault::TooLong` it is `("input: too long", 2)`.
+pub fn fault_line(fault: &RunFault) -> (&'static str, u8)
+    ensures line { result.0.now ≡ line_of fault.now }
+    ensures status { result.1 ≡ status_of fault.now }
+{
+    match fault {
+        RunFault::ReadFailed => ("read failed", 3),
+        RunFault::WriteFailed => ("write failed", 3),
+        RunFault::TooLong => ("input: too long", 2),
+        RunFault::OutOfMemory => ("out of memory", 3),
+    }
+}
+
+/// Reads the input to its end, writes the answer to it, and gives the status of the answer.
+///
+/// The answer's text goes whole to `out` where its status is 0, and else to `err`, which is then
+/// flushed. A run makes at most `READ_LIMIT` reads, whatever the reader does.
+///
+/// # Errors
+///
+/// - `ReadFailed`: a read failed. Nothing was written.
+/// - `TooLong`: the input has more than `INPUT_LIMIT` bytes. Nothing was written.
+/// - `OutOfMemory`: memory ran out. Nothing was written.
+/// - `WriteFailed`: a write or the flush failed. How much of the text went out is left open; the
+///   other writer got nothing.
+///
+/// ```text
+/// let mut input = Counted::new(b"[5]".as_slice());
+/// let status = run(alloc, &Command::Merge, &mut input, &mut out, &mut err)?;
+/// // status is 0, and `out` got "5\n"
+/// ```
+pub fn run<R: Read, W: Write, E: Write>(
+    alloc: Global,
+    command: &Command,
+    input: &mut Counted<R>,
+    out: &mut Counted<W>,
+    err: &mut Counted<E>,
+) -> Result<u8, RunFault>
+    requires fresh_input { calls_of input.old ≡ 0 }
+    requires fresh_out { calls_of out.old ≡ 0 }
+    requires fresh_err { calls_of err.old ≡ 0 }
+
+    // When each fault comes.
+    ensures read_failed { IsErrOf result RunFault.ReadFailed ↔ (0 < failures_of input.new) }
+    ensures too_long { IsErrOf result RunFault.TooLong ↔ (INPUT_LIMIT < bytes_of input.new) }
+    ensures write_failed { IsErrOf result RunFault.WriteFailed
+        ↔ (0 < failures_of out.new + failures_of err.new) }
+
+    // What was read.
+    ensures read_calls { calls_of input.new ≤ READ_LIMIT }
+    ensures reads { (bytes : List ℕ) × ReadsBytes R.remaining input.old input.new bytes }
+
+    // What was written: for the bytes that were read, and the same for a reader that says which
+    // bytes it has.
+    ensures answered { IfOk result (λ status. (bytes : List ℕ)
+        × ReadsWhole R.remaining input.old input.new bytes
+        × Delivers W.contents E.contents (answered command.now bytes) status
+            out.old out.new err.old err.new) }
+    ensures answered_known { IfOk result (λ status. IfSome (R.remaining (device_of input.old))
+        (λ bytes. ReadsWhole R.remaining input.old input.new bytes
+        × Delivers W.contents E.contents (answered command.now bytes) status
+            out.old out.new err.old err.new)) }
+    ensures one_writer { IsErrOf result RunFault.WriteFailed → (bytes : List ℕ)
+        × ReadsWhole R.remaining input.old input.new bytes
+        × TouchesOne (answered command.now bytes) out.old out.new err.old err.new }
+    ensures nothing_written { IfErr result (λ fault. fault ≢ RunFault.WriteFailed
+        → (out.new ≡ out.old) × (err.new ≡ err.old)) }
+{
+    let bytes = read_whole(alloc, input)?;
+    let Answer { text, status } = answer(alloc, command, bytes.as_slice())?;
+    if status == 0 {
+        write_whole(text.as_bytes(), out)?;
+    } else {
+        write_whole(text.as_bytes(), err)?;
+    }
+    Ok(status)
+}
+
+/// The bytes of the reader up to its end.
+fn read_whole<R: Read>(alloc: Global, input: &mut Counted<R>) -> Result<Vec<u8>, RunFault>
+    requires { calls_of input.old ≡ 0 }
+    ensures whole { IfOk result (λ bytes. ReadsWhole R.remaining input.old input.new bytes.items) }
+    ensures reads { (bytes : List ℕ) × ReadsBytes R.remaining input.old input.new bytes }
+    ensures read_failed { IsErrOf result RunFault.ReadFailed ↔ (0 < failures_of input.new) }
+    ensures too_long { IsErrOf result RunFault.TooLong ↔ (INPUT_LIMIT < bytes_of input.new) }
+    ensures no_write_failed { IfErr result (λ fault. fault ≢ RunFault.WriteFailed) }
+    ensures calls { calls_of input.new ≤ READ_LIMIT }
+{
+    let mut bytes = Vec::new(alloc);
+    let mut piece = [0u8; PIECE];
+    for _ in 0..READ_LIMIT {
+        let Ok(count) = input.read(&mut piece) else {
+            return Err(RunFault::ReadFailed);
+        };
+        if count == 0 {
+            return Ok(bytes);
+        }
+        if bytes.len() + count > INPUT_LIMIT {
+            return Err(RunFault::TooLong);
+        }
+        bytes.extend_from_slice(&piece[..count])?;
+    }
+    unreachable!()
+}
+
+/// Writes the whole text, and flushes.
+fn write_whole<W: Write>(text: &[u8], device: &mut Counted<W>) -> Result<(), RunFault>
+    requires { calls_of device.old ≡ 0 }
+    ensures written { OnOk result (WritesWhole W.contents device.old device.new text.now) }
+    ensures failed { OnErr result (0 < failures_of device.new) }
+    ensures fault { IfErr result (λ fault. fault ≡ RunFault.WriteFailed) }
+{
+    let mut rest = text;
+    while !rest.is_empty() {
+        match device.write(rest) {
+            Ok(count) if count > 0 => rest = &rest[count..],
+            _ => return Err(RunFault::WriteFailed),
+        }
+    }
+    match device.flush() {
+        Ok(()) => Ok(()),
+        Err(_) => Err(RunFault::WriteFailed),
+    }
+}
