@@ -1,2 +1,3 @@
+pub mod ApplicationLemmas
 pub mod CommandLineLemmas
 pub mod RunLemmas

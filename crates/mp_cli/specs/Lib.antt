@@ -1,4 +1,5 @@
 pub mod Answered
+pub mod Application
 pub mod CommandLine
 pub mod Counted
 pub mod FaultLine

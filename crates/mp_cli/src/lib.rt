@@ -6,6 +6,7 @@ mod answering;
 pub mod answers;
 mod command;
 mod counted;
+mod merging;
 mod running;
 
 pub use answering::answer;

@@ -3,6 +3,7 @@ pub mod BuiltMaps
 pub mod FromData
 pub mod IntoData
 pub mod Lists
+pub mod MapEdits
 pub mod Maps
 pub mod Meaning
 pub mod Names

@@ -1,11 +1,11 @@
 -- Members whose names ascend are a finite map: equal look-ups make them equal.
-use Rattle.std.proofs.Common.{◌≡◌, ℕ, List, [], ◌∷◌, Ordering, Less, Equal, Greater, is_eq, false, cond, Some, None, refl, sym, ap, ◌∙◌, subst}
+use Rattle.std.proofs.Common.{◌≡◌, ℕ, List, [], ◌∷◌, Ordering, Less, Equal, Greater, is_eq, false, cond, Some, None, refl, sym, ap, ◌∙◌, subst, Bool, true, Option}
 use Rattle.std.specs.List.{AllByRecursion}
 use Rattle.std.specs.List.Sorted.{IsStrictlySortedBy}
 use Rattle.std.specs.Map.{keys_of, lookup}
 use Rattle.std.specs.Ordering.{match_ordering}
-use Rattle.mp_tree.specs.Document.{Document, Members, no_members, member, name_cmp, is_name, find, put, IsBelow, IsDocument, IsMap}
-use Rattle.mp_tree.proofs.Names.{is_name-self, same_from_cmp, is_name-less, above_is_below, below-trans, cases_same}
+use Rattle.mp_tree.specs.Document.{Document, Members, no_members, member, name_cmp, is_name, find, put, without, IsBelow, IsDocument, IsMap}
+use Rattle.mp_tree.proofs.Names.{is_name-self, same_from_cmp, same_name, is_name-less, above_is_below, below-trans, cases_same}
 use Rattle.mp_tree.proofs.Ascending.{entries_same}
 
 -- ---- a name below all others
@@ -54,6 +54,44 @@ find-put_at Greater q k m d e ms is later =
 pub find-put : (q k : List ℕ) (d : Document) (ms : Members) → find q (put k d ms) ≡ cond (is_name q k) (Some d) (find q ms)
 find-put q k d no_members = refl
 find-put q k d (member m e ms) = find-put_at (name_cmp k m) q k m d e ms refl (find-put q k d ms)
+
+-- ---- without a name
+
+IsBelow-without : (n k : List ℕ) (ms : Members) → IsBelow n ms → IsBelow n (without k ms)
+IsBelow-without n k no_members below = tt
+IsBelow-without n k (member m d ms) below = picked (is_name k m) (IsBelow-without n k ms below.1)
+  where
+    picked : (b : Bool) → IsBelow n (without k ms) → IsBelow n (cond b ms (member m d (without k ms)))
+    picked true later = below.1
+    picked false later = (below.0, later)
+
+pub IsMap-without : (k : List ℕ) (ms : Members) → IsMap ms → IsMap (without k ms)
+IsMap-without k no_members map = tt
+IsMap-without k (member m d ms) map = picked (is_name k m) (IsMap-without k ms map.2)
+  where
+    picked : (b : Bool) → IsMap (without k ms) → IsMap (cond b ms (member m d (without k ms)))
+    picked true later = map.2
+    picked false later = (map.0, IsBelow-without m k ms map.1, later)
+
+no_choice : (b : Bool) → cond {A = Option Document} b None None ≡ None
+no_choice true = refl
+no_choice false = refl
+
+find-without_at : (b : Bool) (q k m : List ℕ) (d : Document) (ms : Members) → is_name k m ≡ b → IsBelow m ms → find q (without k ms) ≡ cond (is_name q k) None (find q ms)
+    → find q (cond b ms (member m d (without k ms))) ≡ cond (is_name q k) None (find q (member m d ms))
+find-without_at true q k m d ms is below later =
+    let same = same_name k m is in
+    cases_same q k
+        (λ here. rw (here, is_name-self) (subst (λ n. find n ms ≡ None) (sym same) (find-below m ms below)))
+        (λ other. let apart : is_name q m ≡ false = subst (λ n. is_name q n ≡ false) same other in rw (other, apart) refl)
+find-without_at false q k m d ms is below later =
+    cases_same q k
+        (λ here. let apart : is_name q m ≡ false = subst (λ n. is_name n m ≡ false) (sym here) is in rw apart later)
+        (λ other. let plain : find q (without k ms) ≡ find q ms = later ∙ ap (λ b. cond b None (find q ms)) other in rw other (ap (λ r. cond (is_name q m) (Some d) r) plain))
+
+pub find-without : (q k : List ℕ) (ms : Members) → IsMap ms → find q (without k ms) ≡ cond (is_name q k) None (find q ms)
+find-without q k no_members map = sym (no_choice (is_name q k))
+find-without q k (member m d ms) map = find-without_at (is_name k m) q k m d ms refl map.1 (find-without q k ms map.2)
 
 -- ---- equal look-ups
 
