@@ -1,5 +1,5 @@
 -- Applying a merge patch (RFC 7396 section 2).
-use Rattle.std.specs.Prelude.{◌≡◌, List, ℕ, Option, None, Some, fold}
+use Rattle.std.specs.Prelude.{◌≡◌, List, ℕ, Option, None, Some}
 use Rattle.mp_tree.specs.Document.{Document, null, flag, whole, string, list, object, Members, no_members, member, find, put, without, IsMap}
 
 -- the members of a target: none where it is absent or no object
@@ -30,10 +30,6 @@ abbrev mutual
   pub mp_members : Members → Members → Members
   mp_members ts no_members = ts
   mp_members ts (member n p ps) = changed n p (mp (find n ts) p) (mp_members ts ps)
-
--- the patches one after another
-abbrev pub mp_all : Document → List Document → Document
-mp_all d ps = fold (λ e p. mp (Some e) p) d ps
 
 -- ---- what stands at a name after an application
 
