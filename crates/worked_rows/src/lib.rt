@@ -1,0 +1,12 @@
+//! The worked examples, as tests that go through all crates. Each row reads: the input, the text
+//! without its newline, the status.
+#![tactic(auto)]
+
+#[cfg(test)]
+mod merge_patch_cases;
+#[cfg(test)]
+mod merge_rows;
+#[cfg(test)]
+mod rows;
+#[cfg(test)]
+mod word_rows;

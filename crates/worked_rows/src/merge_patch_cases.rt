@@ -1,0 +1,38 @@
+//! The fifteen examples of RFC 7396, appendix A.
+use crate::rows::check;
+use mp_cli::Command;
+use std::test::Fail;
+
+/// The original, the patch and the result.
+type Case = (&'static str, &'static str, &'static str);
+
+const CASES: &[Case] = &[
+    (r#"{"a":"b"}"#, r#"{"a":"c"}"#, r#"{"a":"c"}"#),
+    (r#"{"a":"b"}"#, r#"{"b":"c"}"#, r#"{"a":"b","b":"c"}"#),
+    (r#"{"a":"b"}"#, r#"{"a":null}"#, "{}"),
+    (r#"{"a":"b","b":"c"}"#, r#"{"a":null}"#, r#"{"b":"c"}"#),
+    (r#"{"a":["b"]}"#, r#"{"a":"c"}"#, r#"{"a":"c"}"#),
+    (r#"{"a":"c"}"#, r#"{"a":["b"]}"#, r#"{"a":["b"]}"#),
+    (
+        r#"{"a":{"b":"c"}}"#,
+        r#"{"a":{"b":"d","c":null}}"#,
+        r#"{"a":{"b":"d"}}"#,
+    ),
+    (r#"{"a":[{"b":"c"}]}"#, r#"{"a":[1]}"#, r#"{"a":[1]}"#),
+    (r#"["a","b"]"#, r#"["c","d"]"#, r#"["c","d"]"#),
+    (r#"{"a":"b"}"#, r#"["c"]"#, r#"["c"]"#),
+    (r#"{"a":"foo"}"#, "null", "null"),
+    (r#"{"a":"foo"}"#, r#""bar""#, r#""bar""#),
+    (r#"{"e":null}"#, r#"{"a":1}"#, r#"{"a":1,"e":null}"#),
+    ("[1,2]", r#"{"a":"b","c":null}"#, r#"{"a":"b"}"#),
+    ("{}", r#"{"a":{"bb":{"ccc":null}}}"#, r#"{"a":{"bb":{}}}"#),
+];
+
+#[test]
+fn merge(rt: HostRuntime) -> Result<(), Fail> {
+    for (original, patch, result) in CASES {
+        let input = format!(in rt.alloc(); "[{original},{patch}]")?;
+        check(&rt, &Command::Merge, input.as_bytes(), result, 0);
+    }
+    Ok(())
+}
