@@ -1,10 +1,10 @@
 -- A map built from pairs whose names ascend has just those pairs as its entries.
-use Rattle.std.proofs.Common.{◌≡◌, ◌⊎◌, inl, inr, ℕ, List, [], ◌∷◌, map, Less, cond, Some, None, String, BTreeMap, Global, string_bytes, string_cmp, refl, sym, ap, ◌∙◌, subst}
+use Rattle.std.proofs.Common.{◌≡◌, ◌⊎◌, inl, inr, ℕ, List, [], ◌∷◌, map, Less, cond, Some, None, String, BTreeMap, Global, string_bytes, string_cmp, refl, sym, ap, ◌∙◌, subst, ◌++◌}
 use Rattle.std.proofs.lemmas.Cmp.{nat_list_cmp_total, on_total, eq_by_cmp_equiv}
 use Rattle.std.proofs.lemmas.Map.Keys.{IsDistinct-from_sorted}
 use Rattle.std.proofs.lemmas.Map.Made.{update_all_none}
 use Rattle.std.specs.Cmp.{IsTotalOrder}
-use Rattle.std.specs.BTreeMap.{IsFromIterResult, is_at}
+use Rattle.std.specs.BTreeMap.{IsFromIterResult, is_at, insert_entry}
 use Rattle.std.specs.List.{AllByRecursion}
 use Rattle.std.specs.List.Sorted.{IsStrictlySortedBy}
 use Rattle.std.specs.Map.{keys_of, lookup}
@@ -12,7 +12,7 @@ use Rattle.std.specs.Ordering.{eq_by_cmp}
 use Rattle.mp_tree.specs.Document.{name_cmp, is_name}
 use Rattle.mp_tree.specs.View.{named}
 use Rattle.mp_tree.proofs.Ascending.{entries_same}
-use Rattle.mp_tree.proofs.Names.{cases_same}
+use Rattle.mp_tree.proofs.Names.{cases_same, below_is_above}
 
 string_cmp_total : IsTotalOrder (string_cmp {Z = Global})
 string_cmp_total = on_total string_bytes nat_list_cmp_total
@@ -92,3 +92,17 @@ seen-named f (e ∷ es) = ap (λ ps. seen f e ∷ ps) (seen-named f es)
 -- a map that has the pairs is seen as the pairs are
 pub seen-same : {V C : Type 0} (f : V → C) (es fs : List (String Global × V)) → named es ≡ named fs → map (seen f) es ≡ map (seen f) fs
 seen-same f es fs same = seen-named f es ∙ ap (map (λ p. (p.0, f p.1))) same ∙ sym (seen-named f fs)
+
+-- ---- an entry above the others goes last
+
+below_middle : {V : Type 0} (k l : String Global) (es : List (String Global × V)) (v : V) (left : List (String Global × V)) → AllByRecursion (λ y. string_cmp k y ≡ Less) (keys_of (es ++ (l, v) ∷ left)) → string_cmp k l ≡ Less
+below_middle k l [] v left h = h.0
+below_middle k l (e ∷ es) v left h = below_middle k l es v left h.1
+
+pub insert-last : {V : Type 0} (es : List (String Global × V)) (k : String Global) (v : V) (left : List (String Global × V)) → IsStrictlySortedBy string_cmp (keys_of (es ++ (k, v) ∷ left))
+    → insert_entry string_cmp es k v ≡ es ++ (k, v) ∷ []
+unfolding IsStrictlySortedBy
+insert-last [] k v left ascending = refl
+insert-last (e ∷ es) k v left ascending =
+    let above = below_is_above (string_bytes e.0) (string_bytes k) (below_middle e.0 k es v left ascending.0) in
+    rw above (ap (λ fs. e ∷ fs) (insert-last es k v left ascending.1))

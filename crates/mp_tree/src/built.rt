@@ -8,6 +8,9 @@ ghost use Rattle.mp_tree.specs.View.{named};
 use std::alloc::{AllocError, Global};
 use std::collections::BTreeMap;
 
+// Up to so many names an insertion each costs less.
+const FEW: usize = 8;
+
 pub(crate) fn map_of<V: Drop>(
     alloc: Global,
     pairs: Vec<(String, V)>,
@@ -15,5 +18,22 @@ pub(crate) fn map_of<V: Drop>(
     requires { IsStrictlySortedBy string_cmp (keys_of pairs.items) }
     ensures { IfOk result (λ m. named m.entries ≡ named pairs.items) }
 {
+    if pairs.len() <= FEW {
+        return inserted(alloc, pairs);
+    }
     pairs.into_iter().collect(alloc)
+}
+
+fn inserted<V: Drop>(
+    alloc: Global,
+    pairs: Vec<(String, V)>,
+) -> Result<BTreeMap<String, V>, AllocError>
+    requires { IsStrictlySortedBy string_cmp (keys_of pairs.items) }
+    ensures { IfOk result (λ m. m.entries ≡ pairs.items) }
+{
+    let mut map = BTreeMap::new(alloc);
+    for (name, value) in pairs {
+        drop(map.insert(name, value)?);
+    }
+    Ok(map)
 }
