@@ -50,7 +50,7 @@ impl From<AllocError> for RunFault {
 
 /// The line for a fault of `run`, without its newline, and the status that the program ends with.
 ///
-/// For `RunFault::TooLong` it is `("input: too long", 2)`.
+/// For `RunFault::ReadFailed` it is the line `read failed` with the status 3.
 pub fn fault_line(fault: &RunFault) -> (&'static str, u8)
     ensures line { result.0.now ≡ line_of fault.now }
     ensures status { result.1 ≡ status_of fault.now }
