@@ -107,11 +107,11 @@ pub fn run<R: Read, W: Write, E: Write>(
     ensures answered { IfOk result (λ status. (bytes : List ℕ)
         × ReadsWhole R.remaining input.old input.new bytes
         × Delivers W.contents E.contents (answered command.now bytes) status
-            out.old out.new err.old err.new) }
+        out.old out.new err.old err.new) }
     ensures answered_known { IfOk result (λ status. IfSome (R.remaining (device_of input.old))
         (λ bytes. ReadsWhole R.remaining input.old input.new bytes
         × Delivers W.contents E.contents (answered command.now bytes) status
-            out.old out.new err.old err.new)) }
+        out.old out.new err.old err.new)) }
     ensures one_writer { IsErrOf result RunFault.WriteFailed → (bytes : List ℕ)
         × ReadsWhole R.remaining input.old input.new bytes
         × TouchesOne (answered command.now bytes) out.old out.new err.old err.new }
