@@ -1,5 +1,5 @@
 //! The run of the program: its input is read, answered and written.
-ghost use Rattle.std.specs.Prelude.{◌≡◌, ◌≢◌, ◌↔◌, ◌+◌, ◌<◌, ◌≤◌, ℕ, List, IsErrOf, IfOk, IfErr, IfSome, OnOk, OnErr, length, vec_len};
+ghost use Rattle.std.specs.Prelude.{◌≡◌, ◌≢◌, ◌↔◌, ◌+◌, ◌<◌, ◌≤◌, ℕ, List, IsErrOf, IfOk, IfErr, IfSome, OnOk, OnErr};
 ghost use Rattle.mp_cli.specs.Answered.{answered};
 ghost use Rattle.mp_cli.specs.Counted.{device_of, calls_of, failures_of, bytes_of};
 ghost use Rattle.mp_cli.specs.FaultLine.{line_of, status_of};
