@@ -1,16 +1,17 @@
 -- What `clap`'s reading of the program's command line gives.
-use Rattle.std.proofs.Common.{◌≡◌, ◌≢◌, ◌∙◌, sym, ap, subst, refl, Bool, true, false, Option, None, Some, List, [], ◌∷◌, is_some, codes, option_map, inl, inr, ◌⊎◌}
+use Rattle.std.proofs.Common.{◌≡◌, ◌≢◌, ◌∙◌, ℕ, sym, ap, subst, refl, Bool, true, false, Option, None, Some, List, [], ◌∷◌, is_some, codes, option_map, inl, inr, ◌⊎◌}
 use Rattle.std.specs.Prelude.{find, map}
 use Rattle.clap.proofs.CallerLemmas.{subcommand_required}
 use Rattle.clap.proofs.OnLiterals.{clap_on_literals}
 use Rattle.clap.proofs.WalkLemmas.{both}
+use Rattle.std.specs.Borrow.{Bor}
 use Rattle.std.specs.Prelude.{Box}
 use Rattle.std.specs.Box.{box_value}
-use Rattle.clap.specs.Simple.{Shape, entered, rows_at, subcommand_rows, subcommand_rows_of}
+use Rattle.clap.specs.Simple.{Shape, app_of_fields, on_top, entered, rows_at, subcommand_rows, subcommand_rows_of}
 use Rattle.clap.specs.declared.parser.matches.SubCommand.{SubCommand}
 use Rattle.clap.specs.declared.error.Error.{Error}
 use Rattle.clap.specs.declared.error.kind.ErrorKind.TheVariants.{DisplayHelp, OutOfMemory}
-use Rattle.clap.specs.Words.{App, Text, HasKind, HasMatchesOf, IsAmong, IsParsedFrom, Kinds, kind_of, app_of, built, is_simple, is_simple_and_free, subcommand_name_of, subcommand_of}
+use Rattle.clap.specs.Words.{App, Text, HasKind, HasMatchesOf, IsAmong, IsParsedFrom, Kinds, kind_of, app_of, built, is_simple, is_simple_and_free, new_app, subcommand_name_of, subcommand_of}
 use Rattle.clap.specs.declared.builder.command.Command.{Command}
 use Rattle.clap.specs.declared.builder.command.Command.TheViews.{out-Command}
 use Rattle.clap.specs.declared.parser.matches.ArgMatches.{ArgMatches}
@@ -49,6 +50,7 @@ find-name test words (s ∷ rest) = go (test s) refl (find-name test words rest)
   where
     name_found : List Shape → Option Text
     name_found shapes = option_map (λ e. e.0) (option_map (λ s. rows_at s words) (find test shapes))
+
     go : (b : Bool) → test s ≡ b → IfFound (map (λ (s : Shape). s.name) rest) (name_found rest) → IfFound (s.name ∷ map (λ (s : Shape). s.name) rest) (name_found (s ∷ rest))
     go true is later = rw is (inl refl)
     go false is later = rw is (IfFound-more s.name _ _ later)
@@ -107,3 +109,16 @@ pub HasKind-mistake : (error : Error) (found faults : Kinds) → kind_of error �
     → HasMistake faults
 HasKind-mistake error found faults memory_left no_help is (inl memory) = absurd (memory_left memory)
 HasKind-mistake error found faults memory_left no_help is (inr among) = (kind_of error, no_help, subst (IsAmong (kind_of error)) is among)
+
+-- the settings of the line's own command, one after another
+pub app_of-settings : (made named required quiet : Command) (about : Option (Bor (List ℕ))) → app_of made ≡ new_app (codes "mergejoin")
+    → out-Command named ≡ record (out-Command made) { about = about }
+    → out-Command required ≡ record (out-Command named) { subcommand_required = true }
+    → out-Command quiet ≡ record (out-Command required) { disable_help_subcommand = true }
+    → app_of quiet ≡ on_top (λ top. record top { subcommand_required = true; disable_help_subcommand = true }) (new_app (codes "mergejoin"))
+app_of-settings made named required quiet about new said requires hides =
+    let settled : App → App = on_top (λ top. record top { subcommand_required = true; disable_help_subcommand = true }) in
+    let named_is : app_of named ≡ app_of made = ap app_of_fields said in
+    let required_is : app_of required ≡ on_top (λ top. record top { subcommand_required = true }) (app_of named) = ap app_of_fields requires in
+    let quiet_is : app_of quiet ≡ on_top (λ top. record top { disable_help_subcommand = true }) (app_of required) = ap app_of_fields hides in
+    quiet_is ∙ ap (on_top (λ top. record top { disable_help_subcommand = true })) required_is ∙ ap settled (named_is ∙ new)

@@ -12,7 +12,7 @@ use thiserror::Error;
 /// What the program is asked to do with its input.
 ///
 /// The words `mergejoin merge` ask for `Command::Merge`.
-#[derive(Clone, Copy, Debug, PartialEq, Eq)]
+#[derive(Debug, PartialEq, Eq, Drop)]
 pub enum Command {
     /// Apply the merge patches of the input, one after another, to its first element.
     Merge,
@@ -70,8 +70,9 @@ fn program_line<'a>(alloc: Global) -> Result<clap::Command<'a>, AllocError>
     ensures required { IfOk result (λ line. (out-Command line).subcommand_required ≡ true) }
     ensures no_globals { IfOk result (λ line. (out-Command line).has_globals ≡ false) }
 {
-    let merge = clap::Command::new(alloc, "merge")
-        .about("Apply merge patches to a document, one after another");
+    let merge = clap::Command::new(alloc, "merge").about(
+        "Apply merge patches to a document, one after another",
+    );
     clap::Command::new(alloc, "mergejoin")
         .about("Merge patches (RFC 7396) over one JSON array on standard input")
         .subcommand_required(true)

@@ -1,8 +1,7 @@
 //! Readers and writers that count their calls.
 ghost use Rattle.std.specs.Prelude.{◌≡◌, ◌≤◌};
 
-use std::io;
-use std::io::{Read, Write};
+mod device;
 
 /// A reader or a writer, the device, with three counts: the calls that were made of it, how many
 /// of them failed, and how many bytes they gave or took.
@@ -78,74 +77,5 @@ impl<T> Counted<T> {
             bytes: _,
         } = self;
         device
-    }
-}
-
-impl<T: Read> Counted<T> {
-    ghost use Rattle.std.specs.Prelude.{◌+◌, ◌^◌, ◌<◌, length, IfOk, OnErr};
-    ghost use Rattle.std.specs.Io.{ReadsAtMost};
-    ghost use Rattle.std.specs.Io.KnownBytes.{ReadConsumes};
-    ghost use Rattle.mp_cli.specs.Counted.{device_of, calls_of, bytes_of, CountsBytes, CountsFailure};
-
-    /// One read of the device.
-    pub(crate) fn read(&mut self, piece: &mut [u8]) -> io::Result<usize>
-        requires calls_fit { calls_of self.old + 1 < 2 ^ 64 }
-        requires bytes_fit { bytes_of self.old + length piece.old < 2 ^ 64 }
-        ensures bound { ReadsAtMost result piece.new }
-        ensures consumed { ReadConsumes (T.remaining (device_of self.old))
-            (T.remaining (device_of self.new)) result piece.new }
-        ensures given { IfOk result (CountsBytes self.old self.new) }
-        ensures failed { OnErr result (CountsFailure self.old self.new) }
-    {
-        self.calls += 1;
-        let outcome = self.device.read(piece);
-        match &outcome {
-            Ok(count) => self.bytes += *count as u64,
-            Err(_) => self.failures += 1,
-        }
-        outcome
-    }
-}
-
-impl<T: Write> Counted<T> {
-    ghost use Rattle.std.specs.Prelude.{◌+◌, ◌^◌, ◌<◌, length, IfOk, OnOk, OnErr};
-    ghost use Rattle.std.specs.Io.{WritesAtMost};
-    ghost use Rattle.std.specs.Io.KnownBytes.{Keeps, WriteAppends};
-    ghost use Rattle.mp_cli.specs.Counted.{device_of, calls_of, bytes_of, CountsBytes, CountsFailure};
-
-    /// One write of the device. Where it takes none of at least one byte, it failed.
-    pub(crate) fn write(&mut self, text: &[u8]) -> io::Result<usize>
-        requires calls_fit { calls_of self.old + 1 < 2 ^ 64 }
-        requires bytes_fit { bytes_of self.old + length text.now < 2 ^ 64 }
-        requires some { 0 < length text.now }
-        ensures bound { WritesAtMost result text.now }
-        ensures appended { WriteAppends (T.contents (device_of self.old))
-            (T.contents (device_of self.new)) result text.now }
-        ensures taken { IfOk result (λ count. 0 < count → CountsBytes self.old self.new count) }
-        ensures stalled { IfOk result (λ count. count ≡ 0 → CountsFailure self.old self.new) }
-        ensures failed { OnErr result (CountsFailure self.old self.new) }
-    {
-        self.calls += 1;
-        let outcome = self.device.write(text);
-        match &outcome {
-            Ok(0) | Err(_) => self.failures += 1,
-            Ok(count) => self.bytes += *count as u64,
-        }
-        outcome
-    }
-
-    /// One flush of the device.
-    pub(crate) fn flush(&mut self) -> io::Result<()>
-        requires { calls_of self.old + 1 < 2 ^ 64 }
-        ensures kept { Keeps (T.contents (device_of self.old)) (T.contents (device_of self.new)) }
-        ensures done { OnOk result (CountsBytes self.old self.new 0) }
-        ensures failed { OnErr result (CountsFailure self.old self.new) }
-    {
-        self.calls += 1;
-        let outcome = self.device.flush();
-        if outcome.is_err() {
-            self.failures += 1;
-        }
-        outcome
     }
 }

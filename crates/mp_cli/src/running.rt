@@ -1,5 +1,5 @@
 //! The run of the program: its input is read, answered and written.
-ghost use Rattle.std.specs.Prelude.{◌≡◌, ◌≢◌, ◌↔◌, ◌+◌, ◌<◌, ◌≤◌, ℕ, List, IsErrOf, IfOk, IfErr, IfSome, OnOk, OnErr, length, vec_len};
+ghost use Rattle.std.specs.Prelude.{◌≡◌, ◌≢◌, ◌↔◌, ◌+◌, ◌<◌, ◌≤◌, ℕ, List, IsErrOf, IfOk, IfErr, IfSome, OnOk, OnErr};
 ghost use Rattle.mp_cli.specs.Answered.{answered};
 ghost use Rattle.mp_cli.specs.Counted.{device_of, calls_of, failures_of, bytes_of};
 ghost use Rattle.mp_cli.specs.FaultLine.{line_of, status_of};
@@ -50,7 +50,7 @@ impl From<AllocError> for RunFault {
 
 /// The line for a fault of `run`, without its newline, and the status that the program ends with.
 ///
-/// For `RunFault::TooLong` it is `("input: too long", 2)`.
+/// For `RunFault::ReadFailed` it is the line `read failed` with the status 3.
 pub fn fault_line(fault: &RunFault) -> (&'static str, u8)
     ensures line { result.0.now ≡ line_of fault.now }
     ensures status { result.1 ≡ status_of fault.now }
@@ -107,11 +107,11 @@ pub fn run<R: Read, W: Write, E: Write>(
     ensures answered { IfOk result (λ status. (bytes : List ℕ)
         × ReadsWhole R.remaining input.old input.new bytes
         × Delivers W.contents E.contents (answered command.now bytes) status
-            out.old out.new err.old err.new) }
+        out.old out.new err.old err.new) }
     ensures answered_known { IfOk result (λ status. IfSome (R.remaining (device_of input.old))
         (λ bytes. ReadsWhole R.remaining input.old input.new bytes
         × Delivers W.contents E.contents (answered command.now bytes) status
-            out.old out.new err.old err.new)) }
+        out.old out.new err.old err.new)) }
     ensures one_writer { IsErrOf result RunFault.WriteFailed → (bytes : List ℕ)
         × ReadsWhole R.remaining input.old input.new bytes
         × TouchesOne (answered command.now bytes) out.old out.new err.old err.new }

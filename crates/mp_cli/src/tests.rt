@@ -11,6 +11,7 @@ use std::test::Fail;
 
 /// The answer of `merge` to `INPUT`.
 const ANSWER: &str = "x\n";
+
 const INPUT: &[u8] = b"[5]";
 
 /// A reader that gives its bytes some at a time, and fails after some reads.
@@ -166,12 +167,23 @@ fn asked(alloc: Global, line: &str) -> Result<Result<Command, CommandFault>, All
 fn words_ask_for_commands(rt: HostRuntime) -> Result<(), Fail> {
     let alloc = rt.alloc();
     assert!(rt; matches!(asked(alloc, "mergejoin merge")?, Ok(Command::Merge)));
-    for line in ["mergejoin", "mergejoin frob", "mergejoin merge 5", "mergejoin -x merge"] {
-        assert!(rt; matches!(asked(alloc, line)?, Err(CommandFault::Usage(_))), "{line}");
+    for line in [
+        "mergejoin",
+        "mergejoin frob",
+        "mergejoin merge 5",
+        "mergejoin -x merge",
+    ] {
+        assert!(rt;
+            matches!(asked(alloc, line)?, Err(CommandFault::Usage(_))),
+            "{line}"
+        );
     }
     for line in ["mergejoin --help", "mergejoin -h"] {
         match &asked(alloc, line)? {
-            Err(CommandFault::Help(text)) => assert!(rt; text.as_str().contains("merge "), "{line}"),
+            Err(CommandFault::Help(text)) => assert!(rt;
+                text.as_str().contains("merge "),
+                "{line}"
+            ),
             _ => assert!(rt; false, "{line}"),
         }
     }
