@@ -10,7 +10,7 @@ use std::process::Abort;
 use std::test::Fail;
 
 /// The answer of `merge` to `INPUT`.
-const ANSWER: &str = "x\n";
+const ANSWER: &str = "5\n";
 
 const INPUT: &[u8] = b"[5]";
 
@@ -212,6 +212,16 @@ fn reads_in_any_pieces(rt: HostRuntime) -> Result<(), Fail> {
             expect_text(&rt, seen.err, "");
         }
     }
+    Ok(())
+}
+
+#[test]
+fn refusals_go_to_the_other_writer(rt: HostRuntime) -> Result<(), Fail> {
+    let seen = run_merge(rt.alloc(), whole(b"["), Manner::Takes(3));
+    assert_eq!(rt; seen.status, Ok(2));
+    assert_eq!(rt; seen.out.calls(), 0);
+    expect_text(&rt, seen.out, "");
+    expect_text(&rt, seen.err, "input: not JSON\n");
     Ok(())
 }
 

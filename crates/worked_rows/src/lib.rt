@@ -8,5 +8,3 @@ mod merge_patch_cases;
 mod merge_rows;
 #[cfg(test)]
 mod rows;
-#[cfg(test)]
-mod word_rows;
