@@ -32,7 +32,7 @@ pub put-below : (n : List ℕ) (d : Document) (ms : Members) → IsBelow n ms �
 put-below n d no_members below = refl
 put-below n d (member m e ms) below = rw below.0
 
-IsBelow-members : (k : String Global) (es : List (String Global × Doc)) → AllByRecursion (λ l. string_cmp k l ≡ Less) (keys_of es) → IsBelow (string_bytes k) (members es)
+pub IsBelow-members : (k : String Global) (es : List (String Global × Doc)) → AllByRecursion (λ l. string_cmp k l ≡ Less) (keys_of es) → IsBelow (string_bytes k) (members es)
 IsBelow-members k [] above = tt
 IsBelow-members k (e ∷ es) above = IsBelow-put (string_bytes k) (string_bytes e.0) (document e.1) (members es) above.0 (IsBelow-members k es above.1)
 

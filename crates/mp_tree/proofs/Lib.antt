@@ -8,4 +8,5 @@ pub mod Meaning
 pub mod Names
 pub mod ReadLemmas
 pub mod RoundTrip
+pub mod SameParts
 pub mod TextLemmas

@@ -60,7 +60,7 @@ find-put q k d (member m e ms) = find-put_at (name_cmp k m) q k m d e ms refl (f
 find-here : (n : List ℕ) (d : Document) (ms : Members) → find n (member n d ms) ≡ Some d
 find-here n d ms = rw (is_name-self n)
 
-abbrev pairs_of : Members → List (List ℕ × Document)
+abbrev pub pairs_of : Members → List (List ℕ × Document)
 pairs_of no_members = []
 pairs_of (member n d ms) = (n, d) ∷ pairs_of ms
 

@@ -1,6 +1,7 @@
-ghost use Rattle.std.specs.Prelude.{◌≡◌, IfOk};
+ghost use Rattle.std.specs.Prelude.{◌≡◌, ◌↔◌, IfOk, IsTrue};
 
 use crate::built::map_of;
+use crate::same::is_same;
 use crate::whole::Whole;
 use std::alloc::{AllocError, Global};
 use std::collections::BTreeMap;
@@ -26,6 +27,21 @@ impl Doc {
         ensures equal { IfOk result (λ d. document d ≡ document self.now) }
     {
         copy_of(self, alloc)
+    }
+
+    /// Whether the two are equal: texts by their characters, numbers by value, arrays element by element in order,
+    /// objects by their names and values (RFC 8259; the sameness of RFC 6902 section 4.6).
+    ///
+    /// It takes no memory, looks at each part once at most, and stops at the first difference.
+    ///
+    /// ```text
+    /// // where `one` was read from {"b":1,"a":null}, and `two` from {"a":null,"b":1}
+    /// one.same(&two)  // true
+    /// ```
+    pub fn same(&self, other: &Doc) -> bool
+        ensures same { IsTrue result ↔ (document self.now ≡ document other.now) }
+    {
+        is_same(self, other)
     }
 }
 

@@ -6,6 +6,7 @@ pub mod doc;
 pub mod laws;
 mod parts;
 pub mod read;
+mod same;
 pub mod whole;
 pub mod write;
 
