@@ -1,5 +1,6 @@
 pub mod Ascending
 pub mod BuiltMaps
+pub mod Depths
 pub mod FromData
 pub mod IntoData
 pub mod Lists

@@ -1,6 +1,7 @@
-ghost use Rattle.std.specs.Prelude.{◌≡◌, ◌↔◌, IfOk, IsTrue};
+ghost use Rattle.std.specs.Prelude.{◌≡◌, ◌≤◌, ◌↔◌, IfOk, IsTrue};
 
 use crate::built::map_of;
+use crate::fits::is_within;
 use crate::same::is_same;
 use crate::whole::Whole;
 use std::alloc::{AllocError, Global};
@@ -20,6 +21,7 @@ pub enum Doc {
 }
 
 impl Doc {
+    ghost use Rattle.mp_tree.specs.Document.{depth};
     ghost use Rattle.mp_tree.specs.View.{document};
 
     /// An equal document, which shares nothing with this one. `AllocError` where memory ran out.
@@ -42,6 +44,21 @@ impl Doc {
         ensures same { IsTrue result ↔ (document self.now ≡ document other.now) }
     {
         is_same(self, other)
+    }
+
+    /// Whether the depth is at most `limit`. A scalar has depth 0; a list or an object is one deeper than its deepest part,
+    /// and 1 where it is empty.
+    ///
+    /// It takes no memory, looks at each part once at most, and stops at the first part that is too deep.
+    ///
+    /// ```text
+    /// Doc::Items(Vec::new(alloc)).fits(0)  // false
+    /// Doc::Items(Vec::new(alloc)).fits(1)  // true
+    /// ```
+    pub fn fits(&self, limit: u32) -> bool
+        ensures fits { IsTrue result ↔ (depth (document self.now) ≤ limit) }
+    {
+        is_within(self, limit)
     }
 }
 

@@ -4,6 +4,7 @@
 mod built;
 pub mod doc;
 pub mod laws;
+mod fits;
 mod parts;
 pub mod read;
 mod same;
