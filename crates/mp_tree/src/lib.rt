@@ -12,6 +12,6 @@ pub mod whole;
 pub mod write;
 
 pub use doc::Doc;
-pub use read::{DocsFault, read_docs};
+pub use read::{DocsFault, ReadFault, read_doc, read_docs};
 pub use whole::Whole;
-pub use write::write_doc;
+pub use write::{write_doc, write_text};
