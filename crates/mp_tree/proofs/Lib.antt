@@ -1,6 +1,7 @@
 pub mod Ascending
 pub mod BuiltMaps
 pub mod Depths
+pub mod EqualLooks
 pub mod FromData
 pub mod IntoData
 pub mod Lists
@@ -11,3 +12,4 @@ pub mod ReadLemmas
 pub mod RoundTrip
 pub mod SameParts
 pub mod TextLemmas
+pub mod Wholes

@@ -3,11 +3,13 @@
 
 mod built;
 pub mod doc;
-pub mod laws;
 mod fits;
+pub mod laws;
 mod parts;
 pub mod read;
 mod same;
+#[cfg(test)]
+mod tests;
 pub mod whole;
 pub mod write;
 

@@ -25,7 +25,7 @@ are_items_within-returns t c =
     (λ yes. omega arith, λ known. search rules)
 
 pub are_members_within-returns-then-not-is_within : goal.are_members_within-returns-then-not-is_within
-are_members_within-returns-then-not-is_within t c = 
+are_members_within-returns-then-not-is_within t c =
     let l = c.loop-value in
     let d = c.in-Some.value.now in
     let left = c.next.new.self in

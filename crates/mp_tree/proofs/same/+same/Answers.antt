@@ -22,10 +22,12 @@ are_same_items-returns-then-not-is_same t c =
     let two = c.args.others.now.items in
     let n = length l.yielded in
     let turn = zip_turn one two l.yielded c.into_iter-element-iterator.result l.element-iterator c.next.new.self c.next.result (search rules) (search rules) l.yielded_by (c.in-Some.element, c.in-Some.other) c.in-Some.is c.next.ensures.steps in
-    let d = c.in-Some.element.now in
-    (λ never. absurd (cc), λ same.
-    let equal : document d ≡ document c.in-Some.other.now = ap document (turn.2 d) ∙ at_from_items one two n d same ∙ ap document (sym (turn.3 d)) in
-    let found = c.is_same.ensures.1 equal in absurd (cc))
+    let d = c.in-Some.element.now in (
+      λ never. absurd (cc),
+      λ same.
+          let equal : document d ≡ document c.in-Some.other.now = ap document (turn.2 d) ∙ at_from_items one two n d same ∙ ap document (sym (turn.3 d)) in
+          let found = c.is_same.ensures.1 equal in absurd (cc),
+    )
 
 pub are_same_items-returns : goal.are_same_items-returns
 are_same_items-returns t c =
@@ -45,16 +47,18 @@ are_same_members-returns-then-ne t c =
     let e : String Global × Doc = (c.in-Some.name.now, c.in-Some.value.now) in
     let f : String Global × Doc = (c.in-Some.other_name.now, c.in-Some.other_value.now) in
     let one : c.args.entries.now.entries ≡ l.invariant.0 ++ e ∷ _ = l.invariant.2 ∙ ap (λ es. l.invariant.0 ++ es) c.in-Some.ensures.steps.0 in
-    let two : c.args.others.now.entries ≡ l.invariant.1 ++ f ∷ _ = l.invariant.3 ∙ ap (λ es. l.invariant.1 ++ es) c.in-Some.ensures.steps.1 in
-    (λ never. absurd (cc), λ same.
-    let alike = sym (ap (map (seen document)) one) ∙ seen_from_members _ _ c.iter.ensures.ordered c.iter-2.ensures.ordered same ∙ ap (map (seen document)) two in
-    let both = next_same (seen document) l.invariant.0 l.invariant.1 _ _ e f l.invariant.4 alike in
-    let names : string_bytes e.0 ≡ string_bytes f.0 = ap (λ p. p.0) both in
-    let values : document e.1 ≡ document f.1 = ap (λ p. p.1) both in
-    elim c.then-ne.branch [
-    are_same_members-then-ne-via-then-ne w ↦ let texts : c.as_str.result.now ≡ c.as_str-in-loop-name.result.now = c.as_str.ensures.value ∙ names ∙ sym c.as_str-in-loop-name.ensures.value in let found = c.ne.ensures ∙ ap not ((bytes_eq-Decides _ _).1 texts) in let taken = w.if-ne.true in absurd (cc)
-    | are_same_members-then-ne-via-else-ne+then-not-is_same w ↦ let found = w.is_same.ensures.1 values in absurd (cc)
-    ])
+    let two : c.args.others.now.entries ≡ l.invariant.1 ++ f ∷ _ = l.invariant.3 ∙ ap (λ es. l.invariant.1 ++ es) c.in-Some.ensures.steps.1 in (
+      λ never. absurd (cc),
+      λ same.
+          let alike = sym (ap (map (seen document)) one) ∙ seen_from_members _ _ c.iter.ensures.ordered c.iter-2.ensures.ordered same ∙ ap (map (seen document)) two in
+          let both = next_same (seen document) l.invariant.0 l.invariant.1 _ _ e f l.invariant.4 alike in
+          let names : string_bytes e.0 ≡ string_bytes f.0 = ap (λ p. p.0) both in
+          let values : document e.1 ≡ document f.1 = ap (λ p. p.1) both in
+          elim c.then-ne.branch [
+            | are_same_members-then-ne-via-then-ne w ↦ let texts : c.as_str.result.now ≡ c.as_str-in-loop-name.result.now = c.as_str.ensures.value ∙ names ∙ sym c.as_str-in-loop-name.ensures.value in let found = c.ne.ensures ∙ ap not ((bytes_eq-Decides _ _).1 texts) in let taken = w.if-ne.true in absurd (cc)
+            | are_same_members-then-ne-via-else-ne+then-not-is_same w ↦ let found = w.is_same.ensures.1 values in absurd (cc)
+          ],
+    )
 
 pub are_same_members-loop-name-preserved : goal.are_same_members-loop-name-preserved
 are_same_members-loop-name-preserved t c =
