@@ -52,7 +52,7 @@ fn value_from(doc: &Doc, alloc: Global) -> Result<Value, AllocError>
     }
 }
 
-fn number_from(whole: &Whole) -> Number
+pub(crate) fn number_from(whole: &Whole) -> Number
     ensures { number_view result ≡ of_integer (number_of whole.now) }
 {
     Number::from_i128(whole.value()).unwrap()
