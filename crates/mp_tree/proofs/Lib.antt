@@ -1,5 +1,7 @@
 pub mod Ascending
 pub mod BuiltMaps
+pub mod Depths
+pub mod EqualLooks
 pub mod FromData
 pub mod IntoData
 pub mod Lists
@@ -9,4 +11,6 @@ pub mod Meaning
 pub mod Names
 pub mod ReadLemmas
 pub mod RoundTrip
+pub mod SameParts
 pub mod TextLemmas
+pub mod Wholes

@@ -98,7 +98,7 @@ find-without q k (member m d ms) map = find-without_at (is_name k m) q k m d ms 
 find-here : (n : List ℕ) (d : Document) (ms : Members) → find n (member n d ms) ≡ Some d
 find-here n d ms = rw (is_name-self n)
 
-abbrev pairs_of : Members → List (List ℕ × Document)
+abbrev pub pairs_of : Members → List (List ℕ × Document)
 pairs_of no_members = []
 pairs_of (member n d ms) = (n, d) ∷ pairs_of ms
 

@@ -24,8 +24,8 @@ use Rattle.serde_json.specs.Written.{number_text, outline, items_outline, member
 use Rattle.serde_json.proofs.Numbers.{number_of-decimal, number_of-negative}
 use Rattle.serde_json.proofs.Texts.{print-outline}
 use Rattle.mp_tree.specs.Document.{Document, null, flag, whole, string, list, object, Items, no_items, item, Members, no_members, member, name_cmp, IsWhole, IsInRange, AreInRange, MembersAreInRange, IsDocument, AreDocuments, IsMap, IsBelow, HasTexts, ItemsHaveTexts, MembersHaveTexts, depth}
-use Rattle.mp_tree.specs.Laws.{ReadsBack}
-use Rattle.mp_tree.specs.Text.{document_from, data_of, items_data, members_data, text, reading}
+use Rattle.mp_tree.specs.Laws.{ReadsBack, EqualTexts}
+use Rattle.mp_tree.specs.Text.{document_from, data_of, items_data, members_data, text, read, reading}
 use Rattle.mp_tree.proofs.Names.{below_is_above}
 use Rattle.mp_tree.proofs.TextLemmas.{depth-data_of, document_from-data_of}
 
@@ -195,3 +195,10 @@ read-text d good texts range shallow =
     let whole_text : serde_json.read (text d) ≡ Some (data_of d) = reads_tokens d range (omega arith) ∙ reads_outline d range good in
     let is : reading (text d) ≡ Some (data_of d) = rw (is_utf8-from_IsUtf8 (text d) (IsUtf8-text d range texts)) whole_text in
     ap (option_and_then document_from) is ∙ document_from-data_of d good
+
+some_same : {A : Type 0} (a b : A) → Some a ≡ Some b → a ≡ b
+some_same a b same = cc
+
+pub same-text : EqualTexts
+same-text d e good texts range shallow good' texts' range' shallow' =
+    (λ same. ap text same, λ same. some_same d e (sym (read-text d good texts range shallow) ∙ ap read same ∙ read-text e good' texts' range' shallow'))

@@ -1,5 +1,5 @@
 -- Reading and writing (RFC 8259), over `serde_json`'s own reading and compact text.
-use Rattle.std.specs.Prelude.{ℕ, ℤ, pos, List, if◌then◌else◌, Option, None, Some, option_map, option_and_then, Result, Ok, Err}
+use Rattle.std.specs.Prelude.{ℕ, ℤ, pos, nat_le, List, if◌then◌else◌, Option, None, Some, option_map, option_and_then, Result, Ok, Err}
 use Rattle.std.specs.Option.{option_or}
 use Rattle.std.specs.Str.{is_utf8}
 use Rattle.serde_json.specs.Data as json
@@ -7,9 +7,11 @@ use Rattle.serde_json.specs.Data.{Data, Num}
 use Rattle.serde_json.specs.Find.{as_u64, as_i64, of_integer}
 use Rattle.serde_json.specs.Read as serde_json
 use Rattle.serde_json.specs.Written.{compact_text}
-use Rattle.mp_tree.specs.Document.{Document, null, flag, whole, string, list, object, Items, no_items, item, Members, no_members, member, put}
+use Rattle.mp_tree.specs.Document.{Document, null, flag, whole, string, list, object, Items, no_items, item, Members, no_members, member, put, depth, depth_limit}
 use Rattle.mp_tree.specs.declared.read.DocsFault.{DocsFault}
 use Rattle.mp_tree.specs.declared.read.DocsFault.TheVariants.{NotJson, NotWhole, NotAnArray}
+use Rattle.mp_tree.specs.declared.read.ReadFault.{ReadFault}
+use Rattle.mp_tree.specs.declared.read.ReadFault.TheVariants as fault
 
 -- ---- reading
 
@@ -58,6 +60,23 @@ read_or_fault (Some d) = whole_or_fault (document_from d)
 
 abbrev pub documents_in : List ℕ → Result Items DocsFault
 documents_in bytes = read_or_fault (reading bytes)
+
+-- ---- the document that the bytes are, or the first fault: not JSON, a number that is not whole, too deep
+
+-- a document within the depth rule
+abbrev pub shallow : Document → Result Document ReadFault
+shallow d = if nat_le (depth d) depth_limit then Ok d else Err fault.TooDeep
+
+abbrev whole_document : Option Document → Result Document ReadFault
+whole_document None = Err fault.NotWhole
+whole_document (Some d) = shallow d
+
+abbrev document_read : Option Data → Result Document ReadFault
+document_read None = Err fault.NotJson
+document_read (Some d) = whole_document (document_from d)
+
+abbrev pub document_in : List ℕ → Result Document ReadFault
+document_in bytes = document_read (reading bytes)
 
 -- ---- writing
 

@@ -1,6 +1,8 @@
-ghost use Rattle.std.specs.Prelude.{◌≡◌, IfOk};
+ghost use Rattle.std.specs.Prelude.{◌≡◌, ◌≤◌, ◌↔◌, IfOk, IsTrue};
 
 use crate::built::map_of;
+use crate::fits::is_within;
+use crate::same::is_same;
 use crate::whole::Whole;
 use std::alloc::{AllocError, Global};
 use std::collections::BTreeMap;
@@ -19,6 +21,7 @@ pub enum Doc {
 }
 
 impl Doc {
+    ghost use Rattle.mp_tree.specs.Document.{depth};
     ghost use Rattle.mp_tree.specs.View.{document};
 
     /// An equal document, which shares nothing with this one. `AllocError` where memory ran out.
@@ -26,6 +29,36 @@ impl Doc {
         ensures equal { IfOk result (λ d. document d ≡ document self.now) }
     {
         copy_of(self, alloc)
+    }
+
+    /// Whether the two are equal: texts by their characters, numbers by value, arrays element by element in order,
+    /// objects by their names and values (RFC 8259; the sameness of RFC 6902 section 4.6).
+    ///
+    /// It takes no memory, looks at each part once at most, and stops at the first difference.
+    ///
+    /// ```text
+    /// // where `one` was read from {"b":1,"a":null}, and `two` from {"a":null,"b":1}
+    /// one.same(&two)  // true
+    /// ```
+    pub fn same(&self, other: &Doc) -> bool
+        ensures same { IsTrue result ↔ (document self.now ≡ document other.now) }
+    {
+        is_same(self, other)
+    }
+
+    /// Whether the depth is at most `limit`. A scalar has depth 0; a list or an object is one deeper than its deepest part,
+    /// and 1 where it is empty.
+    ///
+    /// It takes no memory, looks at each part once at most, and stops at the first part that is too deep.
+    ///
+    /// ```text
+    /// Doc::Items(Vec::new(alloc)).fits(0)  // false
+    /// Doc::Items(Vec::new(alloc)).fits(1)  // true
+    /// ```
+    pub fn fits(&self, limit: u32) -> bool
+        ensures fits { IsTrue result ↔ (depth (document self.now) ≤ limit) }
+    {
+        is_within(self, limit)
     }
 }
 

@@ -3,13 +3,19 @@
 
 mod built;
 pub mod doc;
+mod fits;
 pub mod laws;
+mod owned;
 mod parts;
 pub mod read;
+mod same;
+#[cfg(test)]
+mod tests;
 pub mod whole;
 pub mod write;
 
 pub use doc::Doc;
-pub use read::{DocsFault, read_docs};
+pub use owned::write_owned;
+pub use read::{DocsFault, ReadFault, read_doc, read_docs};
 pub use whole::Whole;
-pub use write::write_doc;
+pub use write::{write_doc, write_text};

@@ -2,13 +2,67 @@ ghost use Rattle.std.specs.Prelude.{◌≡◌, ◌≢◌, ◌≤◌, All, None, 
 ghost use Rattle.serde_json.specs.Read.{max_depth};
 ghost use Rattle.mp_tree.specs.Document.{depth, depth_limit};
 ghost use Rattle.mp_tree.specs.View.{document, items};
-ghost use Rattle.mp_tree.specs.Text.{documents_in, read, reading};
+ghost use Rattle.mp_tree.specs.Text.{document_in, documents_in, read, reading};
 
 use crate::doc::Doc;
 use crate::parts::{Unread, doc_of};
 use serde_json::Value;
 use std::alloc::Global;
 use thiserror::Error;
+
+// The deepest document that is read on its own, so that it may stand in an array within `serde_json`'s nesting of 127.
+const DEPTH_LIMIT: u32 = 126;
+
+/// Why bytes gave no document.
+#[derive(Clone, Copy, Debug, Drop, PartialEq, Eq, Error)]
+pub enum ReadFault {
+    #[error("not JSON")]
+    NotJson,
+    #[error("number not whole")]
+    NotWhole,
+    #[error("too deep")]
+    TooDeep,
+    #[error("out of memory")]
+    OutOfMemory,
+}
+
+/// The document that a JSON text (RFC 8259) is.
+///
+/// The first fault that holds is answered: `NotJson` where `serde_json` has no reading (the bytes are not UTF-8,
+/// nest deeper than 127, or go on after the value), `NotWhole` where a number is not whole or is outside
+/// -2^63 to 2^64 - 1, `TooDeep` where the depth is 127; `OutOfMemory` may come at any point.
+///
+/// ```text
+/// read_doc(alloc, b"{\"a\":1}")  // an object with one name
+/// read_doc(alloc, b"1.5")         // Err(ReadFault::NotWhole)
+/// ```
+pub fn read_doc(alloc: Global, bytes: &[u8]) -> Result<Doc, ReadFault>
+    ensures document { IfOk result (λ d. document_in bytes.now ≡ Ok (document d)) }
+    ensures faults { IfErr result (λ fault. fault ≢ ReadFault.OutOfMemory
+        → document_in bytes.now ≡ Err fault) }
+    ensures depth { IfOk result (λ d. depth (document d) ≤ depth_limit) }
+{
+    let doc = read_tree(alloc, bytes)?;
+    if doc.fits(DEPTH_LIMIT) {
+        Ok(doc)
+    } else {
+        Err(ReadFault::TooDeep)
+    }
+}
+
+impl From<Unread> for ReadFault {
+    ghost use Rattle.mp_tree.specs.Unread.{read_fault};
+
+    ghost from_gives = { λ unread fault. fault ≡ read_fault unread };
+
+    fn from(unread: Unread) -> ReadFault {
+        match unread {
+            Unread::NotJson => ReadFault::NotJson,
+            Unread::NotWhole => ReadFault::NotWhole,
+            Unread::OutOfMemory => ReadFault::OutOfMemory,
+        }
+    }
+}
 
 /// Why bytes gave no list of documents.
 #[derive(Clone, Copy, Debug, Drop, PartialEq, Eq, Error)]

@@ -1,6 +1,6 @@
 ghost use Rattle.std.specs.Prelude.{◌≡◌, ◌≤◌, Some, IfOk, string_bytes};
 ghost use Rattle.serde_json.specs.View.{view, items_view, members_view, number_view};
-ghost use Rattle.mp_tree.specs.Document.{depth, depth_limit};
+ghost use Rattle.mp_tree.specs.Document.{string, depth, depth_limit};
 ghost use Rattle.serde_json.specs.Find.{of_integer};
 ghost use Rattle.mp_tree.specs.View.{document, items, members, number_of};
 ghost use Rattle.mp_tree.specs.Text.{text, read, data_of, items_data, members_data};
@@ -26,6 +26,18 @@ pub fn write_doc(alloc: Global, doc: &Doc) -> Result<String, AllocError>
     value_from(doc, alloc)?.to_string(alloc)
 }
 
+/// The text as a JSON string (RFC 8259 section 7), as it stands in what [`write_doc`] writes: in quotes, with a quote,
+/// a backslash and each control character escaped. `AllocError` where memory ran out.
+///
+/// ```text
+/// write_text(alloc, "a\"b")  // "a\"b", with its backslash
+/// ```
+pub fn write_text(alloc: Global, plain: &str) -> Result<String, AllocError>
+    ensures text { IfOk result (λ s. string_bytes s ≡ text (string plain.now)) }
+{
+    Value::String(String::from_str(alloc, plain)?).to_string(alloc)
+}
+
 #[cycle(value_from)]
 fn value_from(doc: &Doc, alloc: Global) -> Result<Value, AllocError>
     ensures { IfOk result (λ v. view v ≡ data_of (document doc.now)) }
@@ -40,7 +52,7 @@ fn value_from(doc: &Doc, alloc: Global) -> Result<Value, AllocError>
     }
 }
 
-fn number_from(whole: &Whole) -> Number
+pub(crate) fn number_from(whole: &Whole) -> Number
     ensures { number_view result ≡ of_integer (number_of whole.now) }
 {
     Number::from_i128(whole.value()).unwrap()

@@ -1,0 +1,24 @@
+-- The depth of a list or a map is that of its deepest part.
+use Rattle.std.proofs.Common.{◌≡◌, ◌≤◌, ◌<◌, ℕ, zero, suc, max, List, [], ◌∷◌, ◌++◌, length, get_or, String, Global, string_bytes, string_cmp, refl, ap, ◌∙◌, subst, arith}
+use Rattle.std.specs.List.Sorted.{IsStrictlySortedBy}
+use Rattle.std.specs.Map.{keys_of, values_of}
+use Rattle.mp_tree.specs.Document.{depth, items_depth, members_depth}
+use Rattle.mp_tree.specs.View.{document, items, members}
+use Rattle.mp_tree.specs.declared.doc.Doc.{Doc}
+use Rattle.mp_tree.proofs.IntoData.{put-below, IsBelow-members}
+
+pub items_depth_from_each : (ds : List Doc) (n : ℕ) → ((k : ℕ) (d : Doc) → k < length ds → depth (document (get_or ds k d)) ≤ n) → items_depth (items ds) ≤ n
+items_depth_from_each [] n each = omega arith
+items_depth_from_each (d ∷ ds) n each = omega (arith, each zero d (omega arith), items_depth_from_each ds n (λ k e below. each (suc k) e (omega arith)))
+
+pub items_depth-append : (ds es : List Doc) → items_depth (items (ds ++ es)) ≡ max (items_depth (items ds)) (items_depth (items es))
+items_depth-append [] es = omega arith
+items_depth-append (d ∷ ds) es = omega (arith, items_depth-append ds es)
+
+-- in a map each name stands once, so no value is hidden by another
+pub members_depth-members : (es : List (String Global × Doc)) → IsStrictlySortedBy string_cmp (keys_of es) → members_depth (members es) ≡ items_depth (items (values_of es))
+unfolding IsStrictlySortedBy
+members_depth-members [] ascending = refl
+members_depth-members (e ∷ es) ascending =
+    let listed = put-below (string_bytes e.0) (document e.1) (members es) (IsBelow-members e.0 es ascending.0) in
+    ap members_depth listed ∙ ap (λ n. max (depth (document e.1)) n) (members_depth-members es ascending.1)

@@ -1,0 +1,95 @@
+-- When lists of elements and maps are seen alike.
+use Rattle.std.proofs.Common.{◌≡◌, ◌<◌, ◌⊎◌, inl, inr, ℕ, zero, suc, List, [], ◌∷◌, ◌++◌, map, length, get_or, String, Global, string_cmp, string_bytes, refl, sym, ap, ap₂, ◌∙◌, arith, append-nil, length-append}
+use Rattle.std.proofs.lemmas.List.{length-map}
+use Rattle.std.specs.List.Sorted.{IsStrictlySortedBy}
+use Rattle.std.specs.Map.{keys_of}
+use Rattle.mp_tree.specs.Document.{Document, object, Items, no_items, item, Members, no_members}
+use Rattle.mp_tree.specs.View.{document, items_of, members_of, items, members}
+use Rattle.mp_tree.specs.declared.doc.Doc.{Doc}
+use Rattle.mp_tree.proofs.BuiltMaps.{seen}
+use Rattle.mp_tree.proofs.IntoData.{put-below, IsBelow-members}
+use Rattle.mp_tree.proofs.Maps.{pairs_of}
+use Rattle.mp_tree.proofs.Lists.{empty_from_length}
+
+-- ---- elements
+
+abbrev elements_of : Items → List Document
+elements_of no_items = []
+elements_of (item d ds) = d ∷ elements_of ds
+
+elements_of-items : (ds : List Doc) → elements_of (items ds) ≡ map document ds
+elements_of-items [] = refl
+elements_of-items (d ∷ ds) = ap (λ es. document d ∷ es) (elements_of-items ds)
+
+pub documents_from_items : (ds es : List Doc) → items ds ≡ items es → map document ds ≡ map document es
+documents_from_items ds es same = sym (elements_of-items ds) ∙ ap elements_of same ∙ elements_of-items es
+
+pub length_from_items : (ds es : List Doc) → items ds ≡ items es → length ds ≡ length es
+length_from_items ds es same = sym (length-map ds document) ∙ ap length (documents_from_items ds es same) ∙ length-map es document
+
+-- elements at each place
+at_from_map : (ds es : List Doc) (k : ℕ) (d : Doc) → map document ds ≡ map document es → document (get_or ds k d) ≡ document (get_or es k d)
+at_from_map [] [] k d same = refl
+at_from_map [] (e ∷ es) k d same = absurd (cc)
+at_from_map (x ∷ ds) [] k d same = absurd (cc)
+at_from_map (x ∷ ds) (e ∷ es) zero d same = cc
+at_from_map (x ∷ ds) (e ∷ es) (suc k) d same = let others : map document ds ≡ map document es = cc in at_from_map ds es k d others
+
+pub at_from_items : (ds es : List Doc) (k : ℕ) (d : Doc) → items ds ≡ items es → document (get_or ds k d) ≡ document (get_or es k d)
+at_from_items ds es k d same = at_from_map ds es k d (documents_from_items ds es same)
+
+pub items_from_each : (ds es : List Doc) → length ds ≡ length es → ((k : ℕ) (d : Doc) → k < length ds → document (get_or ds k d) ≡ document (get_or es k d)) → items ds ≡ items es
+items_from_each [] [] long each = refl
+items_from_each [] (e ∷ es) long each = absurd (omega arith)
+items_from_each (d ∷ ds) [] long each = absurd (omega arith)
+items_from_each (d ∷ ds) (e ∷ es) long each = ap₂ item (each zero d (omega arith)) (items_from_each ds es (omega arith) (λ k x below. each (suc k) x (omega arith)))
+
+-- ---- members
+
+pairs_of-members : (es : List (String Global × Doc)) → IsStrictlySortedBy string_cmp (keys_of es) → pairs_of (members es) ≡ map (seen document) es
+unfolding IsStrictlySortedBy
+pairs_of-members [] ascending = refl
+pairs_of-members (e ∷ es) ascending =
+    let listed = put-below (string_bytes e.0) (document e.1) (members es) (IsBelow-members e.0 es ascending.0) in
+    ap pairs_of listed ∙ ap (λ ps. seen document e ∷ ps) (pairs_of-members es ascending.1)
+
+abbrev inside : Document → Members
+inside (object ms) = ms
+inside d = no_members
+
+pub members_of_object : (ms es : Members) → object ms ≡ object es → ms ≡ es
+members_of_object ms es same = ap inside same
+
+-- ascending entries whose members are the same are seen alike
+pub seen_from_members : (es fs : List (String Global × Doc)) → IsStrictlySortedBy string_cmp (keys_of es) → IsStrictlySortedBy string_cmp (keys_of fs) → members es ≡ members fs
+    → map (seen document) es ≡ map (seen document) fs
+seen_from_members es fs a b same = sym (pairs_of-members es a) ∙ ap pairs_of same ∙ pairs_of-members fs b
+
+pub members_from_seen : (es fs : List (String Global × Doc)) → map (seen document) es ≡ map (seen document) fs → members es ≡ members fs
+members_from_seen es fs same = ap members_of same
+
+pub length_from_members : (es fs : List (String Global × Doc)) → IsStrictlySortedBy string_cmp (keys_of es) → IsStrictlySortedBy string_cmp (keys_of fs) → members es ≡ members fs
+    → length es ≡ length fs
+length_from_members es fs a b same = sym (length-map es (seen document)) ∙ ap length (seen_from_members es fs a b same) ∙ length-map fs (seen document)
+
+-- ---- two lists that are walked together
+
+module _ {A C : Type 0} (f : A → C) where
+  -- what comes next after equal beginnings
+  pub next_same : (done passed left rest : List A) (x y : A) → map f done ≡ map f passed → map f (done ++ x ∷ left) ≡ map f (passed ++ y ∷ rest) → f x ≡ f y
+  next_same [] [] left rest x y same all = cc
+  next_same [] (p ∷ passed) left rest x y same all = absurd (cc)
+  next_same (d ∷ done) [] left rest x y same all = absurd (cc)
+  next_same (d ∷ done) (p ∷ passed) left rest x y same all =
+      let before : map f done ≡ map f passed = cc in
+      let after : map f (done ++ x ∷ left) ≡ map f (passed ++ y ∷ rest) = cc in
+      next_same done passed left rest x y before after
+
+  pub all_same : (xs ys done passed left rest : List A) → length xs ≡ length ys → xs ≡ done ++ left → ys ≡ passed ++ rest → map f done ≡ map f passed → (left ≡ []) ⊎ (rest ≡ []) → map f xs ≡ map f ys
+  all_same xs ys done passed left rest long one two same over =
+      let sizes : length done ≡ length passed = sym (length-map done f) ∙ ap length same ∙ length-map passed f in
+      let lengths : length left ≡ length rest = omega (arith, ap length one, ap length two, length-append done left, length-append passed rest) in
+      let none : length left ≡ 0 = elim over [ inl nil ↦ ap length nil | inr nil ↦ lengths ∙ ap length nil ] in
+      let no_left : left ≡ [] = empty_from_length left none in
+      let no_rest : rest ≡ [] = empty_from_length rest (sym lengths ∙ none) in
+      ap (map f) (one ∙ ap (λ zs. done ++ zs) no_left ∙ append-nil done) ∙ same ∙ ap (map f) (sym (two ∙ ap (λ zs. passed ++ zs) no_rest ∙ append-nil passed))

@@ -1,0 +1,5 @@
+use Rattle.mp_tree.proofs.RoundTrip.{same-text}
+use Rattle.mp_tree.proofs.laws.equal_texts.Goals as goal
+
+pub returns : goal.returns
+returns c = same-text

@@ -1,0 +1,217 @@
+use crate::{
+    Doc, DocsFault, ReadFault, Whole, read_doc, read_docs, write_doc, write_owned, write_text,
+};
+use std::alloc::{AllocError, Global};
+use std::test::Fail;
+
+// `count` times `[`, what stands inside, and `count` times `]`.
+fn nested(alloc: Global, count: u8, inside: &str) -> Result<String, AllocError> {
+    let mut text = String::new(alloc);
+    for _ in 0..count {
+        text.push('[')?;
+    }
+    text.push_str(inside)?;
+    for _ in 0..count {
+        text.push(']')?;
+    }
+    Ok(text)
+}
+
+fn doc_of(alloc: Global, text: &str) -> Result<Doc, ReadFault> {
+    read_doc(alloc, text.as_bytes())
+}
+
+#[test]
+fn numbers_at_the_ends(rt: HostRuntime) {
+    assert_eq!(rt;
+        Whole::from_i64(i64::MIN).value(),
+        -9_223_372_036_854_775_808
+    );
+    assert_eq!(rt; Whole::from_i64(-1).value(), -1);
+    assert_eq!(rt;
+        Whole::from_u64(u64::MAX).value(),
+        18_446_744_073_709_551_615
+    );
+    assert!(rt;
+        Whole::from_i64(7) == Whole::from_u64(7),
+        "one number, one value"
+    );
+}
+
+// Names go by their UTF-8 bytes: neither by UTF-16 units nor after a normalisation.
+#[test]
+fn what_is_read_is_written_compactly(rt: HostRuntime) -> Result<(), Fail> {
+    for (text, written) in [
+        ("{\"b\":1,\"a\":null}", "{\"a\":null,\"b\":1}"),
+        (
+            " [ true , { \"k\" : \"v\" } ,\n{} , [] , false ] ",
+            "[true,{\"k\":\"v\"},{},[],false]",
+        ),
+        ("18446744073709551615", "18446744073709551615"),
+        ("-9223372036854775808", "-9223372036854775808"),
+        (
+            "{\"\\u00e9\":1,\"e\\u0301\":2}",
+            "{\"e\u{301}\":2,\"\u{e9}\":1}",
+        ),
+        (
+            "{\"\\ud83d\\ude00\":1,\"\\uffff\":2}",
+            "{\"\u{ffff}\":2,\"\u{1f600}\":1}",
+        ),
+        (
+            "{\"b\\u0001\":1,\"a\\n\":2,\"a\\u001f\":3,\"\\\"\":4}",
+            "{\"\\\"\":4,\"a\\n\":2,\"a\\u001f\":3,\"b\\u0001\":1}",
+        ),
+    ] {
+        let doc = doc_of(rt.alloc(), text)?;
+        assert_eq!(rt; write_doc(rt.alloc(), &doc)?.as_str(), written);
+        let copy = doc.copy(rt.alloc())?;
+        assert_eq!(rt; write_doc(rt.alloc(), &copy)?.as_str(), written, "the copy");
+        assert!(rt; copy.same(&doc), "{text}");
+        assert_eq!(rt;
+            write_owned(rt.alloc(), doc)?.as_str(),
+            written,
+            "given away"
+        );
+    }
+    Ok(())
+}
+
+#[test]
+fn bytes_that_are_no_document(rt: HostRuntime) -> Result<(), Fail> {
+    for (text, fault) in [
+        ("", ReadFault::NotJson),
+        ("[", ReadFault::NotJson),
+        ("[1][2]", ReadFault::NotJson),
+        ("[1.5", ReadFault::NotJson),
+        ("1.5", ReadFault::NotWhole),
+        ("{\"a\":[1.0]}", ReadFault::NotWhole),
+        ("18446744073709551616", ReadFault::NotWhole),
+        ("-9223372036854775809", ReadFault::NotWhole),
+    ] {
+        assert_eq!(rt; doc_of(rt.alloc(), text).err(), Some(fault), "{text}");
+    }
+    let not_utf8 = read_doc(rt.alloc(), &[0x5b, 0xff, 0x5d]);
+    assert_eq!(rt; not_utf8.err(), Some(ReadFault::NotJson));
+    Ok(())
+}
+
+#[test]
+fn nesting_has_a_limit(rt: HostRuntime) -> Result<(), Fail> {
+    for (count, inside, fault) in [
+        (126, "", None),
+        (127, "", Some(ReadFault::TooDeep)),
+        (128, "", Some(ReadFault::NotJson)),
+        (126, "1.5", Some(ReadFault::NotWhole)),
+        (127, "1.5", Some(ReadFault::NotWhole)),
+    ] {
+        let text = nested(rt.alloc(), count, inside)?;
+        assert_eq!(rt;
+            doc_of(rt.alloc(), text.as_str()).err(),
+            fault,
+            "{count} {inside}"
+        );
+    }
+    let deepest = nested(rt.alloc(), 126, "")?;
+    let doc = doc_of(rt.alloc(), deepest.as_str())?;
+    assert_eq!(rt; write_doc(rt.alloc(), &doc)?.as_str(), deepest.as_str());
+    Ok(())
+}
+
+#[test]
+fn documents_are_compared(rt: HostRuntime) -> Result<(), Fail> {
+    for (one, two, same) in [
+        ("{\"b\":1,\"a\":null}", "{\"a\":null,\"b\":1}", true),
+        ("1", "\"1\"", false),
+        ("[1,2]", "[2,1]", false),
+        ("[1,2]", "[1]", false),
+        ("{}", "[]", false),
+        ("{\"a\":null}", "{}", false),
+        ("{\"a\":1}", "{\"b\":1}", false),
+        ("{\"a\":1}", "{\"a\":2}", false),
+        ("true", "false", false),
+        ("{\"\\u00e9\":1}", "{\"e\\u0301\":1}", false),
+    ] {
+        let (one_doc, two_doc) = (doc_of(rt.alloc(), one)?, doc_of(rt.alloc(), two)?);
+        assert_eq!(rt; one_doc.same(&two_doc), same, "{one} {two}");
+        assert_eq!(rt; two_doc.same(&one_doc), same, "{two} {one}");
+    }
+    Ok(())
+}
+
+#[test]
+fn depths_are_measured(rt: HostRuntime) -> Result<(), Fail> {
+    for (text, limit, fits) in [
+        ("\"x\"", 0, true),
+        ("[]", 0, false),
+        ("[]", 1, true),
+        ("{\"b\":1,\"a\":null}", 0, false),
+        ("{\"b\":1,\"a\":null}", 1, true),
+        ("{\"a\":1,\"b\":[{}]}", 2, false),
+        ("{\"a\":1,\"b\":[{}]}", 3, true),
+    ] {
+        assert_eq!(rt;
+            doc_of(rt.alloc(), text)?.fits(limit),
+            fits,
+            "{text} {limit}"
+        );
+    }
+    Ok(())
+}
+
+#[test]
+fn texts_are_quoted(rt: HostRuntime) -> Result<(), Fail> {
+    for (text, written) in [
+        ("", "\"\""),
+        ("a\"b", "\"a\\\"b\""),
+        ("/a~1b", "\"/a~1b\""),
+        (
+            "\u{0}\u{8}\t\n\u{c}\r\u{7f}\u{2028}/\\",
+            "\"\\u0000\\b\\t\\n\\f\\r\u{7f}\u{2028}/\\\\\"",
+        ),
+    ] {
+        assert_eq!(rt; write_text(rt.alloc(), text)?.as_str(), written);
+    }
+    Ok(())
+}
+
+#[test]
+fn the_documents_of_an_array(rt: HostRuntime) -> Result<(), Fail> {
+    let docs = read_docs(rt.alloc(), b"[1,{}]")?;
+    assert_eq!(rt; docs.len(), 2);
+    assert!(rt; docs[0].same(&Doc::Whole(Whole::from_u64(1))));
+    for (text, fault) in [
+        ("5", DocsFault::NotAnArray),
+        ("{}", DocsFault::NotAnArray),
+        ("1.5", DocsFault::NotWhole),
+        ("[1.5]", DocsFault::NotWhole),
+        ("[1][2]", DocsFault::NotJson),
+    ] {
+        assert_eq!(rt;
+            read_docs(rt.alloc(), text.as_bytes()).err(),
+            Some(fault),
+            "{text}"
+        );
+    }
+    Ok(())
+}
+
+#[test]
+fn faults_have_texts(rt: HostRuntime) -> Result<(), Fail> {
+    for (fault, text) in [
+        (ReadFault::NotJson, "not JSON"),
+        (ReadFault::NotWhole, "number not whole"),
+        (ReadFault::TooDeep, "too deep"),
+        (ReadFault::OutOfMemory, "out of memory"),
+    ] {
+        assert_eq!(rt; format!(in rt.alloc(); "{fault}")?.as_str(), text);
+    }
+    for (fault, text) in [
+        (DocsFault::NotJson, "not JSON"),
+        (DocsFault::NotWhole, "number not whole"),
+        (DocsFault::NotAnArray, "not an array"),
+        (DocsFault::OutOfMemory, "out of memory"),
+    ] {
+        assert_eq!(rt; format!(in rt.alloc(); "{fault}")?.as_str(), text);
+    }
+    Ok(())
+}
