@@ -74,24 +74,24 @@ mp_members-step ts n p ps targets good =
     let now = changed n p d ts in
     let now_map : IsMap now = IsMap-changed n p d ts (IsDocument-mp (find n ts) p (find_good n ts targets) good.0) targets in
     let same : (q : List ℕ) → find q (mp_members ts (member n p ps)) ≡ find q (mp_members now ps) = λ q.
-        find-mp_members ts (member n p ps) targets good q
-        ∙ cases_same q n
-            (λ here.
-              let none : find q ps ≡ None = ap (λ k. find k ps) here ∙ find-below n ps good.1 in
-              let left : after_patch (find q ts) (find q (member n p ps)) ≡ unless_null p d = rw (here, is_name-self) in
-              let right : find q now ≡ unless_null p d = find-changed q n p d ts targets ∙ rw (here, is_name-self) in
-              left ∙ sym right ∙ sym (ap (after_patch (find q now)) none))
-            (λ other.
-              let stays : find q now ≡ find q ts = find-changed q n p d ts targets ∙ rw other in
-              rw other (ap (λ t. after_patch t (find q ps)) (sym stays)))
-        ∙ sym (find-mp_members now ps now_map good.2 q) in
+    find-mp_members ts (member n p ps) targets good q
+    ∙ cases_same q n
+    (λ here.
+    let none : find q ps ≡ None = ap (λ k. find k ps) here ∙ find-below n ps good.1 in
+    let left : after_patch (find q ts) (find q (member n p ps)) ≡ unless_null p d = rw (here, is_name-self) in
+    let right : find q now ≡ unless_null p d = find-changed q n p d ts targets ∙ rw (here, is_name-self) in
+    left ∙ sym right ∙ sym (ap (after_patch (find q now)) none))
+    (λ other.
+    let stays : find q now ≡ find q ts = find-changed q n p d ts targets ∙ rw other in
+    rw other (ap (λ t. after_patch t (find q ps)) (sym stays)))
+    ∙ sym (find-mp_members now ps now_map good.2 q) in
     members_same (mp_members ts (member n p ps)) (mp_members now ps) (IsMap-mp_members ts (member n p ps) targets good) (IsMap-mp_members now ps now_map good.2) same
 
 -- what was taken out is set
 pub put-without : (n : List ℕ) (d : Document) (ms : Members) → IsDocument d → IsMap ms → put n d (without n ms) ≡ put n d ms
 put-without n d ms good map =
     members_same (put n d (without n ms)) (put n d ms) (IsMap-put n d (without n ms) good (IsMap-without n ms map)) (IsMap-put n d ms good map)
-        (λ q. find-put q n d (without n ms) ∙ cases_same q n (λ here. rw (here, is_name-self, find-put, is_name-self)) (λ other. rw other (find-without q n ms map ∙ rw other (sym (find-put q n d ms ∙ rw other)))))
+    (λ q. find-put q n d (without n ms) ∙ cases_same q n (λ here. rw (here, is_name-self, find-put, is_name-self)) (λ other. rw other (find-without q n ms map ∙ rw other (sym (find-put q n d ms ∙ rw other)))))
 
 pub changed-other : (n : List ℕ) (p d : Document) (ms : Members) → (p ≡ null → ⊥) → changed n p d ms ≡ put n d ms
 changed-other n null d ms other = absurd (other refl)

@@ -6,7 +6,7 @@ ghost use Rattle.mp_cli.specs.Answered.{Gives, answered, input_fault, line as li
 use crate::answers::Answer;
 use crate::command::Command;
 use crate::merging::merged;
-use mp_tree::{Doc, DocsFault, read_docs, write_doc};
+use mp_tree::{Doc, DocsFault, read_docs, write_owned};
 use std::alloc::{AllocError, Global};
 
 /// The status where the input is at fault.
@@ -79,7 +79,7 @@ fn merge(alloc: Global, docs: Vec<Doc>) -> Result<Answer, AllocError>
 fn printed(alloc: Global, doc: Doc) -> Result<Answer, AllocError>
     ensures { Gives result (result_line (document doc)) }
 {
-    let mut text = write_doc(alloc, &doc)?;
+    let mut text = write_owned(alloc, doc)?;
     text.push_str("\n")?;
     Ok(Answer { text, status: 0 })
 }

@@ -51,9 +51,9 @@ find-updated k m n w updates q =
 pub members-inserted : (k : List ℕ) (m n : BTreeMap (String Global) Doc) (d : Doc) → UpdatesBy string_cmp (λ l. name_cmp k (string_bytes l)) m n (Some d) → members n.entries ≡ put k (document d) (members m.entries)
 members-inserted k m n d updates =
     members_same (members n.entries) (put k (document d) (members m.entries)) (IsMap-members n.entries) (IsMap-put k (document d) (members m.entries) (IsDocument-document d) (IsMap-members m.entries))
-        (λ q. find-updated k m n (Some d) updates q ∙ sym (find-put q k (document d) (members m.entries)))
+    (λ q. find-updated k m n (Some d) updates q ∙ sym (find-put q k (document d) (members m.entries)))
 
 pub members-removed : (k : List ℕ) (m n : BTreeMap (String Global) Doc) → UpdatesBy string_cmp (λ l. name_cmp k (string_bytes l)) m n None → members n.entries ≡ without k (members m.entries)
 members-removed k m n updates =
     members_same (members n.entries) (without k (members m.entries)) (IsMap-members n.entries) (IsMap-without k (members m.entries) (IsMap-members m.entries))
-        (λ q. find-updated k m n None updates q ∙ sym (find-without q k (members m.entries) (IsMap-members m.entries)))
+    (λ q. find-updated k m n None updates q ∙ sym (find-without q k (members m.entries) (IsMap-members m.entries)))

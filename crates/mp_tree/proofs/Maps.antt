@@ -82,12 +82,12 @@ find-without_at : (b : Bool) (q k m : List ℕ) (d : Document) (ms : Members) �
 find-without_at true q k m d ms is below later =
     let same = same_name k m is in
     cases_same q k
-        (λ here. rw (here, is_name-self) (subst (λ n. find n ms ≡ None) (sym same) (find-below m ms below)))
-        (λ other. let apart : is_name q m ≡ false = subst (λ n. is_name q n ≡ false) same other in rw (other, apart) refl)
+    (λ here. rw (here, is_name-self) (subst (λ n. find n ms ≡ None) (sym same) (find-below m ms below)))
+    (λ other. let apart : is_name q m ≡ false = subst (λ n. is_name q n ≡ false) same other in rw (other, apart) refl)
 find-without_at false q k m d ms is below later =
     cases_same q k
-        (λ here. let apart : is_name q m ≡ false = subst (λ n. is_name n m ≡ false) (sym here) is in rw apart later)
-        (λ other. let plain : find q (without k ms) ≡ find q ms = later ∙ ap (λ b. cond b None (find q ms)) other in rw other (ap (λ r. cond (is_name q m) (Some d) r) plain))
+    (λ here. let apart : is_name q m ≡ false = subst (λ n. is_name n m ≡ false) (sym here) is in rw apart later)
+    (λ other. let plain : find q (without k ms) ≡ find q ms = later ∙ ap (λ b. cond b None (find q ms)) other in rw other (ap (λ r. cond (is_name q m) (Some d) r) plain))
 
 pub find-without : (q k : List ℕ) (ms : Members) → IsMap ms → find q (without k ms) ≡ cond (is_name q k) None (find q ms)
 find-without q k no_members map = sym (no_choice (is_name q k))
