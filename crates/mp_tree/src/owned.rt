@@ -27,6 +27,7 @@ pub fn write_owned(alloc: Global, doc: Doc) -> Result<String, AllocError>
 }
 
 #[cycle(value_of)]
+#[inline(always)]
 fn value_of(doc: Doc, alloc: Global) -> Result<Value, AllocError>
     ensures { IfOk result (λ v. view v ≡ data_of (document doc)) }
 {

@@ -40,6 +40,7 @@ impl<T: Drop> From<AllocFailed<T>> for Unread {
 }
 
 #[cycle(doc_of)]
+#[inline(always)]
 pub(crate) fn doc_of(value: Value, alloc: Global) -> Result<Doc, Unread>
     ensures ok { IfOk result (λ d. document_from (view value) ≡ Some (document d)) }
     ensures not_whole { result ≡ Err Unread.NotWhole → document_from (view value) ≡ None }
