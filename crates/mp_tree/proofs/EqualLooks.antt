@@ -1,7 +1,7 @@
 -- Two documents are equal exactly if their looks are equal at every path.
-use Rattle.std.proofs.Common.{◌≡◌, ◌↔◌, ℕ, List, [], ◌∷◌, Bool, true, false, cond, Option, Some, None, IfSome, refl, sym, ap, subst}
+use Rattle.std.proofs.Common.{◌≡◌, ℕ, List, [], ◌∷◌, true, false, cond, Option, Some, None, IfSome, refl, sym, ap}
 use Rattle.mp_tree.specs.Document.{Document, null, flag, whole, string, list, object, Members, no_members, member, is_name, find, IsDocument, IsMap}
-use Rattle.mp_tree.specs.Look.{Path, Look, nothing, an_object, plain, look, look_of, look_here}
+use Rattle.mp_tree.specs.Look.{Path, nothing, plain, look, look_of, look_here}
 use Rattle.mp_tree.specs.Laws.{EqualLooks}
 use Rattle.mp_tree.proofs.Maps.{members_same}
 

@@ -7,6 +7,7 @@ use Rattle.std.specs.Ordering.{nat_cmp, match_ordering, is_eq}
 use Rattle.std.specs.Cmp.Lexicographic.{slice_cmp}
 
 mutual
+  -- a JSON value
   pub data Document : Type 0 where
     null : Document
     flag : Bool → Document

@@ -6,12 +6,13 @@ use Rattle.mp_tree.specs.Document.{Document, null, flag, whole, string, list, ob
 abbrev pub Path : Type 0
 Path = List (List ℕ)
 
+-- what stands at a path: nothing, a map, or a value that is no map
 pub data Look : Type 0 where
   nothing : Look
   an_object : Look
   plain : Document → Look
 
--- the document itself, where it is no map
+-- the look at the empty path: the document itself, where it is no map
 abbrev pub look_here : Document → Look
 look_here null = plain null
 look_here (flag b) = plain (flag b)
@@ -35,5 +36,6 @@ look_of None w = nothing
 look_of (Some d) [] = look_here d
 look_of (Some d) (n ∷ w) = look_of (at_name n d) w
 
+-- what stands in d at the path w
 abbrev pub look : Document → Path → Look
 look d w = look_of (Some d) w

@@ -41,23 +41,28 @@ abbrev mutual
 abbrev pub reading : List ℕ → Option Data
 reading bytes = if is_utf8 bytes then serde_json.read bytes else None
 
+-- the document of what is read: none where there is no reading, or a number that is not whole
 abbrev pub read : List ℕ → Option Document
 read bytes = option_and_then document_from (reading bytes)
 
 -- ---- the elements of the array that the bytes are, or the first fault: not JSON, a number that is not whole, no array
 
+-- the elements of a list, and a fault for any other document
 abbrev pub elements : Document → Result Items DocsFault
 elements (list ds) = Ok ds
 elements _ = Err NotAnArray
 
+-- of a document, where all numbers were whole
 abbrev whole_or_fault : Option Document → Result Items DocsFault
 whole_or_fault None = Err NotWhole
 whole_or_fault (Some d) = elements d
 
+-- of a reading, where there was one
 abbrev read_or_fault : Option Data → Result Items DocsFault
 read_or_fault None = Err NotJson
 read_or_fault (Some d) = whole_or_fault (document_from d)
 
+-- the elements that the bytes give, or their first fault
 abbrev pub documents_in : List ℕ → Result Items DocsFault
 documents_in bytes = read_or_fault (reading bytes)
 
@@ -67,19 +72,23 @@ documents_in bytes = read_or_fault (reading bytes)
 abbrev pub shallow : Document → Result Document ReadFault
 shallow d = if nat_le (depth d) depth_limit then Ok d else Err fault.TooDeep
 
+-- of a document, where all numbers were whole
 abbrev whole_document : Option Document → Result Document ReadFault
 whole_document None = Err fault.NotWhole
 whole_document (Some d) = shallow d
 
+-- of a reading, where there was one
 abbrev document_read : Option Data → Result Document ReadFault
 document_read None = Err fault.NotJson
 document_read (Some d) = whole_document (document_from d)
 
+-- the document that the bytes give, or their first fault
 abbrev pub document_in : List ℕ → Result Document ReadFault
 document_in bytes = document_read (reading bytes)
 
 -- ---- writing
 
+-- the value that is written for a document, for its elements and for its members
 abbrev mutual
   pub data_of : Document → Data
   data_of null = json.null

@@ -10,10 +10,12 @@ use Rattle.mp_tree.specs.declared.doc.Doc.TheOpen.{Doc-F}
 abbrev pub number_of : Whole → ℤ
 number_of n = n.value
 
+-- the elements of a list of documents
 abbrev pub items_of : List Document → Items
 items_of [] = no_items
 items_of (d ∷ ds) = item d (items_of ds)
 
+-- the map of a list of pairs
 abbrev pub members_of : List (List ℕ × Document) → Members
 members_of [] = no_members
 members_of (m ∷ ms) = put m.0 m.1 (members_of ms)
@@ -31,6 +33,7 @@ document_step (Doc-F.Text s) = string (string_bytes s)
 document_step (Doc-F.Items v) = list (items_of v.items)
 document_step (Doc-F.Members m) = object (members_of (named m.entries))
 
+-- the document that a `Doc` means
 abbrev pub document : Doc → Document
 document = fold-Doc Document document_step
 

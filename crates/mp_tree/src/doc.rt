@@ -1,3 +1,4 @@
+//! Documents: copies, equality and depth.
 ghost use Rattle.std.specs.Prelude.{◌≡◌, ◌≤◌, ◌↔◌, IfOk, IsTrue};
 
 use crate::built::map_of;
@@ -12,11 +13,17 @@ use std::collections::BTreeMap;
 /// `Members` has each name once, in the order of the names' UTF-8 bytes.
 #[derive(Drop)]
 pub enum Doc {
+    /// `null`
     Null,
+    /// `true` or `false`
     Flag(bool),
+    /// a number (RFC 8259 section 6), a whole one
     Whole(Whole),
+    /// a string (RFC 8259 section 7)
     Text(String),
+    /// an array (RFC 8259 section 5)
     Items(Vec<Doc>),
+    /// an object (RFC 8259 section 4)
     Members(BTreeMap<String, Doc>),
 }
 
@@ -25,6 +32,10 @@ impl Doc {
     ghost use Rattle.mp_tree.specs.View.{document};
 
     /// An equal document, which shares nothing with this one. `AllocError` where memory ran out.
+    ///
+    /// ```text
+    /// doc.copy(alloc)?.same(&doc)  // true
+    /// ```
     pub fn copy(&self, alloc: Global) -> Result<Doc, AllocError>
         ensures equal { IfOk result (λ d. document d ≡ document self.now) }
     {

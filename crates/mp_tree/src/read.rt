@@ -1,3 +1,4 @@
+//! Documents from JSON texts.
 ghost use Rattle.std.specs.Prelude.{◌≡◌, ◌≢◌, ◌≤◌, All, None, Some, IsSome, Ok, Err, IfOk, IfErr};
 ghost use Rattle.serde_json.specs.Read.{max_depth};
 ghost use Rattle.mp_tree.specs.Document.{depth, depth_limit};
@@ -16,12 +17,16 @@ const DEPTH_LIMIT: u32 = 126;
 /// Why bytes gave no document.
 #[derive(Clone, Copy, Debug, Drop, PartialEq, Eq, Error)]
 pub enum ReadFault {
+    /// no JSON text of nesting at most 127, or not UTF-8
     #[error("not JSON")]
     NotJson,
+    /// a number with a fraction or an exponent, or outside -2^63 to 2^64 - 1
     #[error("number not whole")]
     NotWhole,
+    /// the depth is 127
     #[error("too deep")]
     TooDeep,
+    /// memory ran out
     #[error("out of memory")]
     OutOfMemory,
 }
@@ -67,12 +72,16 @@ impl From<Unread> for ReadFault {
 /// Why bytes gave no list of documents.
 #[derive(Clone, Copy, Debug, Drop, PartialEq, Eq, Error)]
 pub enum DocsFault {
+    /// no JSON text of nesting at most 127, or not UTF-8
     #[error("not JSON")]
     NotJson,
+    /// a number with a fraction or an exponent, or outside -2^63 to 2^64 - 1
     #[error("number not whole")]
     NotWhole,
+    /// the value is no array
     #[error("not an array")]
     NotAnArray,
+    /// memory ran out
     #[error("out of memory")]
     OutOfMemory,
 }

@@ -1,3 +1,4 @@
+//! The numbers of documents.
 ghost use Rattle.std.specs.Prelude.{◌≡◌, ◌^◌, ◌-◌, ◌≤ℤ◌, pos, negsuc};
 
 /// A whole number from -2^63 to 2^64 - 1: what a document's number (RFC 8259 section 6) may be.

@@ -1,3 +1,4 @@
+//! JSON texts from documents.
 ghost use Rattle.std.specs.Prelude.{◌≡◌, ◌≤◌, Some, IfOk, string_bytes};
 ghost use Rattle.serde_json.specs.View.{view, items_view, members_view, number_view};
 ghost use Rattle.mp_tree.specs.Document.{string, depth, depth_limit};
