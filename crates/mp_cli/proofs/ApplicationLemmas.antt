@@ -2,8 +2,8 @@
 use Rattle.std.proofs.Common.{◌≡◌, ℕ, List, [], ◌∷◌, Bool, true, false, cond, Option, Some, None, IfSome, refl, sym, ap, ap₂, ◌∙◌, subst}
 use Rattle.mp_tree.specs.Document.{Document, null, flag, whole, string, list, object, Members, no_members, member, is_name, find, put, without, IsDocument, IsMap, IsBelow}
 use Rattle.mp_cli.specs.Application.{target_members, changed, mp, mp_members, unless_null, after_patch, AppliesAtEachName}
-use Rattle.mp_tree.proofs.Maps.{find-put, find-without, find-below, IsMap-put, IsMap-without, members_same}
-use Rattle.mp_tree.proofs.Names.{cases_same, is_name-self}
+use Rattle.mp_tree.proofs.Facts.{find-put, find-without, find-below, IsMap-put, IsMap-without, members_same}
+use Rattle.mp_tree.proofs.Facts.{cases_same, is_name-self}
 
 -- ---- the result is a document
 

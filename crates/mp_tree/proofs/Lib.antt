@@ -2,6 +2,7 @@ pub mod Ascending
 pub mod BuiltMaps
 pub mod Depths
 pub mod EqualLooks
+pub mod Facts
 pub mod FromData
 pub mod IntoData
 pub mod Lists

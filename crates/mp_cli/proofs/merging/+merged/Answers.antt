@@ -4,8 +4,8 @@ use Rattle.std.specs.Map.{keys_of}
 use Rattle.mp_tree.specs.Document.{null, object, find, put, without, IsMap}
 use Rattle.mp_tree.specs.View.{document, members}
 use Rattle.mp_tree.specs.declared.doc.Doc.{Doc}
-use Rattle.mp_tree.proofs.MapEdits.{IsMap-members, members-cons, find-members, members-inserted, members-removed}
-use Rattle.mp_tree.proofs.Meaning.{IsDocument-document, document-Members}
+use Rattle.mp_tree.proofs.Facts.{IsMap-members, members-cons, find-members, members-inserted, members-removed}
+use Rattle.mp_tree.proofs.Facts.{IsDocument-document, document-Members}
 use Rattle.mp_cli.specs.Application.{changed, mp, mp_members}
 use Rattle.mp_cli.proofs.ApplicationLemmas.{mp_members-step, put-without, changed-other}
 use Rattle.mp_cli.proofs.merging.+merged.Goals as goal

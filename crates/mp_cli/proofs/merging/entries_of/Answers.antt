@@ -1,6 +1,6 @@
 use Rattle.std.proofs.Common.{◌≡◌, Option, Some, option_map, ap, sym, ◌∙◌}
 use Rattle.mp_tree.specs.View.{document}
-use Rattle.mp_tree.proofs.Meaning.{document-Members}
+use Rattle.mp_tree.proofs.Facts.{document-Members}
 use Rattle.mp_cli.specs.Application.{target_members}
 use Rattle.mp_cli.proofs.merging.entries_of.Goals as goal
 
