@@ -5,6 +5,8 @@ pub mod fault;
 pub mod laws;
 pub mod pointer;
 mod spelling;
+#[cfg(test)]
+mod tests;
 pub mod walk;
 
 pub use fault::PointerFault;
