@@ -1,0 +1,14 @@
+//! JSON Pointer (RFC 6901): pointers as lists of tokens, their spelling, and the part of a document that one names.
+#![tactic(auto)]
+
+pub mod fault;
+pub mod laws;
+pub mod pointer;
+mod spelling;
+#[cfg(test)]
+mod tests;
+pub mod walk;
+
+pub use fault::PointerFault;
+pub use pointer::Pointer;
+pub use walk::{get, index_of};

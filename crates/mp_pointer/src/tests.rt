@@ -1,0 +1,144 @@
+//! Worked values: spellings, indices, and the example document of RFC 6901 section 5.
+use crate::{Pointer, PointerFault, get, index_of};
+use mp_tree::{read_docs, write_doc};
+use std::process::Abort;
+use std::test::Fail;
+
+/// The example document, in an array.
+const EXAMPLE: &str =
+    r#"[{"":0," ":7,"a/b":1,"c%d":2,"e^f":3,"foo":["bar","baz"],"g|h":4,"i\\j":5,"k\"l":6,"m~n":8}]"#;
+
+/// Documents in an array, pointers into them, and the parts that are there.
+const PARTS: &[(&str, &str, Option<&str>)] = &[
+    (
+        EXAMPLE,
+        "",
+        Some(
+            r#"{"":0," ":7,"a/b":1,"c%d":2,"e^f":3,"foo":["bar","baz"],"g|h":4,"i\\j":5,"k\"l":6,"m~n":8}"#,
+        ),
+    ),
+    (EXAMPLE, "/foo", Some(r#"["bar","baz"]"#)),
+    (EXAMPLE, "/foo/0", Some(r#""bar""#)),
+    (EXAMPLE, "/", Some("0")),
+    (EXAMPLE, "/a~1b", Some("1")),
+    (EXAMPLE, "/c%d", Some("2")),
+    (EXAMPLE, "/e^f", Some("3")),
+    (EXAMPLE, "/g|h", Some("4")),
+    (EXAMPLE, r"/i\j", Some("5")),
+    (EXAMPLE, r#"/k"l"#, Some("6")),
+    (EXAMPLE, "/ ", Some("7")),
+    (EXAMPLE, "/m~0n", Some("8")),
+    (r#"[{"~1":3}]"#, "/~01", Some("3")),
+    ("[5]", "", Some("5")),
+    (r#"[{"":1}]"#, "/", Some("1")),
+    ("[5]", "/a", None),
+    (r#"[{"foo":["bar","baz"]}]"#, "/foo/1", Some(r#""baz""#)),
+    (r#"[{"foo":["bar","baz"]}]"#, "/foo/2", None),
+    (r#"[{"foo":["bar","baz"]}]"#, "/foo/01", None),
+    (r#"[{"foo":["bar","baz"]}]"#, "/foo/-", None),
+];
+
+/// Texts that are no pointer.
+const REFUSED: &[(&str, PointerFault)] = &[
+    ("foo", PointerFault::NoSlash),
+    ("foo~", PointerFault::NoSlash),
+    ("/a~2", PointerFault::BadTilde(2)),
+    ("/~", PointerFault::BadTilde(1)),
+    ("/~0/é~/~2", PointerFault::BadTilde(6)),
+];
+
+const INDICES: &[(&str, Option<usize>)] = &[
+    ("0", Some(0)),
+    ("10", Some(10)),
+    ("01", None),
+    ("", None),
+    ("-", None),
+    ("+1", None),
+    ("1é", None),
+    ("18446744073709551615", Some(usize::MAX)),
+    ("18446744073709551616", None),
+];
+
+const FAULTS: &[(PointerFault, &str)] = &[
+    (PointerFault::NoSlash, "no slash"),
+    (PointerFault::BadTilde(12), "bad tilde at 12"),
+    (PointerFault::OutOfMemory, "out of memory"),
+];
+
+fn check_print<R: Abort + AllocGlobal>(rt: &R, pointer: &Pointer, spelling: &str) {
+    let printed = pointer
+        .print(rt.alloc())
+        .expect(rt, "memory for a spelling");
+    assert_eq!(rt; printed.as_str(), spelling);
+}
+
+#[test]
+fn parts(rt: HostRuntime) -> Result<(), Fail> {
+    for (input, text, wanted) in PARTS {
+        let docs = read_docs(rt.alloc(), input.as_bytes())?;
+        let pointer = Pointer::parse(rt.alloc(), text)?;
+        check_print(&rt, &pointer, text);
+        let Some(doc) = docs.first() else {
+            panic!(rt; "no document in {input}")
+        };
+        match get(doc, &pointer) {
+            Some(part) => {
+                let found = write_doc(rt.alloc(), part)?;
+                assert_eq!(rt; Some(found.as_str()), *wanted, "at {text} in {input}");
+            }
+            None => assert_eq!(rt; None, *wanted, "at {text} in {input}"),
+        }
+    }
+    Ok(())
+}
+
+#[test]
+fn refused(rt: HostRuntime) {
+    for (text, fault) in REFUSED {
+        match Pointer::parse(rt.alloc(), text) {
+            Ok(_) => panic!(rt; "{text} is no pointer"),
+            Err(found) => assert_eq!(rt; found, *fault, "at {text}"),
+        }
+    }
+}
+
+#[test]
+fn tokens(rt: HostRuntime) -> Result<(), Fail> {
+    let pointer = Pointer::parse(rt.alloc(), "/a~1b/~0")?;
+    assert_eq!(rt; pointer.len(), 2);
+    assert_eq!(rt; pointer.token(0), Some("a/b"));
+    assert_eq!(rt; pointer.token(1), Some("~"));
+    assert_eq!(rt; pointer.token(2), None);
+    check_print(&rt, &pointer, "/a~1b/~0");
+    check_print(&rt, &pointer.copy(rt.alloc())?, "/a~1b/~0");
+    check_print(&rt, &pointer.child(rt.alloc(), "x/")?, "/a~1b/~0/x~1");
+    check_print(&rt, &pointer.front(rt.alloc(), 1)?, "/a~1b");
+    check_print(&rt, &Pointer::empty(rt.alloc()), "");
+    Ok(())
+}
+
+#[test]
+fn proper_prefixes(rt: HostRuntime) -> Result<(), Fail> {
+    let pointer = Pointer::parse(rt.alloc(), "/a")?;
+    for (text, wanted) in [("/a/b", true), ("/a", false), ("/ab", false), ("", false)] {
+        let other = Pointer::parse(rt.alloc(), text)?;
+        assert_eq!(rt; pointer.is_proper_prefix_of(&other), wanted, "of {text}");
+    }
+    Ok(())
+}
+
+#[test]
+fn indices(rt: HostRuntime) {
+    for (token, wanted) in INDICES {
+        assert_eq!(rt; index_of(token), *wanted, "of {token:?}");
+    }
+}
+
+#[test]
+fn fault_texts(rt: HostRuntime) -> Result<(), Fail> {
+    for (fault, text) in FAULTS {
+        let shown = format!(in rt.alloc(); "{fault}")?;
+        assert_eq!(rt; shown.as_str(), *text);
+    }
+    Ok(())
+}
