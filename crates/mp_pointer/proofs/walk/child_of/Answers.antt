@@ -3,8 +3,8 @@ use Rattle.std.specs.List.{slice_get}
 use Rattle.std.specs.Option.{option_copied}
 use Rattle.mp_tree.specs.Document.{list, object}
 use Rattle.mp_tree.specs.View.{document, items, members}
-use Rattle.mp_tree.proofs.MapEdits.{find-members}
-use Rattle.mp_tree.proofs.Meaning.{document-Null, document-Flag, document-Whole, document-Text, document-Items, document-Members}
+use Rattle.mp_tree.proofs.Facts.{find-members}
+use Rattle.mp_tree.proofs.Facts.{document-Null, document-Flag, document-Whole, document-Text, document-Items, document-Members}
 use Rattle.mp_pointer.specs.Part.{child}
 use Rattle.mp_pointer.proofs.IndexLemmas.{child-numeral, child-no_index, count_of-items, item_at, nth-items, seen}
 use Rattle.mp_pointer.proofs.walk.child_of.Goals as goal
