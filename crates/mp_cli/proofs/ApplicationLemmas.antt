@@ -1,6 +1,6 @@
 -- Application at each name, and one name after another.
-use Rattle.std.proofs.Common.{◌≡◌, ℕ, List, [], ◌∷◌, Bool, true, false, cond, Option, Some, None, IfSome, refl, sym, ap, ap₂, ◌∙◌, subst}
-use Rattle.mp_tree.specs.Document.{Document, null, flag, whole, string, list, object, Members, no_members, member, is_name, find, put, without, IsDocument, IsMap, IsBelow}
+use Rattle.std.proofs.Common.{◌≡◌, ℕ, List, Bool, true, false, cond, Option, Some, None, IfSome, refl, sym, ap, ◌∙◌}
+use Rattle.mp_tree.specs.Document.{Document, null, flag, whole, string, list, object, Members, no_members, member, is_name, find, put, IsDocument, IsMap}
 use Rattle.mp_cli.specs.Application.{target_members, changed, mp, mp_members, unless_null, after_patch, AppliesAtEachName}
 use Rattle.mp_tree.proofs.Facts.{find-put, find-without, find-below, IsMap-put, IsMap-without, members_same}
 use Rattle.mp_tree.proofs.Facts.{cases_same, is_name-self}
@@ -87,12 +87,7 @@ mp_members-step ts n p ps targets good =
     ∙ sym (find-mp_members now ps now_map good.2 q) in
     members_same (mp_members ts (member n p ps)) (mp_members now ps) (IsMap-mp_members ts (member n p ps) targets good) (IsMap-mp_members now ps now_map good.2) same
 
--- what was taken out is set
-pub put-without : (n : List ℕ) (d : Document) (ms : Members) → IsDocument d → IsMap ms → put n d (without n ms) ≡ put n d ms
-put-without n d ms good map =
-    members_same (put n d (without n ms)) (put n d ms) (IsMap-put n d (without n ms) good (IsMap-without n ms map)) (IsMap-put n d ms good map)
-    (λ q. find-put q n d (without n ms) ∙ cases_same q n (λ here. rw (here, is_name-self, find-put, is_name-self)) (λ other. rw other (find-without q n ms map ∙ rw other (sym (find-put q n d ms ∙ rw other)))))
-
+-- a value that is no null is set
 pub changed-other : (n : List ℕ) (p d : Document) (ms : Members) → (p ≡ null → ⊥) → changed n p d ms ≡ put n d ms
 changed-other n null d ms other = absurd (other refl)
 changed-other n (flag b) d ms other = refl

@@ -7,6 +7,7 @@ ghost use Rattle.mp_cli.specs.Application.{changed, mp, mp_members, target_membe
 use mp_tree::Doc;
 use std::alloc::{AllocError, Global};
 use std::collections::BTreeMap;
+use std::mem;
 
 // The patch comes first: the recursion goes down it.
 #[cycle(merged)]
@@ -62,11 +63,21 @@ fn change_entry(
         members entries.new.entries
         ≡ changed n (document change) (mp (find n ts) (document change)) ts) }
 {
-    let target = entries.remove(name.as_str());
-    if !is_null(&change) {
-        drop(entries.insert(name, merged(change, target, alloc)?)?);
+    if is_null(&change) {
+        drop(entries.remove(name.as_str()));
+        return Ok(());
     }
-    Ok(())
+    match entries.get_mut(name.as_str()) {
+        Some(slot) => {
+            let target = mem::replace(slot, Doc::Null);
+            *slot = merged(change, Some(target), alloc)?;
+            Ok(())
+        }
+        None => {
+            drop(entries.insert(name, merged(change, None, alloc)?)?);
+            Ok(())
+        }
+    }
 }
 
 fn is_null(doc: &Doc) -> bool
