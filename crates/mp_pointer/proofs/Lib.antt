@@ -1,4 +1,5 @@
 pub mod IndexLemmas
+pub mod KindLemmas
 pub mod PartLemmas
 pub mod SpellingLemmas
 pub mod TokenLemmas

@@ -1,9 +1,10 @@
 -- Parts along a list of tokens, and documents that differ at one place alone.
-use Rattle.std.proofs.Common.{◌≡◌, ℕ, List, [], ◌∷◌, ◌++◌, Option, None, Some, option_and_then, refl, sym, ap, ◌∙◌, append_assoc}
-use Rattle.mp_tree.specs.Document.{Document, list, object, Items, Members, find}
+use Rattle.std.proofs.Common.{◌≡◌, ℕ, List, [], ◌∷◌, ◌++◌, Option, None, Some, option_and_then, refl, sym, ap, ◌∙◌, append_assoc, ◌≢◌, ap₂, true≢false}
+use Rattle.mp_tree.specs.Document.{is_name, Document, list, object, Items, Members, find}
+use Rattle.mp_tree.proofs.Names.{cases_same, is_name-self}
 use Rattle.mp_pointer.specs.Only.{DifferOnlyAt}
-use Rattle.mp_pointer.specs.Part.{child, element_from, part, kind, kind_of}
-use Rattle.mp_pointer.specs.Spelling.{Tokens}
+use Rattle.mp_pointer.specs.Part.{child, element_from, part, kind, kind_here, kind_of}
+use Rattle.mp_pointer.specs.Spelling.{Tokens, BeginsWith}
 
 pub child-object : (token : List ℕ) (ms : Members) → child token (object ms) ≡ find token ms
 unfolding child
@@ -58,3 +59,14 @@ DifferOnlyAt-root d e u apart = absurd (apart (u, refl))
 -- what differs at a longer list alone differs at its front alone
 pub DifferOnlyAt-front : (s t : Tokens) (d e : Document) → DifferOnlyAt (s ++ t) d e → DifferOnlyAt s d e
 DifferOnlyAt-front s t d e only u apart = only u (λ begins. apart (t ++ begins.0, begins.1 ∙ append_assoc s t begins.0))
+
+-- where two documents of one kind have the same children but for that of one token, and those differ at t alone
+pub DifferOnlyAt-child : (token : List ℕ) (t : Tokens) (d e x y : Document) → kind_here d ≡ kind_here e → ((m : List ℕ) → m ≢ token → child m d ≡ child m e) → child token d ≡ Some x → child token e ≡ Some y → DifferOnlyAt t x y
+    → DifferOnlyAt (token ∷ t) d e
+DifferOnlyAt-child token t d e x y alike others here there only [] apart = alike
+DifferOnlyAt-child token t d e x y alike others here there only (m ∷ u) apart =
+    cases_same m token
+    (λ same.
+    let apart_there : ¬ BeginsWith u t = λ begins. apart (begins.0, ap₂ (λ a b. a ∷ b) same begins.1) in
+    ap (λ n. kind d (n ∷ u)) same ∙ ap (λ o. kind_of (option_and_then (λ f. part f u) o)) here ∙ only u apart_there ∙ ap (λ o. kind_of (option_and_then (λ f. part f u) o)) (sym there) ∙ ap (λ n. kind e (n ∷ u)) (sym same))
+    (λ other. ap (λ o. kind_of (option_and_then (λ f. part f u) o)) (others m (λ same. true≢false (sym (is_name-self token) ∙ ap (λ n. is_name n token) (sym same) ∙ other))))

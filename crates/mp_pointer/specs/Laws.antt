@@ -1,5 +1,8 @@
 -- Laws of pointers alone. Each is the contract of a function of the module `laws` that runs nothing.
-use Rattle.std.specs.Prelude.{◌≡◌, ◌↔◌, ℕ, List, Ok}
+use Rattle.std.specs.Prelude.{◌≡◌, ◌↔◌, ℕ, List, Some, Ok}
+use Rattle.mp_tree.specs.Document.{Document, IsDocument}
+use Rattle.mp_pointer.specs.Only.{DifferOnlyAt}
+use Rattle.mp_pointer.specs.Part.{part}
 use Rattle.mp_pointer.specs.Spelling.{Tokens, spell, tokens_in}
 
 -- different lists of tokens have different spellings (RFC 6901 section 3)
@@ -9,3 +12,7 @@ HasOneSpelling = (s t : Tokens) → spell s ≡ spell t → s ≡ t
 -- a text is read as the list that it spells, and as no other
 abbrev pub ReadsSpellings : Type 0
 ReadsSpellings = (text : List ℕ) (t : Tokens) → (tokens_in text ≡ Ok t) ↔ (text ≡ spell t)
+
+-- documents that differ only at t and have the same part there are equal (RFC 6901 section 4)
+abbrev pub EqualsByPart : Type 0
+EqualsByPart = (t : Tokens) (d e x : Document) → IsDocument d → IsDocument e → DifferOnlyAt t d e → part d t ≡ Some x → part e t ≡ Some x → d ≡ e

@@ -1,5 +1,5 @@
 //! Laws of pointers alone: each function runs nothing, and its contract is the law.
-ghost use Rattle.mp_pointer.specs.Laws.{HasOneSpelling, ReadsSpellings};
+ghost use Rattle.mp_pointer.specs.Laws.{EqualsByPart, HasOneSpelling, ReadsSpellings};
 
 /// Different lists of tokens have different spellings (RFC 6901 section 3).
 pub fn one_spelling()
@@ -9,4 +9,9 @@ pub fn one_spelling()
 /// A text is read as the list of tokens that it spells, and as no other.
 pub fn spellings_are_read()
     ensures { ReadsSpellings }
+{}
+
+/// Documents that differ only at one place and have the same part there are equal (RFC 6901 section 4).
+pub fn equal_by_part()
+    ensures { EqualsByPart }
 {}
