@@ -1,0 +1,4 @@
+pub mod IndexLemmas
+pub mod PartLemmas
+pub mod SpellingLemmas
+pub mod TokenLemmas

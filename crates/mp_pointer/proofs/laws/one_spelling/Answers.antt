@@ -1,0 +1,5 @@
+use Rattle.mp_pointer.proofs.SpellingLemmas.{has_one_spelling}
+use Rattle.mp_pointer.proofs.laws.one_spelling.Goals as goal
+
+pub returns : goal.returns
+returns c = has_one_spelling

@@ -1,0 +1,4 @@
+pub mod Laws
+pub mod Only
+pub mod Part
+pub mod Spelling

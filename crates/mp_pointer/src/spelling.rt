@@ -1,0 +1,88 @@
+// From a spelling to its tokens and back.
+ghost use Rattle.std.specs.Prelude.{◌≡◌, ◌≢◌, ◌+◌, ◌++◌, ◌∷◌, map, ◌<◌, ◌↔◌, ◌⊎◌, ℕ, length, slice_index, IsTrue, MatchOption, IfOk, OnOk, None, string_bytes};
+ghost use Rattle.mp_pointer.specs.Spelling.{escape, spell, first_bad_tilde, IsBadTilde, IsFirstBadTilde};
+
+use std::alloc::{AllocError, Global};
+
+pub(crate) fn bad_tilde(text: &[u8]) -> Option<usize>
+    ensures { MatchOption result ((k : ℕ) → ¬ (IsBadTilde text.now k)) (IsFirstBadTilde text.now) }
+{
+    for (place, byte) in text.iter().enumerate() {
+        if *byte == b'~' && !is_escape(text, place + 1) {
+            return Some(place);
+        }
+    }
+    None
+}
+
+fn is_escape(text: &[u8], place: usize) -> bool
+    ensures { IsTrue result ↔ (slice_index text.now place ≡ 48) ⊎ (slice_index text.now place ≡ 49) }
+{
+    place < text.len() && (text[place] == b'0' || text[place] == b'1')
+}
+
+// The tokens of the spelling that is a slash and then `rest`.
+pub(crate) fn tokens_after(alloc: Global, rest: &str) -> Result<Vec<String>, AllocError>
+    requires { first_bad_tilde rest.now ≡ None }
+    ensures { IfOk result (λ tokens. spell (map string_bytes tokens.items) ≡ 47 ∷ rest.now) }
+{
+    let mut tokens = Vec::new(alloc);
+    let mut rest = rest;
+    'parts: while let Some((part, more)) = rest.split_once('/') {
+        tokens.push(unescaped(alloc, part)?)?;
+        rest = more;
+    }
+    tokens.push(unescaped(alloc, rest)?)?;
+    Ok(tokens)
+}
+
+// The token that is spelled between two slashes.
+pub(crate) fn unescaped(alloc: Global, spelled: &str) -> Result<String, AllocError>
+    requires between { (k : ℕ) → k < length spelled.now → slice_index spelled.now k ≢ 47 }
+    requires escapes { first_bad_tilde spelled.now ≡ None }
+    ensures { IfOk result (λ token. escape (string_bytes token) ≡ spelled.now) }
+{
+    let mut token = String::with_capacity(alloc, spelled.len())?;
+    let mut rest = spelled;
+    'escapes: while let Some((plain, after)) = rest.split_once('~') {
+        token.push_str(plain)?;
+        if let Some(more) = after.strip_prefix('0') {
+            token.push('~')?;
+            rest = more;
+        } else if let Some(more) = after.strip_prefix('1') {
+            token.push('/')?;
+            rest = more;
+        } else {
+            unreachable!();
+        }
+    }
+    token.push_str(rest)?;
+    Ok(token)
+}
+
+pub(crate) fn push_escaped(text: &mut String, token: &str) -> Result<(), AllocError>
+    ensures { OnOk result (string_bytes text.new ≡ string_bytes text.old ++ escape token.now) }
+{
+    let mut rest = token;
+    'tildes: while let Some((plain, more)) = rest.split_once('~') {
+        push_without_tildes(text, plain)?;
+        text.push_str("~0")?;
+        rest = more;
+    }
+    push_without_tildes(text, rest)?;
+    Ok(())
+}
+
+fn push_without_tildes(text: &mut String, token: &str) -> Result<(), AllocError>
+    requires { (k : ℕ) → k < length token.now → slice_index token.now k ≢ 126 }
+    ensures { OnOk result (string_bytes text.new ≡ string_bytes text.old ++ escape token.now) }
+{
+    let mut rest = token;
+    'slashes: while let Some((plain, more)) = rest.split_once('/') {
+        text.push_str(plain)?;
+        text.push_str("~1")?;
+        rest = more;
+    }
+    text.push_str(rest)?;
+    Ok(())
+}
