@@ -1,6 +1,6 @@
 -- Application at each name, and one name after another.
-use Rattle.std.proofs.Common.{◌≡◌, ℕ, List, [], ◌∷◌, Bool, true, false, cond, Option, Some, None, IfSome, refl, sym, ap, ap₂, ◌∙◌, subst}
-use Rattle.mp_tree.specs.Document.{Document, null, flag, whole, string, list, object, Members, no_members, member, is_name, find, put, without, IsDocument, IsMap, IsBelow}
+use Rattle.std.proofs.Common.{◌≡◌, ℕ, List, Bool, true, false, cond, Option, Some, None, IfSome, refl, sym, ap, ◌∙◌}
+use Rattle.mp_tree.specs.Document.{Document, null, flag, whole, string, list, object, Members, no_members, member, is_name, find, put, without, IsDocument, IsMap}
 use Rattle.mp_cli.specs.Application.{target_members, changed, mp, mp_members, unless_null, after_patch, AppliesAtEachName}
 use Rattle.mp_tree.proofs.Maps.{find-put, find-without, find-below, IsMap-put, IsMap-without, members_same}
 use Rattle.mp_tree.proofs.Names.{cases_same, is_name-self}

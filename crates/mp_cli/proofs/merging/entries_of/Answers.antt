@@ -1,4 +1,4 @@
-use Rattle.std.proofs.Common.{◌≡◌, Option, Some, option_map, ap, sym, ◌∙◌}
+use Rattle.std.proofs.Common.{Some, option_map, ap, sym, ◌∙◌}
 use Rattle.mp_tree.specs.View.{document}
 use Rattle.mp_tree.proofs.Meaning.{document-Members}
 use Rattle.mp_cli.specs.Application.{target_members}
