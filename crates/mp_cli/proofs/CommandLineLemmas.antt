@@ -1,9 +1,10 @@
 -- What `clap`'s reading of the program's command line gives.
-use Rattle.std.proofs.Common.{◌≡◌, ◌≢◌, ◌∙◌, ℕ, sym, ap, subst, refl, Bool, true, false, Option, None, Some, List, [], ◌∷◌, is_some, codes, option_map, inl, inr, ◌⊎◌}
+use Rattle.std.proofs.Common.{◌≡◌, ◌≢◌, ◌∙◌, ℕ, sym, ap, subst, refl, Bool, true, false, Option, None, Some, List, [], ◌∷◌, is_some, codes, option_map, inl, inr}
 use Rattle.std.specs.Prelude.{find, map}
 use Rattle.clap.proofs.CallerLemmas.{subcommand_required}
 use Rattle.clap.proofs.OnLiterals.{clap_on_literals}
-use Rattle.clap.proofs.WalkLemmas.{both}
+use Rattle.clap.proofs.WalkLemmas.{both, first_value-rows}
+use Rattle.mp_cli.proofs.GetWord.{get-word}
 use Rattle.std.specs.Borrow.{Bor}
 use Rattle.std.specs.Prelude.{Box}
 use Rattle.std.specs.Box.{box_value}
@@ -11,12 +12,12 @@ use Rattle.clap.specs.Simple.{Shape, app_of_fields, on_top, entered, rows_at, su
 use Rattle.clap.specs.declared.parser.matches.SubCommand.{SubCommand}
 use Rattle.clap.specs.declared.error.Error.{Error}
 use Rattle.clap.specs.declared.error.kind.ErrorKind.TheVariants.{DisplayHelp, OutOfMemory}
-use Rattle.clap.specs.Words.{App, Text, HasKind, HasMatchesOf, IsAmong, IsParsedFrom, Kinds, kind_of, app_of, built, is_simple, is_simple_and_free, new_app, subcommand_name_of, subcommand_of}
+use Rattle.clap.specs.Words.{App, Row, Text, fault_of, first_of, first_value, found_of, rows_of, HasKind, HasMatchesOf, IsAmong, IsParsedFrom, Kinds, kind_of, app_of, built, is_simple, is_simple_and_free, new_app, subcommand_name_of, subcommand_of}
 use Rattle.clap.specs.declared.builder.command.Command.{Command}
 use Rattle.clap.specs.declared.builder.command.Command.TheViews.{out-Command}
 use Rattle.clap.specs.declared.parser.matches.ArgMatches.{ArgMatches}
 use Rattle.clap.specs.declared.parser.matches.ArgMatches.TheViews.{out-ArgMatches, out-SubCommand}
-use Rattle.mp_cli.specs.CommandLine.{command_line, asked_for, HasMistake, IsSubcommand}
+use Rattle.mp_cli.specs.CommandLine.{command_line, asked_for, pointer_in, subcommands, HasMistake, HasPointer, IsOneOf, IsSubcommand}
 
 -- the line is of the kind whose matches and faults are functions of the words
 pub command_line-simple : is_simple_and_free command_line ≡ true
@@ -24,27 +25,23 @@ unfolding clap_on_literals command_line
 command_line-simple = refl
 
 -- the names of the line's subcommands, once it is built
-subcommand_words : map (λ (s : Shape). s.name) (built command_line).subs ≡ codes "merge" ∷ []
+subcommand_words : map (λ (s : Shape). s.name) (built command_line).subs ≡ map (λ (s : Shape). s.name) subcommands
 unfolding clap_on_literals command_line
 subcommand_words = refl
 
 -- a name that is found is one of the names
-IsOneOf : List Text → Text → Type 0
-IsOneOf [] name = ⊥
-IsOneOf (x ∷ xs) name = (name ≡ x) ⊎ IsOneOf xs name
-
 IfFound : List Text → Option Text → Type 0
 IfFound names None = Unit {0}
 IfFound names (Some name) = IsOneOf names name
 
 IfFound-more : (x : Text) (xs : List Text) (name : Option Text) → IfFound xs name → IfFound (x ∷ xs) name
-unfolding IfFound IsOneOf
+unfolding IfFound
 IfFound-more x xs None h = tt
 IfFound-more x xs (Some name) h = inr h
 
 find-name : (test : Shape → Bool) (words : List Text) (shapes : List Shape)
     → IfFound (map (λ (s : Shape). s.name) shapes) (option_map (λ e. e.0) (option_map (λ s. rows_at s words) (find test shapes)))
-unfolding IfFound IsOneOf
+unfolding IfFound
 find-name test words [] = tt
 find-name test words (s ∷ rest) = go (test s) refl (find-name test words rest)
   where
@@ -61,11 +58,10 @@ unfolding IfFound
 entered-name a None = tt
 entered-name a (Some p) = find-name _ p.1 a.subs
 
-known : (name : Option Text) → is_some name ≡ true → IfFound (codes "merge" ∷ []) name → IsSubcommand name
-unfolding IfFound IsOneOf
+known : (name : Option Text) → is_some name ≡ true → IfFound (map (λ (s : Shape). s.name) subcommands) name → IsSubcommand name
+unfolding IfFound
 known None some found = cc
-known (Some name) some (inl is) = is
-known (Some name) some (inr none) = absurd none
+known (Some name) some found = found
 
 -- a subcommand that the words name is one of the line's
 asked_for-known : (words : List Text) → is_some (asked_for words) ≡ true → IsSubcommand (asked_for words)
@@ -98,6 +94,41 @@ matches-known line m words is globals required parsed matches =
     let same = matches-asked_for line m words is matches in
     let met : is_some (subcommand_name_of m) ≡ true = some_name (out-ArgMatches m).subcommand ∙ subcommand_required line m parsed globals required in
     subst IsSubcommand (sym same) (asked_for-known words (ap is_some (sym same) ∙ met))
+
+-- and its rows are those that the words give
+pub matches-rows : (line : Command) (m : ArgMatches) (words : List Text) → app_of line ≡ command_line → HasMatchesOf (app_of line) words m
+    → subcommand_rows_of m ≡ subcommand_of command_line words
+matches-rows line m words is matches =
+    let simple : is_simple (app_of line) ≡ true = ap is_simple is ∙ (both _ _ command_line-simple).0 in
+    (matches simple).1 ∙ ap (λ a. subcommand_of a words) is
+
+-- where the line finds no fault in the words, `get` has its word
+pub matches-pointer : (line : Command) (m : ArgMatches) (words : List Text) → app_of line ≡ command_line → HasMatchesOf (app_of line) words m
+    → fault_of (app_of line) words ≡ [] → HasPointer (subcommand_rows_of m)
+matches-pointer line m words is matches none =
+    subst HasPointer (sym (matches-rows line m words is matches)) (get-word words (ap (λ a. fault_of a words) (sym is) ∙ none))
+
+pointer_in-rows : (entered : Option (Text × List Row)) (rows : List Row) → option_map (λ e. e.1) entered ≡ Some rows → pointer_in entered ≡ first_of (codes "POINTER") rows
+pointer_in-rows None rows is = cc
+pointer_in-rows (Some e) rows is =
+    let same : e.1 ≡ rows = cc in
+    ap (first_of (codes "POINTER")) same
+
+-- the word for POINTER is the first value that the subcommand's matches have for it
+pub pointer_in-first_value : (m found : ArgMatches) → option_map (λ e. e.1) (subcommand_rows_of m) ≡ Some (rows_of (found_of found))
+    → first_value (found_of found) (codes "POINTER") ≡ pointer_in (subcommand_rows_of m)
+pointer_in-first_value m found rows =
+    first_value-rows (found_of found) (codes "POINTER") ∙ sym (pointer_in-rows (subcommand_rows_of m) (rows_of (found_of found)) rows)
+
+some_pointer : (entered : Option (Text × List Row)) → option_map (λ e. e.0) entered ≡ Some (codes "get") → HasPointer entered → is_some (pointer_in entered) ≡ true
+some_pointer None is has = cc
+some_pointer (Some e) is has = has (let same : e.0 ≡ codes "get" = cc in same)
+
+-- the matches of `get` have a value for POINTER
+pub first_value-some : (m found : ArgMatches) → subcommand_name_of m ≡ Some (codes "get") → HasPointer (subcommand_rows_of m)
+    → option_map (λ e. e.1) (subcommand_rows_of m) ≡ Some (rows_of (found_of found)) → is_some (first_value (found_of found) (codes "POINTER")) ≡ true
+first_value-some m found name has rows =
+    ap is_some (pointer_in-first_value m found rows) ∙ some_pointer (subcommand_rows_of m) (sym (name-rows m) ∙ name) has
 
 -- help that is answered was asked for
 pub HasKind-help : (error : Error) (found faults : Kinds) → kind_of error ≡ DisplayHelp → found ≡ faults → HasKind found error → IsAmong DisplayHelp faults

@@ -1,3 +1,5 @@
 pub mod ApplicationLemmas
 pub mod CommandLineLemmas
+pub mod GetWord
+pub mod GivenWords
 pub mod RunLemmas

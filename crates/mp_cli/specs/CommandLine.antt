@@ -1,27 +1,52 @@
 -- The program's command line, in `clap`'s words, and what its reading of the words gives.
-use Rattle.std.specs.Prelude.{◌≡◌, ◌≢◌, ⊤, List, Option, None, Some, true, codes, option_map}
+use Rattle.std.specs.Prelude.{◌≡◌, ◌≢◌, ◌⊎◌, ⊤, List, [], ◌∷◌, Option, None, Some, IfSome, true, codes, fold, is_some, map, option_and_then, option_map, string_bytes}
 use Rattle.clap.specs.Simple.{on_top, new_shape}
-use Rattle.clap.specs.Words.{App, IsAmong, Kinds, Text, fault_of, new_app, subcommand_of, with_subcommand}
+use Rattle.clap.specs.Words.{App, IsAmong, Kinds, Row, Rule, Shape, Text, fault_of, first_of, new_app, new_rule, subcommand_of, with_subcommand}
 use Rattle.clap.specs.declared.error.kind.ErrorKind.{ErrorKind}
 use Rattle.clap.specs.declared.error.kind.ErrorKind.TheVariants.{DisplayHelp}
 use Rattle.mp_cli.specs.declared.command.Command.{Command}
-use Rattle.mp_cli.specs.declared.command.Command.TheVariants.{Merge}
+use Rattle.mp_cli.specs.declared.command.Command.TheVariants.{Get, Merge}
 use Rattle.mp_cli.specs.declared.command.CommandFault.{CommandFault}
 use Rattle.mp_cli.specs.declared.command.CommandFault.TheVariants.{Help, Usage, OutOfMemory}
 
+-- the word of `get`, which is required
+abbrev pub pointer_rule : Rule
+pointer_rule = record (new_rule (codes "POINTER")) { required = true }
+
+abbrev pub get_shape : Shape
+get_shape = record (new_shape (codes "get")) { rules = pointer_rule ∷ [] }
+
+-- the subcommands, in the order of the help
+abbrev pub subcommands : List Shape
+subcommands = get_shape ∷ new_shape (codes "merge") ∷ []
+
 -- `mergejoin`, which requires a subcommand, and has none of the name `help`
 unfoldable pub command_line : App
-command_line = with_subcommand
+command_line = fold with_subcommand
     (on_top (λ top. record top { subcommand_required = true; disable_help_subcommand = true })
-    (new_app (codes "mergejoin"))) (new_shape (codes "merge"))
+    (new_app (codes "mergejoin"))) subcommands
 
 -- the word that asks for a command
 abbrev pub word_of : Command → Text
+word_of (Get pointer) = codes "get"
 word_of Merge = codes "merge"
 
 -- the subcommand that the words name, the program's name first, where they name one
 abbrev pub asked_for : List Text → Option Text
 asked_for words = option_map (λ entered. entered.0) (subcommand_of command_line words)
+
+-- the word for POINTER by the matches of a subcommand
+abbrev pub pointer_in : Option (Text × List Row) → Option Text
+pointer_in entered = option_and_then (λ e. first_of (codes "POINTER") e.1) entered
+
+-- the word for POINTER by the matches of the subcommand that the words name
+abbrev pub pointer_given : List Text → Option Text
+pointer_given words = pointer_in (subcommand_of command_line words)
+
+-- `get` has the word that was given for POINTER
+abbrev pub CarriesPointer : Command → Option Text → Type 0
+CarriesPointer (Get pointer) given = given ≡ Some (string_bytes pointer)
+CarriesPointer Merge given = ⊤
 
 -- the kinds of fault that the line finds in the words: none where it takes them
 abbrev pub faults_of : List Text → Kinds
@@ -31,10 +56,20 @@ faults_of words = fault_of command_line words
 abbrev pub HasMistake : Kinds → Type 0
 HasMistake faults = (kind : ErrorKind) × (kind ≢ DisplayHelp) × IsAmong kind faults
 
+-- a name is one of these
+abbrev pub IsOneOf : List Text → Text → Type 0
+IsOneOf [] name = ⊥
+IsOneOf (x ∷ xs) name = (name ≡ x) ⊎ IsOneOf xs name
+
 -- a subcommand of the line was met
 abbrev pub IsSubcommand : Option Text → Type 0
 IsSubcommand None = ⊥
-IsSubcommand (Some name) = name ≡ codes "merge"
+IsSubcommand (Some name) = IsOneOf (map (λ s. s.name) subcommands) name
+
+-- where the subcommand is `get`, its word was given
+abbrev pub HasPointer : Option (Text × List Row) → Type 0
+HasPointer entered =
+    IfSome entered (λ e. e.0 ≡ codes "get" → is_some (first_of (codes "POINTER") e.1) ≡ true)
 
 -- help was asked for
 abbrev pub IsHelp : CommandFault → Type 0

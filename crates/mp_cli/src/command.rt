@@ -1,19 +1,24 @@
 //! The commands of the program, and the words that ask for them.
-ghost use Rattle.std.specs.Prelude.{◌≡◌, ◌≢◌, map, true, false, Some, [], IfOk, IfErr, OnOk, string_bytes};
-ghost use Rattle.clap.specs.Words.{app_of, kind_of, subcommand_name_of, takes, IsAmong};
+ghost use Rattle.std.specs.Prelude.{◌≡◌, ◌≢◌, map, true, false, Some, [], codes, IfOk, IfErr, OnOk, string_bytes};
+ghost use Rattle.clap.specs.Words.{app_of, kind_of, shape_of, subcommand_name_of, subcommand_rows_of, takes, IsAmong};
+ghost use Rattle.clap.specs.Simple.{new_shape};
 ghost use Rattle.clap.specs.declared.builder.command.Command.TheViews.{out-Command};
-ghost use Rattle.mp_cli.specs.CommandLine.{command_line, asked_for, faults_of, word_of, HasMistake, IsSubcommand, IsHelp, IsUsage};
+ghost use Rattle.mp_cli.specs.CommandLine.{command_line, get_shape, asked_for, faults_of, pointer_given, pointer_in, word_of, CarriesPointer, HasMistake, HasPointer, IsSubcommand, IsHelp, IsUsage};
+ghost use Rattle.mp_cli.specs.declared.command.CommandFault.TheVariants.{OutOfMemory};
 
-use clap::ArgMatches;
 use clap::error::ErrorKind;
+use clap::{Arg, ArgMatches};
 use std::alloc::{AllocError, Global};
 use thiserror::Error;
 
 /// What the program is asked to do with its input.
 ///
-/// The words `mergejoin merge` ask for `Command::Merge`.
+/// The words `mergejoin get /a` ask for `Command::Get` with the text `/a`.
 #[derive(Debug, PartialEq, Eq, Drop)]
 pub enum Command {
+    /// Print the part of the input's one element that this JSON Pointer names. The text is the word
+    /// as it was given, which may be no pointer.
+    Get(String),
     /// Apply the merge patches of the input, one after another, to its first element.
     Merge,
 }
@@ -33,18 +38,30 @@ pub enum CommandFault {
     OutOfMemory,
 }
 
+impl From<AllocError> for CommandFault {
+    ghost from_gives = { λ _ fault. fault ≡ OutOfMemory };
+
+    fn from(_error: AllocError) -> CommandFault {
+        CommandFault::OutOfMemory
+    }
+}
+
 /// The command that the words ask for, the program's name first.
 ///
 /// # Errors
 ///
 /// - `Help`: the words ask for help, as `mergejoin --help`.
-/// - `Usage`: the command line does not take the words, as `mergejoin` and `mergejoin frob`.
+/// - `Usage`: the command line does not take the words, as `mergejoin`, `mergejoin frob` and
+///   `mergejoin get`.
 /// - `OutOfMemory`: memory ran out.
 ///
-/// The words `mergejoin merge` give `Command::Merge`.
+/// The words `mergejoin merge` give `Command::Merge`, and `mergejoin get /a` gives `Command::Get` with
+/// the text `/a`.
 pub fn command_of(alloc: Global, words: Vec<String>) -> Result<Command, CommandFault>
     ensures command { IfOk result (λ command.
         asked_for (map string_bytes words.items) ≡ Some (word_of command)) }
+    ensures pointer { IfOk result (λ command.
+        CarriesPointer command (pointer_given (map string_bytes words.items))) }
     ensures taken { takes command_line (map string_bytes words.items) ≡ true
         → IfErr result (λ fault. fault ≡ CommandFault.OutOfMemory) }
 
@@ -55,11 +72,9 @@ pub fn command_of(alloc: Global, words: Vec<String>) -> Result<Command, CommandF
     ensures usage { IfErr result (λ fault. IsUsage fault
         → HasMistake (faults_of (map string_bytes words.items))) }
 {
-    let Ok(line) = program_line(alloc) else {
-        return Err(CommandFault::OutOfMemory);
-    };
+    let line = program_line(alloc)?;
     match line.try_get_matches_from(words.as_slice()) {
-        Ok(matches) => Ok(chosen(&matches)),
+        Ok(matches) => Ok(chosen(alloc, &matches)?),
         Err(error) => Err(refusal(alloc, &error)),
     }
 }
@@ -70,25 +85,74 @@ fn program_line<'a>(alloc: Global) -> Result<clap::Command<'a>, AllocError>
     ensures required { IfOk result (λ line. (out-Command line).subcommand_required ≡ true) }
     ensures no_globals { IfOk result (λ line. (out-Command line).has_globals ≡ false) }
 {
-    let merge = clap::Command::new(alloc, "merge").about(
-        "Apply merge patches to a document, one after another",
-    );
     clap::Command::new(alloc, "mergejoin")
-        .about("Merge patches (RFC 7396) over one JSON array on standard input")
+        .about(
+            "JSON Merge Patch (RFC 7396) and JSON Pointer (RFC 6901) over one JSON array on standard input",
+        )
         .subcommand_required(true)
         .disable_help_subcommand(true)
-        .subcommand(merge)
+        .subcommand(get_line(alloc)?)?
+        .subcommand(plain_line(
+            alloc,
+            "merge",
+            "Apply merge patches to a document, one after another",
+        ))
+}
+
+/// A subcommand with no argument of its own.
+fn plain_line<'a>(alloc: Global, name: &'a str, about: &'a str) -> clap::Command<'a>
+    ensures shape { shape_of result ≡ new_shape name.now }
+    ensures no_globals { (out-Command result).has_globals ≡ false }
+{
+    clap::Command::new(alloc, name).about(about)
+}
+
+/// The subcommand `get`, with its one word.
+fn get_line<'a>(alloc: Global) -> Result<clap::Command<'a>, AllocError>
+    ensures shape { IfOk result (λ line. shape_of line ≡ get_shape) }
+    ensures no_globals { IfOk result (λ line. (out-Command line).has_globals ≡ false) }
+{
+    let pointer = Arg::new(alloc, "POINTER").required(true).help(
+        "A JSON Pointer (RFC 6901), such as /a/0; the empty word names the whole document",
+    );
+    plain_line(
+        alloc,
+        "get",
+        "Print the part of a document that a JSON Pointer names",
+    )
+    .arg(pointer)
 }
 
 /// The command of the subcommand that was met.
-fn chosen(matches: &ArgMatches<'_>) -> Command
-    requires { IsSubcommand (subcommand_name_of matches.now) }
-    ensures { subcommand_name_of matches.now ≡ Some (word_of result) }
+fn chosen(alloc: Global, matches: &ArgMatches<'_>) -> Result<Command, AllocError>
+    requires known { IsSubcommand (subcommand_name_of matches.now) }
+    requires pointer { HasPointer (subcommand_rows_of matches.now) }
+    ensures command { IfOk result (λ command.
+        subcommand_name_of matches.now ≡ Some (word_of command)) }
+    ensures pointer { IfOk result (λ command.
+        CarriesPointer command (pointer_in (subcommand_rows_of matches.now))) }
 {
     match matches.subcommand_name() {
-        Some("merge") => Command::Merge,
+        Some("get") => Ok(Command::Get(pointer_word(alloc, matches)?)),
+        Some("merge") => Ok(Command::Merge),
         _ => unreachable!(),
     }
+}
+
+/// The word of the subcommand `get`.
+fn pointer_word(alloc: Global, matches: &ArgMatches<'_>) -> Result<String, AllocError>
+    requires get { subcommand_name_of matches.now ≡ Some (codes "get") }
+    requires pointer { HasPointer (subcommand_rows_of matches.now) }
+    ensures { IfOk result (λ word.
+        pointer_in (subcommand_rows_of matches.now) ≡ Some (string_bytes word)) }
+{
+    let Some(found) = matches.subcommand_matches("get") else {
+        unreachable!();
+    };
+    let Some(word) = found.get_str("POINTER") else {
+        unreachable!();
+    };
+    String::from_str(alloc, word)
 }
 
 /// What the caller is told of an error of the command line.

@@ -163,31 +163,80 @@ fn asked(alloc: Global, line: &str) -> Result<Result<Command, CommandFault>, All
     Ok(command_of(alloc, words))
 }
 
+fn expect_pointer(rt: &(impl Abort + AllocGlobal), line: &str, pointer: &str) {
+    let found = asked(rt.alloc(), line).expect(rt, "memory for a line");
+    match &found {
+        Ok(Command::Get(word)) => assert_eq!(rt; word.as_str(), pointer),
+        _ => assert!(rt; false, "{line}"),
+    }
+}
+
 #[test]
 fn words_ask_for_commands(rt: HostRuntime) -> Result<(), Fail> {
     let alloc = rt.alloc();
     assert!(rt; matches!(asked(alloc, "mergejoin merge")?, Ok(Command::Merge)));
+    for (line, pointer) in [
+        ("mergejoin get /a", "/a"),
+        ("mergejoin get foo~2", "foo~2"),
+        ("mergejoin get ", ""),
+        // After `--` a word is a pointer, whatever it begins with.
+        ("mergejoin get -- -a", "-a"),
+        ("mergejoin get -", "-"),
+    ] {
+        expect_pointer(&rt, line, pointer);
+    }
+    Ok(())
+}
+
+#[test]
+fn words_that_ask_for_nothing(rt: HostRuntime) -> Result<(), Fail> {
+    let alloc = rt.alloc();
     for line in [
         "mergejoin",
         "mergejoin frob",
         "mergejoin merge 5",
         "mergejoin -x merge",
+        "mergejoin get",
+        "mergejoin get /a /b",
+        // `clap` takes a word that begins with a dash for an option.
+        "mergejoin get -a",
+        "mergejoin get --/a",
     ] {
         assert!(rt;
             matches!(asked(alloc, line)?, Err(CommandFault::Usage(_))),
             "{line}"
         );
     }
-    for line in ["mergejoin --help", "mergejoin -h"] {
-        match &asked(alloc, line)? {
-            Err(CommandFault::Help(text)) => assert!(rt;
-                text.as_str().contains("merge "),
-                "{line}"
-            ),
-            _ => assert!(rt; false, "{line}"),
-        }
-    }
     Ok(())
+}
+
+fn expect_help(rt: &(impl Abort + AllocGlobal), line: &str, parts: &[&str]) {
+    let found = asked(rt.alloc(), line).expect(rt, "memory for a line");
+    match &found {
+        Err(CommandFault::Help(text)) => {
+            for part in parts {
+                assert!(rt;
+                    text.as_str().contains(*part),
+                    "{part} in the help of {line}"
+                );
+            }
+        }
+        _ => assert!(rt; false, "{line}"),
+    }
+}
+
+#[test]
+fn help_names_the_subcommands(rt: HostRuntime) {
+    let lines = [
+        "get    Print the part of a document that a JSON Pointer names",
+        "merge  Apply merge patches to a document, one after another",
+    ];
+    for line in ["mergejoin --help", "mergejoin -h"] {
+        expect_help(&rt, line, &lines);
+    }
+    for line in ["mergejoin get --help", "mergejoin get -h"] {
+        expect_help(&rt, line, &["<POINTER>", "A JSON Pointer (RFC 6901)"]);
+    }
 }
 
 #[test]

@@ -1,8 +1,7 @@
 -- The kinds at all lists of tokens tell a document.
 use Rattle.std.proofs.Common.{◌≡◌, ℕ, suc, List, [], ◌∷◌, ◌++◌, Option, Some, option_and_then, refl, sym, ap, ap₂, ◌∙◌, subst, arith, false, true≢false}
 use Rattle.mp_tree.specs.Document.{Document, null, flag, whole, string, list, object, Items, no_items, item, Members, no_members, member, find, is_name, IsBelow, IsDocument, AreDocuments, IsMap}
-use Rattle.mp_tree.proofs.Maps.{find-below}
-use Rattle.mp_tree.proofs.Names.{cases_same, is_name-self}
+use Rattle.mp_tree.proofs.Facts.{find-below, cases_same, is_name-self}
 use Rattle.mp_pointer.specs.Laws.{EqualsByPart}
 use Rattle.mp_pointer.specs.Part.{Kind, scalar, numeral, part, kind, kind_here, kind_of, names_of, count_of}
 use Rattle.mp_pointer.specs.Spelling.{Tokens, BeginsWith}
