@@ -3,6 +3,8 @@
 #![tactic(auto)]
 
 #[cfg(test)]
+mod get_rows;
+#[cfg(test)]
 mod merge_patch_cases;
 #[cfg(test)]
 mod merge_rows;
