@@ -89,7 +89,7 @@ mutual
 
 -- ---- one place and the part there
 
-cases_begins : {P : Type 0} (u t : Tokens) → (BeginsWith u t → P) → (¬ BeginsWith u t → P) → P
+pub cases_begins : {P : Type 0} (u t : Tokens) → (BeginsWith u t → P) → (¬ BeginsWith u t → P) → P
 cases_begins u [] begun no_more = begun (u, refl)
 cases_begins [] (n ∷ t) begun no_more = no_more (λ begins. nothing begins.0 begins.1)
   where

@@ -1,3 +1,4 @@
+pub mod Facts
 pub mod IndexLemmas
 pub mod KindLemmas
 pub mod PartLemmas

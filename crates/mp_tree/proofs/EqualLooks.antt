@@ -5,7 +5,7 @@ use Rattle.mp_tree.specs.Look.{Path, nothing, plain, look, look_of, look_here}
 use Rattle.mp_tree.specs.Laws.{EqualLooks}
 use Rattle.mp_tree.proofs.Maps.{members_same}
 
-is_here : (d : Document) → look_here d ≡ nothing → ⊥
+pub is_here : (d : Document) → look_here d ≡ nothing → ⊥
 is_here null e = cc
 is_here (flag b) e = cc
 is_here (whole z) e = cc

@@ -1,0 +1,72 @@
+-- The laws of forms: one reading, shapes are forms, and a form has no fault.
+use Rattle.std.proofs.Common.{◌≡◌, ◌+◌, ℕ, List, [], ◌∷◌, get_or, map, Some, refl, sym, ap, ap₂, ◌∙◌, subst, arith, codes}
+use Rattle.mp_tree.specs.Document.{Document, string, Items, no_items, item, Members, find}
+use Rattle.mp_tree.specs.View.{items_of}
+use Rattle.mp_pointer.specs.Spelling.{Tokens, spell}
+use Rattle.mp_pointer.proofs.Facts.{has_one_spelling}
+use Rattle.mp_patch.specs.Form.{Carries, EachForm, IsForm, needed, shape}
+use Rattle.mp_patch.specs.Laws.{HasOneReading, ShapesAreForms}
+use Rattle.mp_patch.specs.Operation.{Operation, add, remove, replace, move, copy, test}
+use Rattle.mp_patch.proofs.DocumentLemmas.{same_members, same_elements, some_same}
+
+-- ---- shapes
+
+shape_is_form : (o : Operation) → IsForm (shape o) o
+shape_is_form (add t v) = (_, refl, (refl, (refl, (refl, tt))))
+shape_is_form (remove t) = (_, refl, (refl, (refl, tt)))
+shape_is_form (replace t v) = (_, refl, (refl, (refl, (refl, tt))))
+shape_is_form (move f t) = (_, refl, (refl, (refl, (refl, tt))))
+shape_is_form (copy f t) = (_, refl, (refl, (refl, (refl, tt))))
+shape_is_form (test t v) = (_, refl, (refl, (refl, (refl, tt))))
+
+each_shape : (operations : List Operation) → EachForm (items_of (map shape operations)) operations
+each_shape [] = tt
+each_shape (o ∷ operations) = (shape_is_form o, each_shape operations)
+
+pub shapes_are_forms : ShapesAreForms
+shapes_are_forms operations = (items_of (map shape operations), refl, each_shape operations)
+
+-- ---- one reading
+
+same_text : (s t : List ℕ) → string s ≡ string t → s ≡ t
+same_text s t e = cc
+
+-- two letters tell the operations
+abbrev letters : List ℕ → ℕ
+letters name = get_or name 0 0 + get_or name 2 0
+
+at_member : (n : List ℕ) (ms : Members) (s t : List ℕ) → find n ms ≡ Some (string s) → find n ms ≡ Some (string t) → s ≡ t
+at_member n ms s t a b = same_text s t (some_same (string s) (string t) (sym a ∙ b))
+
+same_place : (n : List ℕ) (ms : Members) (s t : Tokens) → find n ms ≡ Some (string (spell s)) → find n ms ≡ Some (string (spell t)) → s ≡ t
+same_place n ms s t a b = has_one_spelling s t (at_member n ms (spell s) (spell t) a b)
+
+same_value : (n : List ℕ) (ms : Members) (v w : Document) → find n ms ≡ Some v → find n ms ≡ Some w → v ≡ w
+same_value n ms v w a b = some_same v w (sym a ∙ b)
+
+-- the members give the name of one operation
+one_name : (ms : Members) (s t : List ℕ) → find (codes "op") ms ≡ Some (string s) → find (codes "op") ms ≡ Some (string t) → letters s ≡ letters t
+one_name ms s t a b = ap letters (at_member (codes "op") ms s t a b)
+
+one_form : (ms : Members) (o p : Operation) → Carries ms (needed o) → Carries ms (needed p) → o ≡ p
+one_form ms (add t v) (add s w) a b = ap₂ add (same_place (codes "path") ms t s a.1.0 b.1.0) (same_value (codes "value") ms v w a.1.1.0 b.1.1.0)
+one_form ms (remove t) (remove s) a b = ap remove (same_place (codes "path") ms t s a.1.0 b.1.0)
+one_form ms (replace t v) (replace s w) a b = ap₂ replace (same_place (codes "path") ms t s a.1.0 b.1.0) (same_value (codes "value") ms v w a.1.1.0 b.1.1.0)
+one_form ms (move f t) (move g s) a b = ap₂ move (same_place (codes "from") ms f g a.1.1.0 b.1.1.0) (same_place (codes "path") ms t s a.1.0 b.1.0)
+one_form ms (copy f t) (copy g s) a b = ap₂ copy (same_place (codes "from") ms f g a.1.1.0 b.1.1.0) (same_place (codes "path") ms t s a.1.0 b.1.0)
+one_form ms (test t v) (test s w) a b = ap₂ test (same_place (codes "path") ms t s a.1.0 b.1.0) (same_value (codes "value") ms v w a.1.1.0 b.1.1.0)
+one_form ms o p a b = absurd (omega (arith, one_name ms _ _ a.0 b.0))
+
+same_form : (d : Document) (o p : Operation) → IsForm d o → IsForm d p → o ≡ p
+same_form d o p (ms, is, a) (es, was, b) = one_form ms o p a (subst (λ m. Carries m (needed p)) (same_members es ms (sym was ∙ is)) b)
+
+each_same : (ds : Items) (operations others : List Operation) → EachForm ds operations → EachForm ds others → operations ≡ others
+each_same no_items [] [] a b = refl
+each_same no_items [] (p ∷ others) a b = absurd b
+each_same no_items (o ∷ operations) others a b = absurd a
+each_same (item d ds) [] others a b = absurd a
+each_same (item d ds) (o ∷ operations) [] a b = absurd b
+each_same (item d ds) (o ∷ operations) (p ∷ others) a b = ap₂ (λ x xs. x ∷ xs) (same_form d o p a.0 b.0) (each_same ds operations others a.1 b.1)
+
+pub has_one_reading : HasOneReading
+has_one_reading d operations others (ds, is, a) (es, was, b) = each_same ds operations others a (subst (λ xs. EachForm xs others) (same_elements es ds (sym was ∙ is)) b)

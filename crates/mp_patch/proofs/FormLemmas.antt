@@ -1,0 +1,116 @@
+-- Operations and the documents that are forms of them.
+use Rattle.std.proofs.Common.{◌≡◌, ◌≢◌, ◌<◌, ◌≤◌, ◌+◌, ◌∷◌, ◌++◌, ℕ, List, [], length, map, get_or, take, drop, Option, Some, option_map, option_and_then, Result, Ok, Err, MatchResult, BTreeMap, String, Global, refl, sym, ap, ap₂, ◌∙◌, subst, arith, codes}
+use Rattle.std.proofs.lemmas.List.{take_more, take-append-drop, drop_more, length-take-le, map-append}
+use Rattle.mp_tree.specs.Document.{Document, object, list, string, Members, put, find, depth, items_depth}
+use Rattle.mp_tree.specs.View.{document, items, items_of, members, members_of}
+use Rattle.mp_tree.specs.declared.doc.Doc.{Doc}
+use Rattle.mp_pointer.specs.Spelling.{Tokens, spell, tokens_in}
+use Rattle.mp_pointer.specs.declared.fault.PointerFault.{PointerFault}
+use Rattle.mp_pointer.proofs.Facts.{reads_spellings, count_of-items}
+use Rattle.mp_patch.specs.Form.{NamesOp, an_origin, Carries, EachForm, IsForm, IsFormFault, IsNoPointer, deepest, needed, op_member, path_member, from_member, shape, shapes, text_at, text_of, value_depth, value_member}
+use Rattle.mp_patch.specs.Operation.{Operation, add, remove, replace, move, copy, test}
+use Rattle.mp_patch.specs.Read.{IsMapFault, IsOpFault, IsOriginFault, fault_at}
+use Rattle.mp_patch.specs.View.{operation_of, operations_of}
+use Rattle.mp_patch.specs.declared.fault.FormCause.TheVariants.{NotAnObject, NoOp, UnknownOp, NoPath, NoFrom, BadPointer, NoValue}
+use Rattle.mp_patch.specs.declared.op.Op.{Op}
+use Rattle.mp_patch.specs.declared.reading.OpFault.{OpFault}
+use Rattle.mp_patch.specs.declared.reading.OpFault.TheVariants.{Form, OutOfMemory}
+use Rattle.mp_patch.proofs.StepLemmas.{items-append}
+
+-- ---- reading
+
+pub no_pointer : (text : List ℕ) (fault : PointerFault) → tokens_in text ≡ Err fault → IsNoPointer text
+no_pointer text fault refused t is = differ (sym ((reads_spellings text t).1 is) ∙ refused)
+  where
+    differ : Ok t ≡ Err fault → ⊥
+    differ e = cc
+
+pub found : (name : List ℕ) (m : BTreeMap (String Global) Doc) (r : Option Doc) → find name (members m.entries) ≡ option_map document r → text_at name (members m.entries) ≡ option_and_then text_of (option_map document r)
+found name m r is = ap (option_and_then text_of) is
+
+pub map_fault : (fault : OpFault) (ms : Members) (d : Document) → d ≡ object ms → IsMapFault fault ms → IsOpFault fault d
+map_fault (Form NotAnObject) ms d is faulty = absurd faulty
+map_fault (Form NoOp) ms d is faulty = (ms, is, faulty)
+map_fault (Form UnknownOp) ms d is faulty = (ms, is, faulty)
+map_fault (Form NoPath) ms d is faulty = (ms, is, faulty)
+map_fault (Form NoFrom) ms d is faulty = (ms, is, faulty)
+map_fault (Form BadPointer) ms d is faulty = (ms, is, faulty)
+map_fault (Form NoValue) ms d is faulty = (ms, is, faulty)
+map_fault OutOfMemory ms d is faulty = tt
+
+pub form_of_map : (r : Result Op OpFault) (ms : Members) (d : Document) → d ≡ object ms → MatchResult r (λ op. Carries ms (needed (operation_of op))) (λ fault. IsMapFault fault ms)
+    → MatchResult r (λ op. IsForm d (operation_of op)) (λ fault. IsOpFault fault d)
+form_of_map (Ok op) ms d is carries = (ms, is, carries)
+form_of_map (Err fault) ms d is faulty = map_fault fault ms d is faulty
+
+pub EachForm-more : (docs : List Doc) (operations : List Operation) (d : Doc) (o : Operation) → EachForm (items docs) operations → IsForm (document d) o → EachForm (items (docs ++ d ∷ [])) (operations ++ o ∷ [])
+EachForm-more [] [] d o forms form = (form, tt)
+EachForm-more [] (p ∷ operations) d o forms form = absurd forms
+EachForm-more (x ∷ docs) [] d o forms form = absurd forms
+EachForm-more (x ∷ docs) (p ∷ operations) d o forms form = (forms.0, EachForm-more docs operations d o forms.1 form)
+
+pub form_pushed : (docs : List Doc) (old new : List Op) (k : ℕ) (d : Doc) (op : Op) → k < length docs → d ≡ get_or docs k d → EachForm (items (take k docs)) (operations_of old) → IsForm (document d) (operation_of op) → new ≡ old ++ op ∷ []
+    → EachForm (items (take (k + 1) docs)) (operations_of new)
+form_pushed docs old new k d op less here forms form pushed =
+    let longer : take (k + 1) docs ≡ take k docs ++ d ∷ [] = take_more docs k d less ∙ ap (λ x. take k docs ++ x ∷ []) (sym here) in
+    let grown : operations_of new ≡ operations_of old ++ operation_of op ∷ [] = ap operations_of pushed ∙ map-append operation_of old (op ∷ []) in
+    subst (λ xs. EachForm (items xs) (operations_of new)) (sym longer) (subst (λ os. EachForm (items (take k docs ++ d ∷ [])) os) (sym grown) (EachForm-more (take k docs) (operations_of old) d (operation_of op) forms form))
+
+pub fault_there : (fault : OpFault) (docs : List Doc) (old : List Op) (k : ℕ) (d : Doc) → k < length docs → d ≡ get_or docs k d → EachForm (items (take k docs)) (operations_of old) → IsOpFault fault (document d)
+    → IsFormFault (fault_at k fault) (list (items docs))
+fault_there OutOfMemory docs old k d less here forms faulty = tt
+fault_there (Form cause) docs old k d less here forms faulty =
+    let split : docs ≡ take k docs ++ d ∷ drop (k + 1) docs = sym (take-append-drop k docs) ∙ ap (λ r. take k docs ++ r) (drop_more docs k d less ∙ ap (λ x. x ∷ drop (k + 1) docs) (sym here)) in (
+      items (take k docs),
+      document d,
+      items (drop (k + 1) docs),
+      ap list (ap items split ∙ items-append (take k docs) (d ∷ drop (k + 1) docs)),
+      sym (count_of-items (take k docs) ∙ length-take-le k docs (omega arith)),
+      (operations_of old, forms),
+      faulty,
+    )
+
+-- ---- writing
+
+pub shape_with_value : (name : List ℕ) (t : Tokens) (v : Document) → put (codes "value") v (members_of (op_member name ∷ path_member t ∷ [])) ≡ members_of (op_member name ∷ path_member t ∷ value_member v ∷ [])
+shape_with_value name t v = refl
+
+pub shape_with_origin : (name : List ℕ) (f t : Tokens) → put (codes "from") (string (spell f)) (members_of (op_member name ∷ path_member t ∷ [])) ≡ members_of (op_member name ∷ path_member t ∷ from_member f ∷ [])
+shape_with_origin name f t = refl
+
+pub shape_pushed : (docs : List Doc) (ops : List Op) (new : List Doc) (k : ℕ) (d : Doc) (op : Op) → k < length ops → op ≡ get_or ops k op → map document docs ≡ map shape (operations_of (take k ops)) → document d ≡ shape (operation_of op) → new ≡ docs ++ d ∷ []
+    → map document new ≡ map shape (operations_of (take (k + 1) ops))
+shape_pushed docs ops new k d op less here so_far is pushed =
+    let longer : operations_of (take (k + 1) ops) ≡ operations_of (take k ops) ++ operation_of op ∷ [] = ap operations_of (take_more ops k op less ∙ ap (λ x. take k ops ++ x ∷ []) (sym here)) ∙ map-append operation_of (take k ops) (op ∷ []) in
+    ap (map document) pushed ∙ map-append document docs (d ∷ []) ∙ ap₂ (λ xs x. xs ++ x ∷ []) so_far is ∙ sym (map-append shape (operations_of (take k ops)) (operation_of op ∷ [])) ∙ ap (map shape) (sym longer)
+
+shape-depth : (o : Operation) → depth (shape o) ≤ value_depth o + 1
+shape-depth (add t v) = omega arith
+shape-depth (remove t) = omega arith
+shape-depth (replace t v) = omega arith
+shape-depth (move f t) = omega arith
+shape-depth (copy f t) = omega arith
+shape-depth (test t v) = omega arith
+
+each-depth : (operations : List Operation) → items_depth (items_of (map shape operations)) ≤ deepest operations + 1
+each-depth [] = omega arith
+each-depth (o ∷ operations) = omega (arith, shape-depth o, each-depth operations)
+
+pub shapes-depth : (operations : List Operation) → depth (shapes operations) ≤ 2 + deepest operations
+shapes-depth operations = omega (arith, each-depth operations)
+
+pub no_slash_is_no_memory : PointerFault.NoSlash ≢ PointerFault.OutOfMemory
+no_slash_is_no_memory e = cc
+
+pub bad_tilde_is_no_memory : (place : ℕ) → PointerFault.BadTilde place ≢ PointerFault.OutOfMemory
+bad_tilde_is_no_memory place e = cc
+
+pub origin_fault : (fault : OpFault) (name path : List ℕ) (ms : Members) → text_at (codes "op") ms ≡ Some name → NamesOp an_origin name → text_at (codes "path") ms ≡ Some path → IsOriginFault fault path ms → IsMapFault fault ms
+origin_fault (Form NoFrom) name path ms op named at faulty = ((name, op, named), path, at, faulty)
+origin_fault (Form BadPointer) name path ms op named at faulty = (an_origin, (name, op, named), path, at, faulty)
+origin_fault (Form NotAnObject) name path ms op named at faulty = absurd faulty
+origin_fault (Form NoOp) name path ms op named at faulty = absurd faulty
+origin_fault (Form UnknownOp) name path ms op named at faulty = absurd faulty
+origin_fault (Form NoPath) name path ms op named at faulty = absurd faulty
+origin_fault (Form NoValue) name path ms op named at faulty = absurd faulty
+origin_fault OutOfMemory name path ms op named at faulty = tt

@@ -1,0 +1,11 @@
+pub mod DepthLemmas
+pub mod DocumentLemmas
+pub mod EditLemmas
+pub mod Facts
+pub mod FaultLaws
+pub mod FormLaws
+pub mod FormLemmas
+pub mod MoveLemmas
+pub mod RunLaws
+pub mod RunLemmas
+pub mod StepLemmas

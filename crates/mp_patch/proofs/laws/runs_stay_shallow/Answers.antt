@@ -1,0 +1,5 @@
+use Rattle.mp_patch.proofs.RunLaws.{stays_shallow}
+use Rattle.mp_patch.proofs.laws.runs_stay_shallow.Goals as goal
+
+pub returns : goal.returns
+returns c = stays_shallow

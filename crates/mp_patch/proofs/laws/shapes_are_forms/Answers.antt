@@ -1,0 +1,5 @@
+use Rattle.mp_patch.proofs.FormLaws.{shapes_are_forms}
+use Rattle.mp_patch.proofs.laws.shapes_are_forms.Goals as goal
+
+pub returns : goal.returns
+returns c = shapes_are_forms

@@ -1,0 +1,23 @@
+use Rattle.std.proofs.Common.{◌≡◌, Some, MatchResult, IsTrue, IsFalse, slice_range, arith, rules, sym, ap, ◌∙◌, subst}
+use Rattle.mp_tree.specs.View.{document}
+use Rattle.mp_pointer.specs.Only.{DifferOnlyAt}
+use Rattle.mp_pointer.specs.Part.{part}
+use Rattle.mp_pointer.specs.Spelling.{Tokens}
+use Rattle.mp_patch.specs.declared.fault.Cause.TheVariants.{TooDeep}
+use Rattle.mp_patch.specs.declared.steps.StepFault.TheVariants.{Refused}
+use Rattle.mp_patch.proofs.StepLemmas.{to_end, replaced, set_means}
+use Rattle.mp_patch.proofs.steps.replace.Goals as goal
+
+pub returns-in-Some : goal.returns-in-Some
+returns-in-Some c =
+    let path = c.args.path.now in
+    let r = c.in-Some.outcome in
+    let fits = c.fits_below-fits.result in
+    let all : slice_range path 0 c.len-2.result ≡ path = ap (slice_range path 0) c.len-2.ensures ∙ to_end path in
+    let edits = c.in-Some.ensures in
+    let set : MatchResult r (λ _. IsTrue fits × (edits.edited.left.now ≡ c.args.value)) (λ fault. IsFalse fits × (fault ≡ Refused TooDeep)) = search rules in
+    let will : document edits.after ≡ document edits.edited.left.now = ap document (sym edits.edited.leaves) in
+    replaced r fits path (document c.args.value) (document c.args.doc.now) (document c.edit_part.new.doc) (document edits.before) (document edits.edited.left.now)
+    (λ h. omega (arith, c.fits_below-fits.ensures.0 h, c.len.ensures)) (λ h. c.fits_below-fits.ensures.1 (omega (arith, h, c.len.ensures)))
+    (ap (part (document c.args.doc.now)) (sym all) ∙ edits.stood) (ap (part (document c.edit_part.new.doc)) (sym all) ∙ edits.stands ∙ ap Some will)
+    (subst (λ (t : Tokens). DifferOnlyAt t (document c.args.doc.now) (document c.edit_part.new.doc)) all edits.only) (set_means r fits edits.edited.left.now c.args.value set)

@@ -1,0 +1,137 @@
+-- How a JSON Patch is written as a document (RFC 6902 sections 3 and 4): a list of maps, each with the members that its operation needs.
+use Rattle.std.specs.Prelude.{◌≡◌, ◌≢◌, ◌⊎◌, ◌∷◌, ℕ, codes, max, map, List, [], Option, None, Some, option_and_then, ⊤}
+use Rattle.mp_tree.specs.Document.{Document, null, flag, whole, string, list, object, Items, no_items, item, Members, find, depth}
+use Rattle.mp_tree.specs.View.{items_of, members_of}
+use Rattle.mp_pointer.specs.Part.{count_of}
+use Rattle.mp_pointer.specs.Spelling.{Tokens, spell}
+use Rattle.mp_patch.specs.Operation.{Operation, add, remove, replace, move, copy, test, append}
+use Rattle.mp_patch.specs.declared.fault.FormCause.{FormCause}
+use Rattle.mp_patch.specs.declared.fault.FormCause.TheVariants.{NotAnObject, NoOp, UnknownOp, NoPath, NoFrom, BadPointer, NoValue}
+use Rattle.mp_patch.specs.declared.fault.FormFault.{FormFault}
+use Rattle.mp_patch.specs.declared.fault.FormFault.TheVariants.{NotAnArray, Form, OutOfMemory}
+
+-- ---- the members that an operation needs
+
+abbrev pub op_member : List ℕ → List ℕ × Document
+op_member name = (codes "op", string name)
+
+abbrev pub path_member : Tokens → List ℕ × Document
+path_member t = (codes "path", string (spell t))
+
+abbrev pub from_member : Tokens → List ℕ × Document
+from_member t = (codes "from", string (spell t))
+
+abbrev pub value_member : Document → List ℕ × Document
+value_member v = (codes "value", v)
+
+abbrev pub needed : Operation → List (List ℕ × Document)
+needed (add t v) = op_member (codes "add") ∷ path_member t ∷ value_member v ∷ []
+needed (remove t) = op_member (codes "remove") ∷ path_member t ∷ []
+needed (replace t v) = op_member (codes "replace") ∷ path_member t ∷ value_member v ∷ []
+needed (move f t) = op_member (codes "move") ∷ path_member t ∷ from_member f ∷ []
+needed (copy f t) = op_member (codes "copy") ∷ path_member t ∷ from_member f ∷ []
+needed (test t v) = op_member (codes "test") ∷ path_member t ∷ value_member v ∷ []
+
+-- the map of exactly these
+abbrev pub shape : Operation → Document
+shape o = object (members_of (needed o))
+
+abbrev pub shapes : List Operation → Document
+shapes operations = list (items_of (map shape operations))
+
+-- ---- forms: a map may carry further members
+
+abbrev pub Carries : Members → List (List ℕ × Document) → Type 0
+Carries ms [] = ⊤
+Carries ms (pair ∷ pairs) = (find pair.0 ms ≡ Some pair.1) × Carries ms pairs
+
+-- d is a map that carries what o needs
+abbrev pub IsForm : Document → Operation → Type 0
+IsForm d o = (ms : Members) × (d ≡ object ms) × Carries ms (needed o)
+
+-- each element is a form of the operation at its place
+abbrev pub EachForm : Items → List Operation → Type 0
+EachForm no_items [] = ⊤
+EachForm (item d ds) (o ∷ operations) = IsForm d o × EachForm ds operations
+EachForm ds operations = ⊥
+
+abbrev pub AreForms : Document → List Operation → Type 0
+AreForms d operations = (ds : Items) × (d ≡ list ds) × EachForm ds operations
+
+-- ---- an element that is a form of no operation
+
+-- what an operation needs beside its name and its path
+pub data Need : Type 0 where
+  path_alone : Need
+  a_value : Need
+  an_origin : Need
+
+-- the operations of each need, by their names
+abbrev pub NamesOp : Need → List ℕ → Type 0
+NamesOp path_alone name = name ≡ codes "remove"
+NamesOp a_value name = (name ≡ codes "add") ⊎ ((name ≡ codes "replace") ⊎ (name ≡ codes "test"))
+NamesOp an_origin name = (name ≡ codes "move") ⊎ (name ≡ codes "copy")
+
+abbrev pub text_of : Document → Option (List ℕ)
+text_of null = None
+text_of (flag b) = None
+text_of (whole z) = None
+text_of (string s) = Some s
+text_of (list ds) = None
+text_of (object ms) = None
+
+-- the text that stands at a name
+abbrev pub text_at : List ℕ → Members → Option (List ℕ)
+text_at name ms = option_and_then text_of (find name ms)
+
+-- the members name an operation of this need
+abbrev pub HasOp : Need → Members → Type 0
+HasOp need ms = (name : List ℕ) × (text_at (codes "op") ms ≡ Some name) × NamesOp need name
+
+-- a text that spells no pointer
+abbrev pub IsNoPointer : List ℕ → Type 0
+IsNoPointer text = (t : Tokens) → text ≢ spell t
+
+-- the spelling of the path is no pointer; and where there is an origin, that one's may be the bad one
+abbrev pub HasBadPointer : Need → List ℕ → Members → Type 0
+HasBadPointer path_alone path ms = IsNoPointer path
+HasBadPointer a_value path ms = IsNoPointer path
+HasBadPointer an_origin path ms = (origin : List ℕ) × (text_at (codes "from") ms ≡ Some origin) × (IsNoPointer path ⊎ IsNoPointer origin)
+
+-- the first fault of a map, in the order of the lines: each says that those before it do not hold
+abbrev pub IsFaultyMap : FormCause → Members → Type 0
+IsFaultyMap NotAnObject ms = ⊥
+IsFaultyMap NoOp ms = text_at (codes "op") ms ≡ None
+IsFaultyMap UnknownOp ms = (name : List ℕ) × (text_at (codes "op") ms ≡ Some name) × ((need : Need) → ¬ NamesOp need name)
+IsFaultyMap NoPath ms = (need : Need) × HasOp need ms × (text_at (codes "path") ms ≡ None)
+IsFaultyMap NoFrom ms = HasOp an_origin ms × (path : List ℕ) × (text_at (codes "path") ms ≡ Some path) × (text_at (codes "from") ms ≡ None)
+IsFaultyMap BadPointer ms = (need : Need) × HasOp need ms × (path : List ℕ) × (text_at (codes "path") ms ≡ Some path) × HasBadPointer need path ms
+IsFaultyMap NoValue ms = HasOp a_value ms × (t : Tokens) × (text_at (codes "path") ms ≡ Some (spell t)) × (find (codes "value") ms ≡ None)
+
+-- the first fault of an element
+abbrev pub IsFaulty : FormCause → Document → Type 0
+IsFaulty NotAnObject d = (ms : Members) → d ≢ object ms
+IsFaulty cause d = (ms : Members) × (d ≡ object ms) × IsFaultyMap cause ms
+
+-- why a document is no patch: for an element, those before it are forms; want of memory says nothing of the document
+abbrev pub IsFormFault : FormFault → Document → Type 0
+IsFormFault NotAnArray d = (ds : Items) → d ≢ list ds
+IsFormFault (Form op cause) d =
+    (front : Items) × (x : Document) × (back : Items) × (d ≡ list (append front (item x back))) × (op ≡ count_of front) × ((operations : List Operation) × EachForm front operations) × IsFaulty cause x
+IsFormFault OutOfMemory d = ⊤
+
+-- ---- depth
+
+-- the depth of the value, 0 where there is none
+abbrev pub value_depth : Operation → ℕ
+value_depth (add t v) = depth v
+value_depth (remove t) = 0
+value_depth (replace t v) = depth v
+value_depth (move f t) = 0
+value_depth (copy f t) = 0
+value_depth (test t v) = depth v
+
+-- of the deepest value
+abbrev pub deepest : List Operation → ℕ
+deepest [] = 0
+deepest (o ∷ operations) = max (value_depth o) (deepest operations)

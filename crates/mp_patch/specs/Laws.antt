@@ -1,0 +1,52 @@
+-- Laws of patches alone. Each is the contract of a function of the module `laws` that runs nothing.
+use Rattle.std.specs.Prelude.{◌≡◌, ◌≤◌, ℕ, List, [], ◌∷◌, ⊤}
+use Rattle.mp_tree.specs.Document.{Document, IsDocument, depth, depth_limit}
+use Rattle.mp_patch.specs.Form.{AreForms, IsFormFault, shapes}
+use Rattle.mp_patch.specs.Operation.{Operation, add, remove, replace, move, copy, test}
+use Rattle.mp_patch.specs.Run.{Runs, RefusedAt}
+use Rattle.mp_patch.specs.declared.fault.Cause.{Cause}
+use Rattle.mp_patch.specs.declared.fault.FormFault.{FormFault}
+use Rattle.mp_patch.specs.declared.fault.FormFault.TheVariants.{OutOfMemory}
+
+-- the value of each operation is a document
+abbrev pub HasDocument : Operation → Type 0
+HasDocument (add t v) = IsDocument v
+HasDocument (remove t) = ⊤
+HasDocument (replace t v) = IsDocument v
+HasDocument (move f t) = ⊤
+HasDocument (copy f t) = ⊤
+HasDocument (test t v) = IsDocument v
+
+abbrev pub HaveDocuments : List Operation → Type 0
+HaveDocuments [] = ⊤
+HaveDocuments (o ∷ operations) = HasDocument o × HaveDocuments operations
+
+-- a patch runs from a document to one end alone (RFC 6902 section 5)
+abbrev pub HasOneEnd : Type 0
+HasOneEnd = (d e f : Document) (operations : List Operation) → IsDocument d → HaveDocuments operations → Runs d operations e → Runs d operations f → e ≡ f
+
+-- a patch that runs is not refused
+abbrev pub RunsUnrefused : Type 0
+RunsUnrefused = (d e : Document) (operations : List Operation) (k : ℕ) (cause : Cause) → IsDocument d → HaveDocuments operations → Runs d operations e → ¬ RefusedAt d operations k cause
+
+-- a patch is refused at one operation alone, and by one cause
+abbrev pub HasOneRefusal : Type 0
+HasOneRefusal =
+    (d : Document) (operations : List Operation) (k n : ℕ) (cause other : Cause) → IsDocument d → HaveDocuments operations
+    → RefusedAt d operations k cause → RefusedAt d operations n other → (k ≡ n) × (cause ≡ other)
+
+-- a patch takes no document past the depth rule
+abbrev pub StaysShallow : Type 0
+StaysShallow = (d e : Document) (operations : List Operation) → IsDocument d → HaveDocuments operations → Runs d operations e → depth d ≤ depth_limit → depth e ≤ depth_limit
+
+-- a document is a form of one list of operations alone
+abbrev pub HasOneReading : Type 0
+HasOneReading = (d : Document) (operations others : List Operation) → AreForms d operations → AreForms d others → operations ≡ others
+
+-- the shapes of operations are forms of them
+abbrev pub ShapesAreForms : Type 0
+ShapesAreForms = (operations : List Operation) → AreForms (shapes operations) operations
+
+-- a document that is a form of operations has no fault
+abbrev pub FormsHaveNoFault : Type 0
+FormsHaveNoFault = (d : Document) (operations : List Operation) (fault : FormFault) → AreForms d operations → IsFormFault fault d → fault ≡ OutOfMemory

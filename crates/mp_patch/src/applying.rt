@@ -1,0 +1,37 @@
+//! Applying a patch to a document.
+ghost use Rattle.std.specs.Prelude.{◌≤◌, MatchResult, IfOk};
+ghost use Rattle.mp_tree.specs.Document.{depth, depth_limit};
+ghost use Rattle.mp_tree.specs.View.{document};
+ghost use Rattle.mp_patch.specs.Run.{Runs, IsFaultOf};
+ghost use Rattle.mp_patch.specs.View.{operations_of};
+
+use crate::fault::ApplyFault;
+use crate::patch::JsonPatch;
+use crate::steps::step;
+use mp_tree::Doc;
+use std::alloc::Global;
+
+/// The document after all operations of the patch, in order, each on what the one before left (RFC 6902 sections 3
+/// to 5). The document that is lent stays as it is.
+///
+/// `Refused` with the first operation that is refused, counted from 0, and its cause: then there is no result.
+/// `OutOfMemory` may come at any point.
+///
+/// ```text
+/// apply(alloc, &doc, &patch)  // {"l":[1,3]}, for {"l":[1,2]} and [{"op":"replace","path":"/l/1","value":3}]
+/// ```
+pub fn apply(alloc: Global, doc: &Doc, patch: &JsonPatch) -> Result<Doc, ApplyFault>
+    ensures runs { MatchResult result
+        (λ e. Runs (document doc.now) (operations_of patch.now) (document e))
+        (λ fault. IsFaultOf fault (document doc.now) (operations_of patch.now)) }
+    ensures depth { IfOk result (λ e. depth (document doc.now) ≤ depth_limit
+        → depth (document e) ≤ depth_limit) }
+{
+    let mut result = doc.copy(alloc)?;
+    for (number, op) in patch.ops().iter().enumerate() {
+        if let Err(fault) = step(op, &mut result, alloc) {
+            return Err(fault.at(number));
+        }
+    }
+    Ok(result)
+}

@@ -1,0 +1,20 @@
+//! JSON Patch (RFC 6902): lists of operations, their form as a document, and applying them.
+#![tactic(auto)]
+
+pub mod applying;
+mod container;
+mod edit;
+pub mod fault;
+pub mod laws;
+pub mod op;
+pub mod patch;
+mod reading;
+mod steps;
+#[cfg(test)]
+mod tests;
+mod writing;
+
+pub use applying::apply;
+pub use fault::{ApplyFault, Cause, FormCause, FormFault};
+pub use op::Op;
+pub use patch::JsonPatch;

@@ -1,0 +1,102 @@
+//! Patches: lists of operations.
+ghost use Rattle.std.specs.Prelude.{◌≡◌, ◌+◌, ◌≤◌, ◌++◌, ◌∷◌, [], OnOk, OnErr, IfOk, MatchResult};
+ghost use Rattle.mp_tree.specs.Document.{depth};
+ghost use Rattle.mp_tree.specs.View.{document};
+ghost use Rattle.mp_patch.specs.Form.{AreForms, IsFormFault, deepest, shapes};
+ghost use Rattle.mp_patch.specs.View.{operations_of};
+
+use crate::fault::FormFault;
+use crate::op::Op;
+use crate::reading::read_ops;
+use crate::writing::shapes_of;
+use mp_tree::Doc;
+use std::alloc::{AllocError, Global};
+use std::marker::Model;
+
+/// A JSON Patch (RFC 6902): a list of operations, which are applied in order.
+///
+/// ```text
+/// let mut patch = JsonPatch::new(alloc);
+/// patch.push(Op::Remove(Pointer::parse(alloc, "/a")?))?;
+/// let result = apply(alloc, &doc, &patch)?;  // {}, where doc is {"a":1}
+/// ```
+#[derive(Drop)]
+pub struct JsonPatch {
+    ops: Vec<Op>,
+}
+
+impl Model for JsonPatch {
+    ghost use Rattle.std.specs.Coded.{codes};
+    ghost use Rattle.std.specs.Prelude.{List};
+    ghost use Rattle.mp_patch.specs.contracts.op.Op as op;
+    ghost use Rattle.mp_patch.specs.declared.op.Op.{Op};
+
+    ghost Value = { List Op };
+
+    ghost view = { λ p. p.ops.items };
+
+    ghost coded = { Prim.hlevel (codes, op.the_row.coded) };
+}
+
+impl JsonPatch {
+    /// The patch with no operation, which leaves each document as it is. Takes no memory.
+    pub fn new(alloc: Global) -> JsonPatch
+        ensures { result ≡ [] }
+    {
+        JsonPatch {
+            ops: Vec::new(alloc),
+        }
+    }
+
+    /// Adds an operation at the end. `AllocError` where memory ran out: the operation is dropped, and the list is
+    /// as it was.
+    pub fn push(&mut self, op: Op) -> Result<(), AllocError>
+        ensures ok { OnOk result (self.new ≡ self.old ++ op ∷ []) }
+        ensures err { OnErr result (self.new ≡ self.old) }
+    {
+        self.ops.push(op)?;
+        Ok(())
+    }
+
+    /// The operations, in order. Takes no memory.
+    pub fn ops(&self) -> &[Op]
+        ensures { result.now ≡ self.now }
+    {
+        self.ops.as_slice()
+    }
+
+    /// The patch that the document is a form of (RFC 6902 section 3): an array of objects, one for each operation, with
+    /// the members `op`, `path` and, where the operation needs it, `value` or `from`. Further members are ignored.
+    ///
+    /// `NotAnArray` where the document is no array; `Form` with the first element that is no operation, counted from
+    /// 0, and its first cause; `OutOfMemory` may come at any point.
+    ///
+    /// ```text
+    /// JsonPatch::from_doc(alloc, &doc)  // for [{"op":"remove","path":"/a"}]: a list of one Op::Remove
+    /// JsonPatch::from_doc(alloc, &doc)  // for [{"op":"add","path":""}]: Form { op: 0, cause: NoValue }
+    /// ```
+    pub fn from_doc(alloc: Global, doc: &Doc) -> Result<JsonPatch, FormFault>
+        ensures { MatchResult result (λ p. AreForms (document doc.now) (operations_of p))
+            (λ fault. IsFormFault fault (document doc.now)) }
+    {
+        match doc {
+            Doc::Items(elements) => read_ops(elements.as_slice(), alloc),
+            _ => Err(FormFault::NotAnArray),
+        }
+    }
+
+    /// The array of objects with exactly the members that the operations need (RFC 6902 sections 3 and 4).
+    /// `from_doc` of it gives the same list. `AllocError` where memory ran out.
+    ///
+    /// ```text
+    /// patch.to_doc(alloc)  // [{"op":"remove","path":"/a"}], for a list of one Op::Remove
+    /// ```
+    pub fn to_doc(&self, alloc: Global) -> Result<Doc, AllocError>
+        ensures document { IfOk result (λ d. document d ≡ shapes (operations_of self.now)) }
+        // At most two deeper than the deepest value, and at most 2 where there is none.
+        ensures depth { IfOk result (λ d.
+            depth (document d) ≤ 2 + deepest (operations_of self.now)) }
+    {
+        Ok(Doc::Items(shapes_of(self.ops(), alloc)?))
+    }
+}

@@ -1,0 +1,196 @@
+// From a document to the operations that it is a form of (RFC 6902 sections 3 and 4).
+ghost use Rattle.std.specs.Prelude.{◌≡◌, ◌≢◌, codes, string_bytes, Some, None, MatchOption, MatchResult};
+ghost use Rattle.std.specs.Option.{option_copied};
+ghost use Rattle.mp_tree.specs.Document.{find, list, object};
+ghost use Rattle.mp_tree.specs.View.{document, items, members};
+ghost use Rattle.mp_pointer.specs.Spelling.{spell};
+ghost use Rattle.mp_patch.specs.Form.{Carries, EachForm, IsFaulty, IsFormFault, IsForm, NamesOp, IsNoPointer, needed, text_at as text_under};
+ghost use Rattle.mp_patch.specs.Read.{IsOpFault, IsMapFault, IsOriginFault, IsTextFault, IsValueFault, fault_at, name_of};
+ghost use Rattle.mp_patch.specs.View.{operation_of, operations_of};
+
+use crate::fault::{FormCause, FormFault};
+use crate::op::Op;
+use crate::patch::JsonPatch;
+use mp_pointer::{Pointer, PointerFault};
+use mp_tree::Doc;
+use std::alloc::{AllocError, Global};
+use std::collections::BTreeMap;
+
+// Why an element is no operation.
+#[derive(Clone, Copy, Drop)]
+pub(crate) enum OpFault {
+    Form(FormCause),
+    OutOfMemory,
+}
+
+impl OpFault {
+    // As the fault of the element with that number.
+    pub(crate) fn at(self, op: usize) -> FormFault
+        ensures { result ≡ fault_at op self }
+    {
+        match self {
+            OpFault::Form(cause) => FormFault::Form { op, cause },
+            OpFault::OutOfMemory => FormFault::OutOfMemory,
+        }
+    }
+}
+
+impl From<FormCause> for OpFault {
+    ghost use Rattle.mp_patch.specs.declared.reading.OpFault.TheVariants.{Form};
+
+    ghost from_gives = { λ cause fault. fault ≡ Form cause };
+
+    fn from(cause: FormCause) -> OpFault {
+        OpFault::Form(cause)
+    }
+}
+
+impl From<AllocError> for OpFault {
+    ghost use Rattle.mp_patch.specs.declared.reading.OpFault.TheVariants.{OutOfMemory};
+
+    ghost from_gives = { λ _ fault. fault ≡ OutOfMemory };
+
+    fn from(_refused: AllocError) -> OpFault {
+        OpFault::OutOfMemory
+    }
+}
+
+#[derive(Clone, Copy, Drop)]
+pub(crate) enum OpName {
+    Add,
+    Remove,
+    Replace,
+    Move,
+    Copy,
+    Test,
+}
+
+// Where a part is, and where it goes.
+#[derive(Drop)]
+struct Places {
+    origin: Pointer,
+    path: Pointer,
+}
+
+pub(crate) fn read_ops(elements: &[Doc], alloc: Global) -> Result<JsonPatch, FormFault>
+    ensures { MatchResult result (λ p. EachForm (items elements.now) (operations_of p))
+        (λ fault. IsFormFault fault (list (items elements.now))) }
+{
+    let mut patch = JsonPatch::new(alloc);
+    for (number, element) in elements.iter().enumerate() {
+        match read_op(element, alloc) {
+            Ok(op) => patch.push(op)?,
+            Err(fault) => return Err(fault.at(number)),
+        }
+    }
+    Ok(patch)
+}
+
+fn read_op(element: &Doc, alloc: Global) -> Result<Op, OpFault>
+    ensures { MatchResult result (λ op. IsForm (document element.now) (operation_of op))
+        (λ fault. IsOpFault fault (document element.now)) }
+{
+    match element {
+        Doc::Members(entries) => read_members(entries, alloc),
+        _ => Err(OpFault::Form(FormCause::NotAnObject)),
+    }
+}
+
+fn read_members(entries: &BTreeMap<String, Doc>, alloc: Global) -> Result<Op, OpFault>
+    ensures { MatchResult result
+        (λ op. Carries (members entries.now.entries) (needed (operation_of op)))
+        (λ fault. IsMapFault fault (members entries.now.entries)) }
+{
+    let op = text_at(entries, "op").ok_or(FormCause::NoOp)?;
+    let name = op_named(op).ok_or(FormCause::UnknownOp)?;
+    let spelling = text_at(entries, "path").ok_or(FormCause::NoPath)?;
+    match name {
+        OpName::Add => {
+            let path = pointer_of(spelling, alloc)?;
+            Ok(Op::Add(path, value_in(entries, alloc)?))
+        }
+        OpName::Remove => Ok(Op::Remove(pointer_of(spelling, alloc)?)),
+        OpName::Replace => {
+            let path = pointer_of(spelling, alloc)?;
+            Ok(Op::Replace(path, value_in(entries, alloc)?))
+        }
+        OpName::Move => {
+            let Places { origin, path } = places_in(spelling, entries, alloc)?;
+            Ok(Op::Move { origin, path })
+        }
+        OpName::Copy => {
+            let Places { origin, path } = places_in(spelling, entries, alloc)?;
+            Ok(Op::Copy { origin, path })
+        }
+        OpName::Test => {
+            let path = pointer_of(spelling, alloc)?;
+            Ok(Op::Test(path, value_in(entries, alloc)?))
+        }
+    }
+}
+
+fn places_in(
+    spelling: &str,
+    entries: &BTreeMap<String, Doc>,
+    alloc: Global,
+) -> Result<Places, OpFault>
+    ensures { MatchResult result
+        (λ p. (spelling.now ≡ spell p.path)
+        × (text_under (codes "from") (members entries.now.entries) ≡ Some (spell p.origin)))
+        (λ fault. IsOriginFault fault spelling.now (members entries.now.entries)) }
+{
+    let origin_spelling = text_at(entries, "from").ok_or(FormCause::NoFrom)?;
+    let path = pointer_of(spelling, alloc)?;
+    let origin = pointer_of(origin_spelling, alloc)?;
+    Ok(Places { origin, path })
+}
+
+fn op_named(name: &str) -> Option<OpName>
+    ensures { MatchOption result ((need : _) → ¬ NamesOp need name.now)
+        (λ op. name.now ≡ name_of op) }
+{
+    match name {
+        "add" => Some(OpName::Add),
+        "remove" => Some(OpName::Remove),
+        "replace" => Some(OpName::Replace),
+        "move" => Some(OpName::Move),
+        "copy" => Some(OpName::Copy),
+        "test" => Some(OpName::Test),
+        _ => None,
+    }
+}
+
+// The text at a name; None where there is none, or no text.
+fn text_at<'a>(entries: &'a BTreeMap<String, Doc>, name: &str) -> Option<&'a str>
+    ensures { option_copied result ≡ text_under name.now (members entries.now.entries) }
+{
+    match entries.get(name)? {
+        Doc::Text(text) => Some(text.as_str()),
+        Doc::Null | Doc::Flag(_) | Doc::Whole(_) | Doc::Items(_) | Doc::Members(_) => None,
+    }
+}
+
+fn pointer_of(spelling: &str, alloc: Global) -> Result<Pointer, OpFault>
+    ensures { MatchResult result (λ p. spelling.now ≡ spell p)
+        (λ fault. IsTextFault fault spelling.now) }
+{
+    match Pointer::parse(alloc, spelling) {
+        Ok(pointer) => Ok(pointer),
+        Err(fault) => match fault {
+            PointerFault::NoSlash => Err(OpFault::Form(FormCause::BadPointer)),
+            PointerFault::BadTilde(_) => Err(OpFault::Form(FormCause::BadPointer)),
+            PointerFault::OutOfMemory => Err(OpFault::OutOfMemory),
+        },
+    }
+}
+
+fn value_in(entries: &BTreeMap<String, Doc>, alloc: Global) -> Result<Doc, OpFault>
+    ensures { MatchResult result
+        (λ v. find (codes "value") (members entries.now.entries) ≡ Some (document v))
+        (λ fault. IsValueFault fault (members entries.now.entries)) }
+{
+    match entries.get("value") {
+        Some(value) => Ok(value.copy(alloc)?),
+        None => Err(OpFault::Form(FormCause::NoValue)),
+    }
+}

@@ -1,0 +1,293 @@
+//! Worked values: operations on documents, forms, and the texts of the faults.
+use crate::{ApplyFault, Cause, FormCause, FormFault, JsonPatch, Op, apply};
+use mp_pointer::Pointer;
+use mp_tree::{Doc, read_doc, write_doc};
+use std::alloc::{AllocError, Global};
+use std::process::Abort;
+use std::test::Fail;
+
+/// Documents, patches, and what the patch makes of the document.
+const APPLIED: &[(&str, &str, &str)] = &[
+    (r#"{"a":1}"#, "[]", r#"{"a":1}"#),
+    (
+        r#"{"a":[1,2]}"#,
+        r#"[{"op":"add","path":"/a/-","value":3},{"op":"add","path":"/b","value":{}}]"#,
+        r#"{"a":[1,2,3],"b":{}}"#,
+    ),
+    (
+        r#"{"a":[1,2]}"#,
+        r#"[{"op":"remove","path":"/a/0"}]"#,
+        r#"{"a":[2]}"#,
+    ),
+    (
+        r#"{"a":{"b":1,"c":2},"d":[3]}"#,
+        r#"[{"op":"replace","path":"/a/b","value":null}]"#,
+        r#"{"a":{"b":null,"c":2},"d":[3]}"#,
+    ),
+    (
+        r#"{"a":1,"b":2}"#,
+        r#"[{"op":"test","path":"","value":{"b":2,"a":1}}]"#,
+        r#"{"a":1,"b":2}"#,
+    ),
+    (
+        r#"{"a":{"x":[1]},"b":{}}"#,
+        r#"[{"op":"copy","from":"/a/x","path":"/b/y"}]"#,
+        r#"{"a":{"x":[1]},"b":{"y":[1]}}"#,
+    ),
+    (
+        r#"{"a":{"x":1}}"#,
+        r#"[{"op":"copy","from":"/a","path":"/a/y"}]"#,
+        r#"{"a":{"x":1,"y":{"x":1}}}"#,
+    ),
+    (
+        "[1,2,3]",
+        r#"[{"op":"move","from":"/0","path":"/2"}]"#,
+        "[2,3,1]",
+    ),
+    (
+        "[1,2,3]",
+        r#"[{"op":"move","from":"/2","path":"/0"}]"#,
+        "[3,1,2]",
+    ),
+    (
+        r#"{"a":[1],"b":2}"#,
+        r#"[{"op":"move","from":"/b","path":"/a"}]"#,
+        r#"{"a":2}"#,
+    ),
+];
+
+/// Documents, patches, and the operation that is refused.
+const REFUSED: &[(&str, &str, usize, Cause)] = &[
+    (
+        r#"{"a":true}"#,
+        r#"[{"op":"test","path":"/a","value":1}]"#,
+        0,
+        Cause::TestFailed,
+    ),
+    (
+        r#"{"a":0}"#,
+        r#"[{"op":"test","path":"/a","value":false}]"#,
+        0,
+        Cause::TestFailed,
+    ),
+    (
+        r#"{"a":1}"#,
+        r#"[{"op":"remove","path":"/a"},{"op":"remove","path":"/a"}]"#,
+        1,
+        Cause::Missing,
+    ),
+    (
+        r#"{"a":{}}"#,
+        r#"[{"op":"move","from":"/a","path":"/a/b"}]"#,
+        0,
+        Cause::IntoItself,
+    ),
+    (
+        "[1,2]",
+        r#"[{"op":"move","from":"/0","path":"/2"}]"#,
+        0,
+        Cause::NoPlace,
+    ),
+];
+
+/// Documents that are no patch.
+const MALFORMED: &[(&str, FormFault)] = &[
+    ("{}", FormFault::NotAnArray),
+    (
+        r#"[{"op":"remove","path":""},[]]"#,
+        FormFault::Form {
+            op: 1,
+            cause: FormCause::NotAnObject,
+        },
+    ),
+    (
+        r#"[{"op":"move","path":"x"}]"#,
+        FormFault::Form {
+            op: 0,
+            cause: FormCause::NoFrom,
+        },
+    ),
+    (
+        r#"[{"op":"copy","path":"","from":"~"}]"#,
+        FormFault::Form {
+            op: 0,
+            cause: FormCause::BadPointer,
+        },
+    ),
+    (
+        r#"[{"op":"add","path":""}]"#,
+        FormFault::Form {
+            op: 0,
+            cause: FormCause::NoValue,
+        },
+    ),
+];
+
+const CAUSES: &[(Cause, &str)] = &[
+    (Cause::IntoItself, "into itself"),
+    (Cause::RemoveRoot, "remove of root"),
+    (Cause::Missing, "missing"),
+    (Cause::NoPlace, "no place"),
+    (Cause::TooDeep, "too deep"),
+    (Cause::TestFailed, "test failed"),
+];
+
+const FORM_CAUSES: &[(FormCause, &str)] = &[
+    (FormCause::NotAnObject, "not an object"),
+    (FormCause::NoOp, "no op"),
+    (FormCause::UnknownOp, "unknown op"),
+    (FormCause::NoPath, "no path"),
+    (FormCause::NoFrom, "no from"),
+    (FormCause::BadPointer, "bad pointer"),
+    (FormCause::NoValue, "no value"),
+];
+
+fn check_text<R: Abort + AllocGlobal>(rt: &R, doc: &Doc, text: &str) {
+    let written = write_doc(rt.alloc(), doc).expect(rt, "memory for a text");
+    assert_eq!(rt; written.as_str(), text);
+}
+
+// So many lists, one in another.
+fn nested(alloc: Global, count: u8) -> Result<Doc, AllocError> {
+    let mut doc = Doc::Items(Vec::new(alloc));
+    for _ in 1..count {
+        let mut outer = Vec::new(alloc);
+        outer.push(doc)?;
+        doc = Doc::Items(outer);
+    }
+    Ok(doc)
+}
+
+#[test]
+fn applied(rt: HostRuntime) -> Result<(), Fail> {
+    for (start, form, wanted) in APPLIED {
+        let doc = read_doc(rt.alloc(), start.as_bytes())?;
+        let patch = JsonPatch::from_doc(rt.alloc(), &read_doc(rt.alloc(), form.as_bytes())?)?;
+        check_text(&rt, &apply(rt.alloc(), &doc, &patch)?, wanted);
+        check_text(&rt, &doc, start);
+    }
+    Ok(())
+}
+
+#[test]
+fn refused(rt: HostRuntime) -> Result<(), Fail> {
+    for (start, form, number, wanted) in REFUSED {
+        let doc = read_doc(rt.alloc(), start.as_bytes())?;
+        let patch = JsonPatch::from_doc(rt.alloc(), &read_doc(rt.alloc(), form.as_bytes())?)?;
+        let fault = apply(rt.alloc(), &doc, &patch).err();
+        let wanted_fault = ApplyFault::Refused {
+            op: *number,
+            cause: *wanted,
+        };
+        assert_eq!(rt; fault, Some(wanted_fault), "{form}");
+    }
+    Ok(())
+}
+
+#[test]
+fn malformed(rt: HostRuntime) -> Result<(), Fail> {
+    for (form, wanted) in MALFORMED {
+        let doc = read_doc(rt.alloc(), form.as_bytes())?;
+        match JsonPatch::from_doc(rt.alloc(), &doc) {
+            Ok(_) => panic!(rt; "{form} is no patch"),
+            Err(fault) => assert_eq!(rt; fault, *wanted, "{form}"),
+        }
+    }
+    Ok(())
+}
+
+#[test]
+fn a_removal_there_and_back(rt: HostRuntime) -> Result<(), Fail> {
+    let mut patch = JsonPatch::new(rt.alloc());
+    patch.push(Op::Remove(Pointer::parse(rt.alloc(), "/a")?))?;
+    let form = patch.to_doc(rt.alloc())?;
+    check_text(&rt, &form, r#"[{"op":"remove","path":"/a"}]"#);
+    let read = JsonPatch::from_doc(rt.alloc(), &form)?;
+    assert_eq!(rt; read.ops().len(), 1);
+    let doc = read_doc(rt.alloc(), b"{\"a\":1}")?;
+    check_text(&rt, &apply(rt.alloc(), &doc, &read)?, "{}");
+    Ok(())
+}
+
+#[test]
+fn a_move_there_and_back(rt: HostRuntime) -> Result<(), Fail> {
+    let mut patch = JsonPatch::new(rt.alloc());
+    let origin = Pointer::parse(rt.alloc(), "/a")?;
+    let path = Pointer::parse(rt.alloc(), "/b")?;
+    patch.push(Op::Move { origin, path })?;
+    let form = patch.to_doc(rt.alloc())?;
+    check_text(&rt, &form, r#"[{"from":"/a","op":"move","path":"/b"}]"#);
+    let read = JsonPatch::from_doc(rt.alloc(), &form)?;
+    assert_eq!(rt; read.ops().len(), 1);
+    let doc = read_doc(rt.alloc(), b"{\"a\":1}")?;
+    check_text(&rt, &apply(rt.alloc(), &doc, &read)?, r#"{"b":1}"#);
+    Ok(())
+}
+
+#[test]
+fn depths(rt: HostRuntime) -> Result<(), Fail> {
+    let start = Doc::Items(Vec::new(rt.alloc()));
+    let mut shallow = JsonPatch::new(rt.alloc());
+    let end = Pointer::parse(rt.alloc(), "/-")?;
+    shallow.push(Op::Add(end, nested(rt.alloc(), 125)?))?;
+    let deepest = apply(rt.alloc(), &start, &shallow)?;
+    assert!(rt; deepest.fits(126), "at most 126");
+    assert!(rt; !deepest.fits(125), "126");
+
+    let mut deep = JsonPatch::new(rt.alloc());
+    let end = Pointer::parse(rt.alloc(), "/-")?;
+    deep.push(Op::Add(end, nested(rt.alloc(), 126)?))?;
+    let too_deep = ApplyFault::Refused {
+        op: 0,
+        cause: Cause::TooDeep,
+    };
+    assert_eq!(rt; apply(rt.alloc(), &start, &deep).err(), Some(too_deep));
+
+    let mut whole = JsonPatch::new(rt.alloc());
+    whole.push(Op::Replace(Pointer::empty(rt.alloc()), nested(rt.alloc(), 126)?))?;
+    let replaced = apply(rt.alloc(), &start, &whole)?;
+    assert!(rt; replaced.same(&nested(rt.alloc(), 126)?), "the value");
+    Ok(())
+}
+
+#[test]
+fn fault_texts(rt: HostRuntime) -> Result<(), Fail> {
+    for (cause, text) in CAUSES {
+        let shown = format!(in rt.alloc(); "{cause}")?;
+        assert_eq!(rt; shown.as_str(), *text);
+        let fault = ApplyFault::Refused {
+            op: 7,
+            cause: *cause,
+        };
+        let whole = format!(in rt.alloc(); "operation 7: {text}")?;
+        let shown_fault = format!(in rt.alloc(); "{fault}")?;
+        assert_eq!(rt; shown_fault.as_str(), whole.as_str());
+    }
+    for (cause, text) in FORM_CAUSES {
+        let shown = format!(in rt.alloc(); "{cause}")?;
+        assert_eq!(rt; shown.as_str(), *text);
+        let fault = FormFault::Form {
+            op: 7,
+            cause: *cause,
+        };
+        let whole = format!(in rt.alloc(); "operation 7: {text}")?;
+        let shown_fault = format!(in rt.alloc(); "{fault}")?;
+        assert_eq!(rt; shown_fault.as_str(), whole.as_str());
+    }
+    let not_an_array = FormFault::NotAnArray;
+    assert_eq!(rt;
+        format!(in rt.alloc(); "{not_an_array}")?.as_str(),
+        "not an array"
+    );
+    let form_memory = FormFault::OutOfMemory;
+    assert_eq!(rt;
+        format!(in rt.alloc(); "{form_memory}")?.as_str(),
+        "out of memory"
+    );
+    let apply_memory = ApplyFault::OutOfMemory;
+    assert_eq!(rt;
+        format!(in rt.alloc(); "{apply_memory}")?.as_str(),
+        "out of memory"
+    );
+    Ok(())
+}
