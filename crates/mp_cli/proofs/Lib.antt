@@ -1,4 +1,3 @@
-pub mod ApplicationLemmas
 pub mod CommandLineLemmas
 pub mod GetWord
 pub mod GivenWords

@@ -9,7 +9,7 @@ use Rattle.mp_pointer.specs.Spelling.{Tokens, tokens_in}
 use Rattle.mp_pointer.specs.declared.fault.PointerFault.{PointerFault}
 use Rattle.mp_pointer.specs.declared.fault.PointerFault.TheVariants.{NoSlash, BadTilde, OutOfMemory as NoMemory}
 use Rattle.std.specs.declared.alloc.AllocError.{AllocError}
-use Rattle.mp_cli.specs.Application.{mp}
+use Rattle.mp_merge.specs.Application.{mp}
 use Rattle.mp_cli.specs.declared.answers.Answer.{Answer}
 use Rattle.mp_cli.specs.declared.command.Command.{Command}
 use Rattle.mp_cli.specs.declared.command.Command.TheVariants.{Get, Merge}

@@ -1,5 +1,4 @@
 pub mod Answered
-pub mod Application
 pub mod CommandLine
 pub mod Counted
 pub mod FaultLine

@@ -5,7 +5,7 @@ ghost use Rattle.mp_cli.specs.Answered.{Gives, answered, bad_tilde_line, get_ans
 
 use crate::answers::Answer;
 use crate::command::Command;
-use crate::merging::merged;
+use mp_merge::merge_owned;
 use mp_pointer::{Pointer, PointerFault, get as part_at};
 use mp_tree::{Doc, DocsFault, read_docs, write_doc, write_owned};
 use std::alloc::{AllocError, Global};
@@ -118,7 +118,7 @@ fn merge(alloc: Global, docs: Vec<Doc>) -> Result<Answer, AllocError>
         return wrong_shape(alloc);
     };
     for patch in inputs {
-        doc = merged(patch, Some(doc), alloc)?;
+        doc = merge_owned(alloc, Some(doc), patch)?;
     }
     printed(write_owned(alloc, doc)?)
 }

@@ -6,7 +6,6 @@ mod answering;
 pub mod answers;
 mod command;
 mod counted;
-mod merging;
 mod running;
 
 pub use answering::answer;

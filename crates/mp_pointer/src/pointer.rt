@@ -108,6 +108,19 @@ impl Pointer {
         Ok(child)
     }
 
+    /// The pointer to the same part in a document that has this one under `token`: that token, given unescaped, and
+    /// then these. `AllocError` where memory ran out.
+    ///
+    /// ```text
+    /// pointer.under(alloc, "x/")  // prints as /x~1/a, where pointer prints as /a
+    /// ```
+    pub fn under(mut self, alloc: Global, token: &str) -> Result<Pointer, AllocError>
+        ensures { IfOk result (λ p. p ≡ token.now ∷ self) }
+    {
+        self.tokens.insert(0, String::from_str(alloc, token)?)?;
+        Ok(self)
+    }
+
     /// The pointer of the first `count` tokens, which leads to a part that holds this pointer's.
     /// `count` is at most `len()`. `AllocError` where memory ran out.
     pub fn front(&self, alloc: Global, count: usize) -> Result<Pointer, AllocError>

@@ -1,0 +1,154 @@
+-- Clashes name by name.
+use Rattle.std.proofs.Common.{◌≡◌, ◌⊎◌, inl, inr, ◌↔◌, ℕ, List, [], ◌∷◌, Bool, true, false, cond, Option, Some, None, String, Vec, BTreeMap, Global, Less, refl, sym, ap, ◌∙◌, subst, rules, true≢false}
+use Rattle.std.specs.Ordering.{ordering_then}
+use Rattle.mp_tree.specs.Document.{Document, null, flag, whole, string, list, object, Members, no_members, member, name_cmp, is_name, find, IsMap}
+use Rattle.mp_tree.specs.Look.{Path, nothing, an_object, plain, look, look_of, look_here}
+use Rattle.mp_tree.specs.View.{document, document_step}
+use Rattle.mp_tree.specs.declared.doc.Doc.{Doc, Members as Map, ind-Doc, roll-Doc, fold-roll-Doc, the_lemmas}
+use Rattle.mp_tree.specs.declared.doc.Doc.TheOpen.{Doc-F}
+use Rattle.mp_tree.proofs.Facts.{find-below, IsBelow-trans, cases_name, cases_same, is_name-self, same_from_cmp}
+use Rattle.mp_merge.specs.Clash.{Clash, Compatible, path_cmp, IsFirstClash}
+
+-- ---- at the root
+
+pub is_here : (d : Document) → look_here d ≡ nothing → ⊥
+is_here null e = cc
+is_here (flag b) e = cc
+is_here (whole z) e = cc
+is_here (string s) e = cc
+is_here (list ds) e = cc
+is_here (object ms) e = cc
+
+abbrev pub IsNoMap : Document → Type 0
+IsNoMap d = look_here d ≡ plain d
+
+-- a `Doc` that is no object
+abbrev NoMapUnless : Doc → Type 0
+NoMapUnless d = ((m : BTreeMap (String Global) Doc) → d ≡ Map m → ⊥) → IsNoMap (document d)
+
+pub no_map : (d : Doc) → ((m : BTreeMap (String Global) Doc) → d ≡ Map m → ⊥) → IsNoMap (document d)
+no_map = ind-Doc NoMapUnless (λ x y is. opened x)
+  where
+    opened : (x : Doc-F Doc) → NoMapUnless (roll-Doc x)
+    opened Doc-F.Null never = subst IsNoMap (sym (fold-roll-Doc Document document_step Doc-F.Null)) refl
+    opened (Doc-F.Flag b) never = subst IsNoMap (sym (fold-roll-Doc Document document_step (Doc-F.Flag b))) refl
+    opened (Doc-F.Whole n) never = subst IsNoMap (sym (fold-roll-Doc Document document_step (Doc-F.Whole n))) refl
+    opened (Doc-F.Text s) never = subst IsNoMap (sym (fold-roll-Doc Document document_step (Doc-F.Text s))) refl
+    opened (Doc-F.Items v) never = subst IsNoMap (sym (fold-roll-Doc Document document_step (Doc-F.Items v))) refl
+    opened (Doc-F.Members m) never = absurd (never m (search (rules, the_lemmas)))
+
+pub same_plain : (d e : Document) → plain d ≡ look_here e → d ≡ e
+same_plain d null same = cc
+same_plain d (flag b) same = cc
+same_plain d (whole z) same = cc
+same_plain d (string s) same = cc
+same_plain d (list ds) same = cc
+same_plain d (object ms) same = absurd (cc)
+
+pub clash_at_root : (p q : Document) → (look_here p ≡ look_here q → ⊥) → Clash p q []
+clash_at_root p q other = record { first = is_here p; second = is_here q; differ = other }
+
+pub clash_of_others : (p q : Document) → IsNoMap p → (p ≡ q → ⊥) → Clash p q []
+clash_of_others p q plain_p other = clash_at_root p q (λ same. other (same_plain p q (sym plain_p ∙ same)))
+
+pub clash_with_a_map : (ms : Members) (q : Document) → IsNoMap q → Clash (object ms) q []
+clash_with_a_map ms q plain_q = clash_at_root (object ms) q (λ same. never (same ∙ plain_q))
+  where
+    never : an_object ≡ plain q → ⊥
+    never e = cc
+
+pub compatible-self : (p q : Document) → p ≡ q → Compatible p q
+compatible-self p q same w clash = clash.differ (ap (λ d. look d w) same)
+
+pub compatible-sym : (p q : Document) → Compatible p q → Compatible q p
+compatible-sym p q none w clash = none w (record { first = clash.second; second = clash.first; differ = λ same. clash.differ (sym same) })
+
+nothing_is_below : (u : Path) → path_cmp u [] ≡ Less → ⊥
+nothing_is_below [] e = cc
+nothing_is_below (n ∷ u) e = cc
+
+pub first_at_root : (p q : Document) → Clash p q [] → IsFirstClash p q []
+first_at_root p q clash = record { here = clash; before = λ u below. absurd (nothing_is_below u below) }
+
+pub decided : (b : Bool) {P : Type 0} → (b ≡ true) ↔ P → ((P → ⊥) → ⊥) → b ≡ true
+decided true same never = refl
+decided false same never = absurd (never (λ p. true≢false (sym (same.1 p))))
+
+-- ---- name by name
+
+-- the clashes with all the members are those with the members that are left
+abbrev pub SameClashes : Members → Members → Members → Type 0
+SameClashes ps left qs = (w : Path) → Clash (object ps) (object qs) w ↔ Clash (object left) (object qs) w
+
+pub none_left : (qs : Members) → Compatible (object no_members) (object qs)
+none_left qs [] clash = clash.differ refl
+none_left qs (n ∷ w) clash = clash.first refl
+
+pub compatible_from_left : (ps left qs : Members) → SameClashes ps left qs → Compatible (object left) (object qs) → Compatible (object ps) (object qs)
+compatible_from_left ps left qs same none w clash = none w ((same w).0 clash)
+
+pub first_from_left : (ps left qs : Members) (w : Path) → SameClashes ps left qs → IsFirstClash (object left) (object qs) w → IsFirstClash (object ps) (object qs) w
+first_from_left ps left qs w same first = record { here = (same w).1 first.here; before = λ u below clash. first.before u below ((same u).0 clash) }
+
+-- what stands at a name in a map that begins with it, and in one that begins with another name
+at_first : (n : List ℕ) (p : Document) (ps : Members) → find n (member n p ps) ≡ Some p
+at_first n p ps = rw is_name-self refl
+
+abbrev ClashOf : Option Document → Option Document → Path → Type 0
+ClashOf p q w = (look_of p w ≡ nothing → ⊥) × (look_of q w ≡ nothing → ⊥) × (look_of p w ≡ look_of q w → ⊥)
+
+clash_of : (ps qs : Members) (n : List ℕ) (w : Path) → Clash (object ps) (object qs) (n ∷ w) → ClashOf (find n ps) (find n qs) w
+clash_of ps qs n w clash = (clash.first, clash.second, clash.differ)
+
+clash_from : (ps qs : Members) (n : List ℕ) (w : Path) → ClashOf (find n ps) (find n qs) w → Clash (object ps) (object qs) (n ∷ w)
+clash_from ps qs n w clash = record { first = clash.0; second = clash.1; differ = clash.2 }
+
+-- the first name may be passed where nothing clashes under it
+pub pass_first : (n : List ℕ) (p : Document) (ps qs : Members) → IsMap (member n p ps) → ((w : Path) → ClashOf (Some p) (find n qs) w → ⊥) → SameClashes (member n p ps) ps qs
+pass_first n p ps qs map none [] = (λ clash. absurd (clash.differ refl), λ clash. absurd (clash.differ refl))
+pass_first n p ps qs map none (m ∷ w) = cases_same m n
+    (λ here. let absent : find m ps ≡ None = ap (λ k. find k ps) here ∙ find-below n ps map.1 in (
+      λ clash. absurd (none w (subst (λ o. ClashOf o (find n qs) w) (at_first n p ps) (subst (λ k. ClashOf (find k (member n p ps)) (find k qs) w) here (clash_of (member n p ps) qs m w clash)))),
+      λ clash. absurd (clash.first (ap (λ o. look_of o w) absent)),
+    ))
+    (λ other. let same : find m (member n p ps) ≡ find m ps = rw other refl in (
+      λ clash. clash_from ps qs m w (subst (λ o. ClashOf o (find m qs) w) same (clash_of (member n p ps) qs m w clash)),
+      λ clash. clash_from (member n p ps) qs m w (subst (λ o. ClashOf o (find m qs) w) (sym same) (clash_of ps qs m w clash)),
+    ))
+
+-- ---- under the first name
+
+abbrev pub NoClashUnder : Document → Option Document → Type 0
+NoClashUnder p q = (w : Path) → ClashOf (Some p) q w → ⊥
+
+pub absent_under : (p : Document) (q : Option Document) → q ≡ None → NoClashUnder p q
+absent_under p q absent w clash = clash.1 (ap (λ o. look_of o w) absent)
+
+pub compatible_under : (p q : Document) (o : Option Document) → o ≡ Some q → Compatible p q → NoClashUnder p o
+compatible_under p q o is none w clash =
+    let there : ClashOf (Some p) (Some q) w = subst (λ x. ClashOf (Some p) x w) is clash in
+    none w (record { first = there.0; second = there.1; differ = there.2 })
+
+-- a clash under the first name is one of the members
+pub clash_under : (n : List ℕ) (p q : Document) (ps qs : Members) (w : Path) → find n qs ≡ Some q → Clash p q w → Clash (object (member n p ps)) (object qs) (n ∷ w)
+clash_under n p q ps qs w is clash =
+    let there : ClashOf (Some p) (Some q) w = (clash.first, clash.second, clash.differ) in
+    clash_from (member n p ps) qs n w (subst (λ o. ClashOf o (find n qs) w) (sym (at_first n p ps)) (subst (λ o. ClashOf (Some p) o w) (sym is) there))
+
+-- and the first one under it is the first of the members
+pub first_under : (n : List ℕ) (p q : Document) (ps qs : Members) (w : Path) → IsMap (member n p ps) → find n qs ≡ Some q → IsFirstClash p q w → IsFirstClash (object (member n p ps)) (object qs) (n ∷ w)
+first_under n p q ps qs w map is first = record { here = clash_under n p q ps qs w is first.here; before = before }
+  where
+    before : (u : Path) → path_cmp u (n ∷ w) ≡ Less → Clash (object (member n p ps)) (object qs) u → ⊥
+    before [] below clash = clash.differ refl
+    before (m ∷ u) below clash = cases_name m n
+        (λ less.
+        let absent : find m (member n p ps) ≡ None = find-below m (member n p ps) (less, IsBelow-trans m n ps less map.1) in
+        clash.first (ap (λ o. look_of o u) absent))
+        (λ equal.
+        let here = same_from_cmp m n equal in
+        let under = clash_of (member n p ps) qs m u clash in
+        let there = subst (λ o. ClashOf (Some p) o u) is (subst (λ o. ClashOf o (find n qs) u) (at_first n p ps) (subst (λ k. ClashOf (find k (member n p ps)) (find k qs) u) here under)) in
+        let less : path_cmp u w ≡ Less = sym (ap (λ o. ordering_then o (path_cmp u w)) equal) ∙ below in
+        first.before u less (record { first = there.0; second = there.1; differ = there.2 }))
+        (λ greater. let never = sym (ap (λ o. ordering_then o (path_cmp u w)) greater) ∙ below in absurd (cc))

@@ -1,0 +1,71 @@
+-- A merged document is no deeper than the deeper of target and patch.
+use Rattle.std.proofs.Common.{◌≤◌, ℕ, List, Bool, true, false, cond, max, Option, Some, None, Ordering, arith}
+use Rattle.std.specs.Ordering.{match_ordering}
+use Rattle.std.specs.declared.cmp.Ordering.TheVariants.{Less, Equal, Greater}
+use Rattle.mp_tree.specs.Document.{Document, null, flag, whole, string, list, object, Members, no_members, member, name_cmp, is_name, find, put, without, depth, members_depth}
+use Rattle.mp_merge.specs.Application.{target_members, changed, depth_of, mp, mp_members}
+
+pub depth-find : (q : List ℕ) (ms : Members) → depth_of (find q ms) ≤ members_depth ms
+depth-find q no_members = omega arith
+depth-find q (member m d ms) = picked (is_name q m) (depth-find q ms)
+  where
+    picked : (b : Bool) → depth_of (find q ms) ≤ members_depth ms → depth_of (cond b (Some d) (find q ms)) ≤ max (depth d) (members_depth ms)
+    picked true later = omega arith
+    picked false later = omega (arith, later)
+
+pub depth-put : (n : List ℕ) (d : Document) (ms : Members) → members_depth (put n d ms) ≤ max (depth d) (members_depth ms)
+depth-put n d no_members = omega arith
+depth-put n d (member m e ms) = placed (name_cmp n m) (depth-put n d ms)
+  where
+    placed : (o : Ordering) → members_depth (put n d ms) ≤ max (depth d) (members_depth ms) → members_depth (match_ordering o (member n d (member m e ms)) (member n d ms) (member m e (put n d ms))) ≤ max (depth d) (max (depth e) (members_depth ms))
+    placed Less later = omega arith
+    placed Equal later = omega arith
+    placed Greater later = omega (arith, later)
+
+depth-without : (n : List ℕ) (ms : Members) → members_depth (without n ms) ≤ members_depth ms
+depth-without n no_members = omega arith
+depth-without n (member m d ms) = picked (is_name n m) (depth-without n ms)
+  where
+    picked : (b : Bool) → members_depth (without n ms) ≤ members_depth ms → members_depth (cond b ms (member m d (without n ms))) ≤ max (depth d) (members_depth ms)
+    picked true later = omega arith
+    picked false later = omega (arith, later)
+
+depth-changed : (n : List ℕ) (p d : Document) (ms : Members) → members_depth (changed n p d ms) ≤ max (depth d) (members_depth ms)
+depth-changed n null d ms = omega (arith, depth-without n ms)
+depth-changed n (flag b) d ms = depth-put n d ms
+depth-changed n (whole z) d ms = depth-put n d ms
+depth-changed n (string s) d ms = depth-put n d ms
+depth-changed n (list ds) d ms = depth-put n d ms
+depth-changed n (object ps) d ms = depth-put n d ms
+
+depth-target_members : (t : Option Document) → members_depth (target_members t) ≤ depth_of t
+depth-target_members None = omega arith
+depth-target_members (Some null) = omega arith
+depth-target_members (Some (flag b)) = omega arith
+depth-target_members (Some (whole z)) = omega arith
+depth-target_members (Some (string s)) = omega arith
+depth-target_members (Some (list ds)) = omega arith
+depth-target_members (Some (object ts)) = omega arith
+
+members_at_most : (t : Option Document) (ps : Members) → members_depth (mp_members (target_members t) ps) ≤ max (members_depth (target_members t)) (members_depth ps) → depth (mp t (object ps)) ≤ max (depth_of t) (depth (object ps))
+members_at_most None ps inner = omega (arith, inner)
+members_at_most (Some null) ps inner = omega (arith, inner)
+members_at_most (Some (flag b)) ps inner = omega (arith, inner)
+members_at_most (Some (whole z)) ps inner = omega (arith, inner)
+members_at_most (Some (string s)) ps inner = omega (arith, inner)
+members_at_most (Some (list ds)) ps inner = omega (arith, inner)
+members_at_most (Some (object ts)) ps inner = omega (arith, inner)
+
+mutual
+  pub depth-mp : (t : Option Document) (p : Document) → depth (mp t p) ≤ max (depth_of t) (depth p)
+  depth-mp t null = omega arith
+  depth-mp t (flag b) = omega arith
+  depth-mp t (whole z) = omega arith
+  depth-mp t (string s) = omega arith
+  depth-mp t (list ds) = omega arith
+  depth-mp t (object ps) = members_at_most t ps (depth-mp_members (target_members t) ps)
+
+  depth-mp_members : (ts ps : Members) → members_depth (mp_members ts ps) ≤ max (members_depth ts) (members_depth ps)
+  depth-mp_members ts no_members = omega arith
+  depth-mp_members ts (member n p ps) =
+      omega (arith, depth-changed n p (mp (find n ts) p) (mp_members ts ps), depth-mp (find n ts) p, depth-find n ts, depth-mp_members ts ps)

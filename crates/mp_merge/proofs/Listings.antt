@@ -1,0 +1,301 @@
+-- The operations that the walk over a patch and a document adds are the rewriting.
+use Rattle.std.proofs.Common.{◌≡◌, ◌≢◌, inl, inr, ◌↔◌, ℕ, List, [], ◌∷◌, ◌++◌, map, Less, cond, false, Option, Some, None, refl, sym, ap, ap₂, ◌∙◌, subst, append-nil, append_assoc}
+use Rattle.std.proofs.lemmas.List.{map-append}
+use Rattle.std.proofs.lemmas.List.Elements.{Contains-append_left, Contains-append_right, Contains-append_cases}
+use Rattle.std.specs.List.{Contains}
+use Rattle.std.specs.List.Sorted.{IsStrictlySortedBy}
+use Rattle.std.specs.Ordering.{ordering_then}
+use Rattle.mp_tree.specs.Document.{Document, null, flag, whole, string, list, object, Members, no_members, member, name_cmp, is_name, find, IsBelow, IsDocument, IsMap}
+use Rattle.mp_tree.specs.Look.{Path, Look, nothing, an_object, plain, look, look_of}
+use Rattle.mp_tree.proofs.Facts.{is_here, find-below, cases_same, is_name-self}
+use Rattle.mp_tree.proofs.Names.{name_cmp-self}
+use Rattle.mp_patch.specs.Operation.{Operation}
+use Rattle.mp_merge.specs.Clash.{path_cmp}
+use Rattle.mp_merge.specs.EditWalk.{IsOneEdit, NotBothMaps, AreEdits, AreMemberEdits}
+use Rattle.mp_merge.specs.Rewriting.{part_left, leaving, edit, IsRewriting}
+use Rattle.mp_merge.proofs.ClashLemmas.{same_plain}
+use Rattle.mp_merge.proofs.EditPlaces.{differs_at_edit, edit_where_differs, left_by-no_map}
+use Rattle.mp_merge.proofs.Elements.{Contains-nil, Contains-head, Contains-tail, Contains-cases, Contains-one}
+use Rattle.mp_merge.proofs.Places.{MapsAbove, at_path, part-at_path}
+use Rattle.mp_merge.proofs.Rewritings.{Below}
+use Rattle.mp_merge.proofs.Says.{left_of}
+
+-- the edit places of a part of a patch and a part of a document that stand at s
+record DiffersAt (s : Path) (t p : Option Document) (w : Path) : Type 0 where
+  maps : MapsAbove t w
+  patch_maps : MapsAbove p w
+  speaks : look_of p w ≢ nothing
+  differs : look_of t w ≢ left_of (look_of p w) (s ++ w)
+
+abbrev edit_at : Path → Option Document → Option Document → Path → Operation
+edit_at s t p w = leaving (s ++ w) (look_of t w) (part_left (s ++ w) (at_path p w))
+
+record Listing (s : Path) (t p : Option Document) (operations : List Operation) : Type 0 where
+  places : List Path
+  rising : IsStrictlySortedBy path_cmp places
+  all : (w : Path) → Contains places w ↔ DiffersAt s t p w
+  edits : operations ≡ map (edit_at s t p) places
+
+-- ---- where not both have a map
+
+look-left : (s : Path) (p : Document) → look_of (part_left s (Some p)) [] ≡ left_of (look p []) s
+look-left [] null = refl
+look-left [] (flag b) = refl
+look-left [] (whole z) = refl
+look-left [] (string x) = refl
+look-left [] (list ds) = refl
+look-left [] (object ms) = refl
+look-left (n ∷ s) null = refl
+look-left (n ∷ s) (flag b) = refl
+look-left (n ∷ s) (whole z) = refl
+look-left (n ∷ s) (string x) = refl
+look-left (n ∷ s) (list ds) = refl
+look-left (n ∷ s) (object ms) = refl
+
+same_at_end : (t o : Option Document) → look_of t [] ≢ an_object → look_of t [] ≡ look_of o [] → t ≡ o
+same_at_end None None other is = refl
+same_at_end None (Some e) other is = absurd (is_here e (sym is))
+same_at_end (Some (object ts)) o other is = absurd (other refl)
+same_at_end (Some d) None other is = absurd (cc)
+same_at_end (Some d) (Some e) other is = ap Some (same_plain d e is)
+
+left_map : (l : Look) (s : Path) → left_of l s ≡ an_object → l ≡ an_object
+left_map nothing s is = absurd (cc)
+left_map an_object s is = refl
+left_map (plain v) s is = absurd (left_by-no_map v s is)
+
+settled : (s : Path) (p : Document) (t : Option Document) → NotBothMaps p t → look_of t [] ≡ left_of (look p []) s → t ≡ part_left s (Some p)
+settled s p t other is =
+    same_at_end t (part_left s (Some p)) (λ map. other (left_map (look p []) s (sym is ∙ map)) map) (is ∙ sym (look-left s p))
+
+at_root_alone : (s : Path) (p : Document) (t : Option Document) (w : Path) → NotBothMaps p t → DiffersAt s t (Some p) w → w ≡ []
+at_root_alone s p t [] other here = refl
+at_root_alone s p t (n ∷ w) other here = absurd (other here.patch_maps.0 here.maps.0)
+
+one_listing : (s : Path) (p : Document) (t : Option Document) (operations : List Operation) → NotBothMaps p t → IsOneEdit s p t operations → Listing s t (Some p) operations
+unfolding IsStrictlySortedBy
+one_listing s p t operations other (inl (there, none)) = record {
+  places = [];
+  rising = tt;
+  all = λ w. (λ at. absurd (Contains-nil w at), λ here. absurd (never w here));
+  edits = none;
+}
+  where
+    never : (w : Path) → DiffersAt s t (Some p) w → ⊥
+    never w here =
+        let root = at_root_alone s p t w other here in
+        (subst (DiffersAt s t (Some p)) root here).differs (ap (λ o. look_of o []) there ∙ look-left s p ∙ ap (left_of (look p [])) (sym (append-nil s)))
+one_listing s p t operations other (inr (open_yet, one)) = record {
+  places = [] ∷ [];
+  rising = (tt, tt);
+  all = λ w. (λ at. subst (DiffersAt s t (Some p)) (Contains-one [] w at) at_root, λ here. subst (Contains ([] ∷ [])) (sym (at_root_alone s p t w other here)) (Contains-head [] []));
+  edits = one ∙ ap (λ u. leaving u (look_of t []) (part_left u (Some p)) ∷ []) (sym (append-nil s));
+}
+  where
+    at_root : DiffersAt s t (Some p) []
+    at_root = record {
+      maps = tt;
+      patch_maps = tt;
+      speaks = is_here p;
+      differs = λ same. open_yet (settled s p t other (same ∙ ap (left_of (look p [])) (append-nil s)));
+    }
+
+-- ---- under a name
+
+module _ (s : Path) (ds : Members) where
+  abbrev Under : Members → Path → Type 0
+  Under qs w = DiffersAt s (Some (object ds)) (Some (object qs)) w
+
+  under_name : (k : List ℕ) (w : Path) (qs : Members) → DiffersAt (s ++ k ∷ []) (find k ds) (find k qs) w → Under qs (k ∷ w)
+  under_name k w qs here = record {
+    maps = (refl, here.maps);
+    patch_maps = (refl, here.patch_maps);
+    speaks = here.speaks;
+    differs = λ same. here.differs (same ∙ ap (left_of (look_of (find k qs) w)) (sym (append_assoc s (k ∷ []) w)));
+  }
+
+  inside_name : (k : List ℕ) (w : Path) (qs : Members) → Under qs (k ∷ w) → DiffersAt (s ++ k ∷ []) (find k ds) (find k qs) w
+  inside_name k w qs here = record {
+    maps = here.maps.1;
+    patch_maps = here.patch_maps.1;
+    speaks = here.speaks;
+    differs = λ same. here.differs (same ∙ ap (left_of (look_of (find k qs) w)) (append_assoc s (k ∷ []) w));
+  }
+
+  edit_under : (k : List ℕ) (w : Path) (qs : Members) → edit_at s (Some (object ds)) (Some (object qs)) (k ∷ w) ≡ edit_at (s ++ k ∷ []) (find k ds) (find k qs) w
+  edit_under k w qs = ap (λ u. leaving u (look_of (find k ds) w) (part_left u (at_path (find k qs) w))) (sym (append_assoc s (k ∷ []) w))
+
+  carried_over : (k : List ℕ) (w : Path) (qs ps : Members) → find k qs ≡ find k ps → Under qs (k ∷ w) → Under ps (k ∷ w)
+  carried_over k w qs ps same here = under_name k w ps (subst (λ o. DiffersAt (s ++ k ∷ []) (find k ds) o w) same (inside_name k w qs here))
+
+-- ---- rising lists
+
+rising-append : (us ws : List Path) → IsStrictlySortedBy path_cmp us → IsStrictlySortedBy path_cmp ws → ((u w : Path) → Contains us u → Contains ws w → path_cmp u w ≡ Less) → IsStrictlySortedBy path_cmp (us ++ ws)
+unfolding IsStrictlySortedBy
+rising-append [] ws rising also below = also
+rising-append (u ∷ us) ws rising also below =
+    (each us rising.0, rising-append us ws rising.1 also (λ v w at there. below v w (Contains-tail u v us at) there))
+  where
+    all_of : (vs : List Path) → ((w : Path) → Contains vs w → path_cmp u w ≡ Less) → Below u vs
+    all_of [] less = tt
+    all_of (v ∷ vs) less = (less v (Contains-head v vs), all_of vs (λ w at. less w (Contains-tail v w vs at)))
+
+    each : (vs : List Path) → Below u vs → Below u (vs ++ ws)
+    each [] less = all_of ws (λ w at. below u w (Contains-head u us) at)
+    each (v ∷ vs) less = (less.0, each vs less.1)
+
+under_less : (n : List ℕ) (u w : Path) → path_cmp u w ≡ Less → path_cmp (n ∷ u) (n ∷ w) ≡ Less
+under_less n u w less = ap (λ o. ordering_then o (path_cmp u w)) (name_cmp-self n) ∙ less
+
+abbrev under_all : List ℕ → List Path → List Path
+under_all n ws = map (λ w. n ∷ w) ws
+
+rising-under : (n : List ℕ) (ws : List Path) → IsStrictlySortedBy path_cmp ws → IsStrictlySortedBy path_cmp (under_all n ws)
+unfolding IsStrictlySortedBy
+rising-under n [] rising = tt
+rising-under n (w ∷ ws) rising = (each ws rising.0, rising-under n ws rising.1)
+  where
+    each : (vs : List Path) → Below w vs → Below (n ∷ w) (under_all n vs)
+    each [] less = tt
+    each (v ∷ vs) less = (under_less n w v less.0, each vs less.1)
+
+Contains-under : (n : List ℕ) (w : Path) (ws : List Path) → Contains ws w → Contains (under_all n ws) (n ∷ w)
+Contains-under n w [] at = absurd (Contains-nil w at)
+Contains-under n w (v ∷ ws) at = elim (Contains-cases v w ws at) [
+  | inl is ↦ subst (λ u. Contains (under_all n (v ∷ ws)) (n ∷ u)) is (Contains-head (n ∷ v) (under_all n ws))
+  | inr there ↦ Contains-tail (n ∷ v) (n ∷ w) (under_all n ws) (Contains-under n w ws there)
+]
+
+from_under : (n : List ℕ) (v : Path) (ws : List Path) → Contains (under_all n ws) v → (w : Path) × Contains ws w × (n ∷ w ≡ v)
+from_under n v [] at = absurd (Contains-nil v at)
+from_under n v (w ∷ ws) at = elim (Contains-cases (n ∷ w) v (under_all n ws) at) [
+  | inl is ↦ (w, Contains-head w ws, is)
+  | inr there ↦ let rest = from_under n v ws there in (rest.0, Contains-tail w rest.0 ws rest.1, rest.2)
+]
+
+map-under : {A : Type 0} (n : List ℕ) (f g : Path → A) → ((w : Path) → f (n ∷ w) ≡ g w) → (ws : List Path) → map f (under_all n ws) ≡ map g ws
+map-under n f g same [] = refl
+map-under n f g same (w ∷ ws) = ap₂ (λ x xs. x ∷ xs) (same w) (map-under n f g same ws)
+
+map-same : {A : Type 0} (f g : Path → A) (ws : List Path) → ((w : Path) → Contains ws w → f w ≡ g w) → map f ws ≡ map g ws
+map-same f g [] same = refl
+map-same f g (w ∷ ws) same = ap₂ (λ x xs. x ∷ xs) (same w (Contains-head w ws)) (map-same f g ws (λ v at. same v (Contains-tail w v ws at)))
+
+-- a name that the members have is above each name that is below them all
+name_above : (n k : List ℕ) (w : Path) (ps : Members) → IsBelow n ps → look_of (find k ps) w ≢ nothing → name_cmp n k ≡ Less
+name_above n k w no_members below here = absurd (here refl)
+name_above n k w (member m p ps) below here =
+    cases_same k m
+    (λ same. ap (name_cmp n) same ∙ below.0)
+    (λ other. name_above n k w ps below.1 (λ none. here (ap (λ b. look_of (cond b (Some p) (find k ps)) w) other ∙ none)))
+
+-- ---- the edits under the first name, and those under the others
+
+module _ (s : Path) (ds : Members) (n : List ℕ) (p : Document) (ps : Members) (below : IsBelow n ps) (first rest : List Operation)
+    (one : Listing (s ++ n ∷ []) (find n ds) (Some p) first) (others : Listing s (Some (object ds)) (Some (object ps)) rest) where
+  abbrev whole_map : Members
+  whole_map = member n p ps
+
+  abbrev places_of_both : List Path
+  places_of_both = under_all n one.places ++ others.places
+
+  first_is : find n whole_map ≡ Some p
+  first_is = ap (λ b. cond b (Some p) (find n ps)) (is_name-self n)
+
+  other_is : (k : List ℕ) → is_name k n ≡ false → find k whole_map ≡ find k ps
+  other_is k other = ap (λ b. cond b (Some p) (find k ps)) other
+
+  -- a place of the others is under another name
+  among_others : (w : Path) → Under s ds ps w → (k : List ℕ) × (u : Path) × (w ≡ k ∷ u) × (name_cmp n k ≡ Less) × (find k whole_map ≡ find k ps)
+  among_others [] here = absurd (here.differs refl)
+  among_others (k ∷ u) here = (
+    k,
+    u,
+    refl,
+    name_above n k u ps below here.speaks,
+    cases_same k n (λ same. absurd (here.speaks (ap (λ o. look_of o u) (ap (λ m. find m ps) same ∙ find-below n ps below)))) (λ other. other_is k other),
+  )
+
+  to_place : (w : Path) → Contains places_of_both w → Under s ds whole_map w
+  to_place w at = elim (Contains-append_cases (under_all n one.places) others.places w at) [
+    | inl here ↦
+        let u = from_under n w one.places here in
+        subst (Under s ds whole_map) u.2 (under_name s ds n u.0 whole_map (subst (λ o. DiffersAt (s ++ n ∷ []) (find n ds) o u.0) (sym first_is) ((one.all u.0).0 u.1)))
+    | inr there ↦
+        let place = (others.all w).0 there in
+        let k = among_others w place in
+        subst (Under s ds whole_map) (sym k.2) (carried_over s ds k.0 k.1 ps whole_map (sym k.4) (subst (Under s ds ps) k.2 place))
+  ]
+
+  from_place : (w : Path) → Under s ds whole_map w → Contains places_of_both w
+  from_place [] here = absurd (here.differs refl)
+  from_place (k ∷ u) here =
+      cases_same k n
+      (λ same.
+      let there : Under s ds whole_map (n ∷ u) = subst (λ m. Under s ds whole_map (m ∷ u)) same here in
+      let place = subst (λ o. DiffersAt (s ++ n ∷ []) (find n ds) o u) first_is (inside_name s ds n u whole_map there) in
+      subst (λ m. Contains places_of_both (m ∷ u)) (sym same) (Contains-append_left (under_all n one.places) others.places (n ∷ u) (Contains-under n u one.places ((one.all u).1 place))))
+      (λ other. Contains-append_right (under_all n one.places) others.places (k ∷ u) ((others.all (k ∷ u)).1 (carried_over s ds k u whole_map ps (other_is k other) here)))
+
+  ascending : (u w : Path) → Contains (under_all n one.places) u → Contains others.places w → path_cmp u w ≡ Less
+  ascending u w at there =
+      let v = from_under n u one.places at in
+      let k = among_others w ((others.all w).0 there) in
+      ap₂ path_cmp (sym v.2) k.2 ∙ ap (λ o. ordering_then o (path_cmp v.0 k.1)) k.3
+
+  same_edit : (w : Path) → Contains others.places w → edit_at s (Some (object ds)) (Some (object whole_map)) w ≡ edit_at s (Some (object ds)) (Some (object ps)) w
+  same_edit w at =
+      let k = among_others w ((others.all w).0 at) in
+      ap (edit_at s (Some (object ds)) (Some (object whole_map))) k.2
+      ∙ ap (λ o. leaving (s ++ k.0 ∷ k.1) (look_of (find k.0 ds) k.1) (part_left (s ++ k.0 ∷ k.1) (at_path o k.1))) k.4
+      ∙ ap (edit_at s (Some (object ds)) (Some (object ps))) (sym k.2)
+
+  both_listings : (operations : List Operation) → operations ≡ first ++ rest → Listing s (Some (object ds)) (Some (object whole_map)) operations
+  both_listings operations is =
+      let e = edit_at s (Some (object ds)) (Some (object whole_map)) in
+      let under = map-under n e (edit_at (s ++ n ∷ []) (find n ds) (Some p)) (λ w. edit_under s ds n w whole_map ∙ ap (λ o. edit_at (s ++ n ∷ []) (find n ds) o w) first_is) one.places in
+      record {
+        places = places_of_both;
+        rising = rising-append (under_all n one.places) others.places (rising-under n one.places one.rising) others.rising ascending;
+        all = λ w. (to_place w, from_place w);
+        edits = is ∙ ap₂ (λ xs ys. xs ++ ys) (one.edits ∙ sym under) (others.edits ∙ sym (map-same e (edit_at s (Some (object ds)) (Some (object ps))) others.places same_edit))
+            ∙ sym (map-append e (under_all n one.places) others.places);
+      }
+
+-- ---- all edits
+
+no_member_edits : (s : Path) (ds : Members) (operations : List Operation) → operations ≡ [] → Listing s (Some (object ds)) (Some (object no_members)) operations
+unfolding IsStrictlySortedBy
+no_member_edits s ds operations none = record {
+  places = [];
+  rising = tt;
+  all = λ w. (λ at. absurd (Contains-nil w at), λ here. absurd (never w here));
+  edits = none;
+}
+  where
+    never : (w : Path) → DiffersAt s (Some (object ds)) (Some (object no_members)) w → ⊥
+    never [] here = here.differs refl
+    never (n ∷ w) here = here.speaks refl
+
+mutual
+  listing : (p : Document) (s : Path) (t : Option Document) (operations : List Operation) → IsDocument p → AreEdits s p t operations → Listing s t (Some p) operations
+  listing (object ps) s (Some (object ds)) operations good edits = member_listing ps s ds operations good edits
+  listing p s t operations good edits = one_listing s p t operations (λ one two. cc) edits
+
+  member_listing : (ps : Members) (s : Path) (ds : Members) (operations : List Operation) → IsMap ps → AreMemberEdits s ps ds operations → Listing s (Some (object ds)) (Some (object ps)) operations
+  member_listing no_members s ds operations good none = no_member_edits s ds operations none
+  member_listing (member n p ps) s ds operations good (first, rest, is, here, later) =
+      both_listings s ds n p ps good.1 first rest (listing p (s ++ n ∷ []) (find n ds) first good.0 here) (member_listing ps s ds rest good.2 later) operations is
+
+pub walk_is_rewriting : (d p : Document) (operations : List Operation) → IsDocument p → AreEdits [] p (Some d) operations → IsRewriting d p operations
+walk_is_rewriting d p operations good edits =
+    let all = listing p [] (Some d) operations good edits in
+    record {
+      places = all.places;
+      rising = all.rising;
+      all = λ w. (
+        λ at. let here = (all.all w).0 at in edit_where_differs d p w (record { maps = here.maps; patch_maps = here.patch_maps; speaks = here.speaks; differs = here.differs }),
+        λ place. let here = differs_at_edit d p w place in (all.all w).1 (record { maps = here.maps; patch_maps = here.patch_maps; speaks = here.speaks; differs = here.differs }),
+      );
+      edits = all.edits ∙ map-same (edit_at [] (Some d) (Some p)) (edit d p) all.places (λ w at. ap (λ o. leaving w (look d w) (part_left w o)) (sym (part-at_path w p ((all.all w).0 at).patch_maps)));
+    }

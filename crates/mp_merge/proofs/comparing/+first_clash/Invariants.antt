@@ -1,0 +1,11 @@
+use Rattle.std.proofs.Common.{string_cmp}
+use Rattle.std.specs.List.Sorted.{IsStrictlySortedBy}
+use Rattle.std.specs.Map.{keys_of}
+use Rattle.mp_tree.specs.View.{members}
+use Rattle.mp_merge.proofs.ClashLemmas.{SameClashes}
+use Rattle.mp_merge.proofs.comparing.+first_clash.Given as goal
+
+-- the clashes with the changes that are left are those with all
+abbrev pub invariant-first_clash_of_members-loop-name : goal.invariant-first_clash_of_members-loop-name
+invariant-first_clash_of_members-loop-name l =
+    IsStrictlySortedBy string_cmp (keys_of l.name-iterator) × SameClashes (members l.changes.entries) (members l.name-iterator) (members l.others.entries)

@@ -1,0 +1,5 @@
+use Rattle.mp_merge.proofs.Outcomes.{application_is_outcome}
+use Rattle.mp_merge.proofs.laws.application_is_outcome.Goals as goal
+
+pub returns : goal.returns
+returns c = application_is_outcome

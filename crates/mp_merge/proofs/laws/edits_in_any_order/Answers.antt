@@ -1,0 +1,5 @@
+use Rattle.mp_merge.proofs.AnyOrder.{edits_in_any_order}
+use Rattle.mp_merge.proofs.laws.edits_in_any_order.Goals as goal
+
+pub returns : goal.returns
+returns c = edits_in_any_order

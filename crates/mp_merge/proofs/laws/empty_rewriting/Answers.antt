@@ -1,0 +1,5 @@
+use Rattle.mp_merge.proofs.Rewritings.{empty_rewriting}
+use Rattle.mp_merge.proofs.laws.empty_rewriting.Goals as goal
+
+pub returns : goal.returns
+returns c = empty_rewriting

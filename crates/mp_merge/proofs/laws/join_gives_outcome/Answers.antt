@@ -1,0 +1,5 @@
+use Rattle.mp_merge.proofs.Outcomes.{join_gives_outcome}
+use Rattle.mp_merge.proofs.laws.join_gives_outcome.Goals as goal
+
+pub returns : goal.returns
+returns c = join_gives_outcome

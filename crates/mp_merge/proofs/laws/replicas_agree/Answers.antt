@@ -1,0 +1,5 @@
+use Rattle.mp_merge.proofs.Outcomes.{replicas_agree}
+use Rattle.mp_merge.proofs.laws.replicas_agree.Goals as goal
+
+pub returns : goal.returns
+returns c = replicas_agree

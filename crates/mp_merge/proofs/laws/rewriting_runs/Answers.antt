@@ -1,0 +1,5 @@
+use Rattle.mp_merge.proofs.AnyOrder.{rewriting_runs}
+use Rattle.mp_merge.proofs.laws.rewriting_runs.Goals as goal
+
+pub returns : goal.returns
+returns c = rewriting_runs

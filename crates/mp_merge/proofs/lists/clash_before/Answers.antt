@@ -1,0 +1,24 @@
+use Rattle.std.proofs.Common.{◌≡◌, ◌<◌, length, map, Option, Some, MatchOption, slice_get, sym, ◌∙◌, subst, arith, rules}
+use Rattle.mp_tree.specs.Look.{Path}
+use Rattle.mp_tree.specs.View.{document}
+use Rattle.mp_merge.specs.Clash.{Compatible, IsFirstClash}
+use Rattle.mp_merge.specs.Lists.{CompatibleBelow}
+use Rattle.mp_merge.proofs.Numbered.{at_number, same_at, below_more}
+use Rattle.mp_merge.proofs.lists.clash_before.Goals as goal
+
+pub loop-first-preserved : goal.loop-first-preserved
+loop-first-preserved c =
+    let ds = c.args.patches.now in
+    let k = c.loop-first.first in
+    let d = c.index-patches-first.result in
+    let q = document c.index-patches-second.result in
+    let free : Compatible (document d) q = subst (λ (o : Option Path). MatchOption o (Compatible (document d) q) (λ place. IsFirstClash (document d) q place)) c.in_default.is c.in_ok-place.ensures in
+    let at : slice_get (map document ds) k ≡ Some (document d) = at_number ds k d (omega (arith, c.loop-first-test.true, c.requires)) c.index-patches-first.is in
+    below_more (map document ds) k (document d) q at free c.loop-first.invariant
+
+pub returns : goal.returns
+returns c q at_second i p less at_i =
+    let ds = c.args.patches.now in
+    let d = c.index-patches-second.result in
+    let at : slice_get (map document ds) c.args.second ≡ Some (document d) = at_number ds c.args.second d c.requires c.index-patches-second.is in
+    subst (λ x. Compatible p x) (same_at (map document ds) c.args.second (document d) q at at_second) (c.loop-first.invariant i p (omega (arith, less, c.loop-first-test.false)) at_i)

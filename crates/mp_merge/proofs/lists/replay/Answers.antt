@@ -1,0 +1,15 @@
+use Rattle.std.proofs.Common.{map, Some, sym, ap, ◌∙◌, subst}
+use Rattle.mp_tree.specs.View.{document}
+use Rattle.mp_tree.proofs.Facts.{IsDocument-document}
+use Rattle.mp_merge.specs.Application.{mp}
+use Rattle.mp_merge.specs.Outcome.{IsOutcome}
+use Rattle.mp_merge.proofs.Outcomes.{join_gives_outcome}
+use Rattle.mp_merge.proofs.lists.replay.Goals as goal
+
+pub returns-clause-outcome : goal.returns-clause-outcome
+returns-clause-outcome c =
+    let d = document c.args.start.now in
+    let patches = map document c.args.patches.now in
+    let j = document c.in_ok-joined.joined in
+    let is = c.in_ok-merge_owned.ensures.merged ∙ ap (λ t. mp (Some t) j) c.in_ok-copy-2.ensures.equal in
+    subst (λ e. IsOutcome d patches e) (sym is) (join_gives_outcome d patches j (IsDocument-document c.args.start.now) (IsDocument-document c.in_ok-joined.joined) c.in_ok-joined.ensures.joined)

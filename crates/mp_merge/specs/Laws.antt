@@ -1,0 +1,117 @@
+-- Laws of merge patches alone. Each is the contract of a function of the module `laws` that runs nothing.
+use Rattle.std.specs.Prelude.{◌≡◌, ◌≢◌, ◌≤◌, ◌↔◌, List, [], ◌∷◌, Some}
+use Rattle.std.specs.List.{All, Contains}
+use Rattle.mp_tree.specs.Document.{Document, IsDocument, depth, depth_limit}
+use Rattle.mp_tree.specs.Look.{Path}
+use Rattle.mp_patch.specs.Operation.{Operation}
+use Rattle.mp_patch.specs.Run.{Runs}
+use Rattle.mp_merge.specs.Application.{mp}
+use Rattle.mp_merge.specs.Clash.{Clash, Compatible, IsFirstClash}
+use Rattle.mp_merge.specs.Join.{IsJoin}
+use Rattle.mp_merge.specs.Lists.{PairwiseCompatible}
+use Rattle.mp_merge.specs.Outcome.{IsOutcome}
+use Rattle.mp_merge.specs.Rewriting.{IsRewriting, ListsEdits}
+
+-- ---- outcomes
+
+-- one application is the outcome of the patch alone
+abbrev pub ApplicationIsOutcome : Type 0
+ApplicationIsOutcome = (d p : Document) → IsDocument d → IsDocument p → IsOutcome d (p ∷ []) (mp (Some d) p)
+
+-- a start and a collection have one outcome
+abbrev pub HasOneOutcome : Type 0
+HasOneOutcome = (d : Document) (patches : List Document) (e f : Document) → IsDocument e → IsDocument f → IsOutcome d patches e → IsOutcome d patches f → e ≡ f
+
+-- the lists have the same members, in any order and with any repeats
+abbrev pub HaveSameMembers : List Document → List Document → Type 0
+HaveSameMembers ps qs = (p : Document) → Contains ps p ↔ Contains qs p
+
+-- replicas that start from one document and receive the same patches end with the same document
+abbrev pub ReplicasAgree : Type 0
+ReplicasAgree = (d : Document) (ps qs : List Document) (e f : Document) → HaveSameMembers ps qs → IsDocument e → IsDocument f → IsOutcome d ps e → IsOutcome d qs f → e ≡ f
+
+-- ---- two patches, one after the other
+
+abbrev pub mp_both : Document → Document → Document → Document
+mp_both d p q = mp (Some (mp (Some d) p)) q
+
+-- two patches can be exchanged on a document exactly if they are compatible: so compatible ones on every document, and others on none
+abbrev pub Exchange : Type 0
+Exchange = (d p q : Document) → IsDocument d → IsDocument p → IsDocument q → (mp_both d p q ≡ mp_both d q p) ↔ Compatible p q
+
+-- ---- clashes
+
+abbrev pub HasOneFirstClash : Type 0
+HasOneFirstClash = (p q : Document) (u w : Path) → IsFirstClash p q u → IsFirstClash p q w → u ≡ w
+
+-- a patch clashes with a join exactly where it clashes with one of the patches that were joined
+abbrev pub ClashesWithAMember : List Document → Document → Path → Type 0
+ClashesWithAMember patches r w = (p : Document) × Contains patches p × Clash r p w
+
+abbrev pub ClashWithAJoin : Type 0
+ClashWithAJoin = (patches : List Document) (j r : Document) (w : Path) → IsJoin patches j → Clash r j w ↔ ClashesWithAMember patches r w
+
+-- ---- joins
+
+-- the join of p and p is p
+abbrev pub JoinIsIdempotent : Type 0
+JoinIsIdempotent = (p : Document) → IsJoin (p ∷ p ∷ []) p
+
+-- the join of p and q is that of q and p
+abbrev pub JoinIsCommutative : Type 0
+JoinIsCommutative = (p q j : Document) → IsJoin (p ∷ q ∷ []) j ↔ IsJoin (q ∷ p ∷ []) j
+
+-- j is the join of (the join of p and q) with r
+pub record IsJoinFromLeft (p q r j : Document) : Type 0 where
+  pub both : Document
+  pub good : IsDocument both
+  pub joined : IsJoin (p ∷ q ∷ []) both
+  pub whole : IsJoin (both ∷ r ∷ []) j
+
+-- j is the join of p with (the join of q and r)
+pub record IsJoinFromRight (p q r j : Document) : Type 0 where
+  pub both : Document
+  pub good : IsDocument both
+  pub joined : IsJoin (q ∷ r ∷ []) both
+  pub whole : IsJoin (p ∷ both ∷ []) j
+
+-- one of them exists exactly if the other does, and then they are equal
+abbrev pub JoinIsAssociative : Type 0
+JoinIsAssociative = (p q r j : Document) → IsDocument p → IsDocument q → IsDocument r → IsJoinFromLeft p q r j ↔ IsJoinFromRight p q r j
+
+-- a collection has one join
+abbrev pub HasOneJoin : Type 0
+HasOneJoin = (patches : List Document) (i j : Document) → IsDocument i → IsDocument j → IsJoin patches i → IsJoin patches j → i ≡ j
+
+-- the empty collection has none, since `{}` changes 5: no patch leaves every document as it is
+abbrev pub EmptyHasNoJoin : Type 0
+EmptyHasNoJoin = (j : Document) → ¬ IsJoin [] j
+
+abbrev pub HasJoin : List Document → Type 0
+HasJoin patches = (j : Document) × IsDocument j × IsJoin patches j
+
+-- a collection that is not empty has a join exactly if its members are pairwise compatible
+abbrev pub JoinExists : Type 0
+JoinExists = (patches : List Document) → patches ≢ [] → All IsDocument patches → HasJoin patches ↔ PairwiseCompatible patches
+
+-- one application of the join is the outcome of the patches
+abbrev pub JoinGivesOutcome : Type 0
+JoinGivesOutcome = (d : Document) (patches : List Document) (j : Document) → IsDocument d → IsDocument j → IsJoin patches j → IsOutcome d patches (mp (Some d) j)
+
+-- ---- rewriting a patch as a JSON Patch
+
+-- a document and a patch have one rewriting
+abbrev pub HasOneRewriting : Type 0
+HasOneRewriting = (d p : Document) (operations others : List Operation) → IsRewriting d p operations → IsRewriting d p others → operations ≡ others
+
+-- it is empty exactly if the application leaves the document as it is
+abbrev pub EmptyRewriting : Type 0
+EmptyRewriting = (d p : Document) (operations : List Operation) → IsDocument d → IsDocument p → IsRewriting d p operations → (operations ≡ []) ↔ (mp (Some d) p ≡ d)
+
+-- the edits of a document and a patch, taken in any order, lead to the application, and none is refused
+abbrev pub EditsInAnyOrder : Type 0
+EditsInAnyOrder = (d p : Document) (operations : List Operation) → IsDocument d → IsDocument p → depth p ≤ depth_limit → ListsEdits d p operations → Runs d operations (mp (Some d) p)
+
+-- so does the rewriting
+abbrev pub RewritingRuns : Type 0
+RewritingRuns = (d p : Document) (operations : List Operation) → IsDocument d → IsDocument p → depth p ≤ depth_limit → IsRewriting d p operations → Runs d operations (mp (Some d) p)

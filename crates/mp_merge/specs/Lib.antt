@@ -1,0 +1,11 @@
+pub mod Application
+pub mod Clash
+pub mod EditPlace
+pub mod EditWalk
+pub mod Headline
+pub mod Join
+pub mod Laws
+pub mod Lists
+pub mod Outcome
+pub mod Rewriting
+pub mod Walks

@@ -1,0 +1,28 @@
+-- What a collection of merge patches makes of a document, said of what stands at each path. Only membership in the
+-- list of patches counts: neither order nor repetition can be expressed.
+use Rattle.std.specs.Prelude.{◌≡◌, ◌≢◌, ℕ, List, [], ◌∷◌, ◌++◌}
+use Rattle.std.specs.List.{Contains}
+use Rattle.mp_tree.specs.Document.{Document, null, flag, whole, string, list, object}
+use Rattle.mp_tree.specs.Look.{Path, Look, nothing, an_object, plain, look}
+
+-- what a value that is no map leaves where a patch has it: itself, but a null below the root removes
+abbrev pub left_by : Document → Path → Look
+left_by v [] = plain v
+left_by null (n ∷ w) = nothing
+left_by (flag b) (n ∷ w) = plain (flag b)
+left_by (whole z) (n ∷ w) = plain (whole z)
+left_by (string s) (n ∷ w) = plain (string s)
+left_by (list ds) (n ∷ w) = plain (list ds)
+left_by (object ms) (n ∷ w) = plain (object ms)
+
+-- the patch has nothing at the path, and no value that is no map on the way there
+pub record LeavesAlone (p : Document) (w : Path) : Type 0 where
+  pub here : look p w ≡ nothing
+  pub above : (u : Path) (n : List ℕ) (rest : Path) (v : Document) → w ≡ u ++ n ∷ rest → look p u ≢ plain v
+
+-- e is the outcome of a start d and a collection of patches
+pub record IsOutcome (d : Document) (patches : List Document) (e : Document) : Type 0 where
+  pub set : (p : Document) → Contains patches p → (w : Path) (v : Document) → look p w ≡ plain v → look e w ≡ left_by v w
+  pub entered : (p : Document) → Contains patches p → (w : Path) → look p w ≡ an_object → look e w ≡ an_object
+  pub cleared : (p : Document) → Contains patches p → (u : Path) (n : List ℕ) (rest : Path) (v : Document) → look p u ≡ plain v → look e (u ++ n ∷ rest) ≡ nothing
+  pub kept : (w : Path) → ((p : Document) → Contains patches p → LeavesAlone p w) → look e w ≡ look d w

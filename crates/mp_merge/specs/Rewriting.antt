@@ -1,0 +1,50 @@
+-- Rewriting a merge patch against a document as a JSON Patch: one operation for each edit place.
+use Rattle.std.specs.Prelude.{◌≡◌, ◌↔◌, List, [], ◌∷◌, map, Option, None, Some, ⊤}
+use Rattle.std.specs.List.{Contains}
+use Rattle.std.specs.List.Sorted.{IsStrictlySortedBy}
+use Rattle.mp_tree.specs.Document.{Document}
+use Rattle.mp_tree.specs.Look.{Path, Look, nothing, an_object, plain, look}
+use Rattle.mp_pointer.specs.Part.{part}
+use Rattle.mp_patch.specs.Operation.{Operation, add, remove, replace}
+use Rattle.mp_merge.specs.Application.{mp, unless_null}
+use Rattle.mp_merge.specs.Clash.{path_cmp}
+use Rattle.mp_merge.specs.EditPlace.{IsEditPlace}
+
+-- what a part of a patch leaves where nothing was: a null below the root leaves nothing (at an edit place the patch has a part)
+abbrev pub part_left : Path → Option Document → Option Document
+part_left w None = None
+part_left [] (Some q) = Some (mp None q)
+part_left (n ∷ w) (Some q) = unless_null q (mp None q)
+
+-- the operation that leaves it where the document has that look
+abbrev pub leaving : Path → Look → Option Document → Operation
+leaving w l None = remove w
+leaving w nothing (Some v) = add w v
+leaving w an_object (Some v) = replace w v
+leaving w (plain x) (Some v) = replace w v
+
+-- the edit of d and p at the path
+abbrev pub edit : Document → Document → Path → Operation
+edit d p w = leaving w (look d w) (part_left w (part p w))
+
+-- the places are the edit places and no others
+abbrev pub AreEditPlaces : Document → Document → List Path → Type 0
+AreEditPlaces d p places = (w : Path) → Contains places w ↔ IsEditPlace d p w
+
+-- each edit of d and p, in the order of paths
+pub record IsRewriting (d p : Document) (operations : List Operation) : Type 0 where
+  pub places : List Path
+  pub rising : IsStrictlySortedBy path_cmp places
+  pub all : AreEditPlaces d p places
+  pub edits : operations ≡ map (edit d p) places
+
+abbrev pub HasNoRepeats : List Path → Type 0
+HasNoRepeats [] = ⊤
+HasNoRepeats (w ∷ places) = ¬ Contains places w × HasNoRepeats places
+
+-- each edit of d and p once and nothing else, in whatever order
+pub record ListsEdits (d p : Document) (operations : List Operation) : Type 0 where
+  pub places : List Path
+  pub once : HasNoRepeats places
+  pub all : AreEditPlaces d p places
+  pub edits : operations ≡ map (edit d p) places

@@ -1,0 +1,56 @@
+//! What a join of two patches, or of a list, can be refused for.
+ghost use Rattle.std.specs.Prelude.{◌≡◌};
+
+use mp_pointer::Pointer;
+use std::alloc::AllocError;
+use thiserror::Error;
+
+/// Why two patches have no join.
+#[derive(Debug, Drop, Error)]
+pub enum JoinFault {
+    /// The patches clash; the pointer leads to their first conflict.
+    #[error("conflict")]
+    Conflict(Pointer),
+    /// Memory ran out.
+    #[error("out of memory")]
+    OutOfMemory,
+}
+
+impl From<AllocError> for JoinFault {
+    ghost use Rattle.mp_merge.specs.declared.fault.JoinFault.TheVariants.{OutOfMemory};
+
+    ghost from_gives = { λ _ fault. fault ≡ OutOfMemory };
+
+    fn from(_refused: AllocError) -> JoinFault {
+        JoinFault::OutOfMemory
+    }
+}
+
+/// Why the patches of a list have no join, or can't be replayed. Patches are numbered from 0.
+#[derive(Debug, Drop, Error)]
+pub enum ListFault {
+    /// The list is empty: no patch leaves every document as it is, so there is no join of none.
+    #[error("no patches")]
+    NoPatches,
+    /// `second` is the least number of a patch that clashes with an earlier one, `first` the least number of a patch
+    /// that clashes with it, and `place` leads to the first conflict of the two.
+    #[error("conflict of patches {first} and {second}")]
+    ConflictOf {
+        first: usize,
+        second: usize,
+        place: Pointer,
+    },
+    /// Memory ran out.
+    #[error("out of memory")]
+    OutOfMemory,
+}
+
+impl From<AllocError> for ListFault {
+    ghost use Rattle.mp_merge.specs.declared.fault.ListFault.TheVariants.{OutOfMemory};
+
+    ghost from_gives = { λ _ fault. fault ≡ OutOfMemory };
+
+    fn from(_refused: AllocError) -> ListFault {
+        ListFault::OutOfMemory
+    }
+}

@@ -1,0 +1,109 @@
+//! Laws over documents and merge patches alone: each function runs nothing, and its contract is the law.
+ghost use Rattle.mp_merge.specs.Application.{AppliesAtEachName};
+ghost use Rattle.mp_merge.specs.Headline.{ReplicasConverge};
+ghost use Rattle.mp_merge.specs.Laws.{ApplicationIsOutcome, HasOneOutcome, ReplicasAgree, Exchange, HasOneFirstClash, ClashWithAJoin, JoinIsIdempotent, JoinIsCommutative, JoinIsAssociative, HasOneJoin, EmptyHasNoJoin, JoinExists, JoinGivesOutcome, HasOneRewriting, EmptyRewriting, EditsInAnyOrder, RewritingRuns};
+
+/// Application at each name, in the words of RFC 7396 section 2: a name that the patch does not carry stays as it
+/// was, a null removes it, and any other value is merged with what stood there.
+pub fn applies_at_each_name()
+    ensures { AppliesAtEachName }
+{}
+
+/// One application of a patch is what the outcome of that patch alone asks for at every path: its values are set, its
+/// objects entered, its nulls remove, and the rest stays.
+pub fn application_is_outcome()
+    ensures { ApplicationIsOutcome }
+{}
+
+/// A document and a collection of patches have at most one outcome.
+pub fn one_outcome()
+    ensures { HasOneOutcome }
+{}
+
+/// Replicas that start from one document and receive the same patches, in any orders and with any repeats, end with
+/// the same document, if each ends with the outcome.
+pub fn replicas_agree()
+    ensures { ReplicasAgree }
+{}
+
+/// Two patches can be applied in either order with one result exactly if they do not clash: then on every document,
+/// and else on none.
+pub fn exchange()
+    ensures { Exchange }
+{}
+
+/// Two patches have at most one first clash, so every replica that compares them names the same path.
+pub fn one_first_clash()
+    ensures { HasOneFirstClash }
+{}
+
+/// A patch clashes with a join exactly where it clashes with one of the patches that were joined: so a replica that
+/// keeps only the join of what it received still learns of every clash.
+pub fn clash_with_a_join()
+    ensures { ClashWithAJoin }
+{}
+
+/// The join of a patch with itself is that patch: a patch that arrives twice changes nothing.
+pub fn join_is_idempotent()
+    ensures { JoinIsIdempotent }
+{}
+
+/// The join of p and q is the join of q and p: it does not matter which patch arrives first.
+pub fn join_is_commutative()
+    ensures { JoinIsCommutative }
+{}
+
+/// Joining p and q and then r is joining p with the join of q and r: one exists exactly if the other does, and they
+/// are equal. So replicas may join what they received in groups.
+pub fn join_is_associative()
+    ensures { JoinIsAssociative }
+{}
+
+/// A collection of patches has at most one join, so replicas that join the same patches hold the same patch.
+pub fn one_join()
+    ensures { HasOneJoin }
+{}
+
+/// The empty collection has no join: no patch leaves every document as it is, and even `{}` turns `5` into `{}`.
+pub fn empty_has_no_join()
+    ensures { EmptyHasNoJoin }
+{}
+
+/// Patches, at least one, have a join exactly if no two of them clash: so compatible patches can always be kept as one.
+pub fn join_exists()
+    ensures { JoinExists }
+{}
+
+/// One application of the join gives the outcome of all the patches that were joined: a replica may keep the join and
+/// apply it once.
+pub fn join_gives_outcome()
+    ensures { JoinGivesOutcome }
+{}
+
+/// A document and a patch have at most one rewriting, so replicas that rewrite the same send the same JSON Patch.
+pub fn one_rewriting()
+    ensures { HasOneRewriting }
+{}
+
+/// The rewriting has no operation exactly if the patch leaves the document as it is.
+pub fn empty_rewriting()
+    ensures { EmptyRewriting }
+{}
+
+/// Every list that has each edit once and nothing else runs, in whatever order, from the document to what the patch
+/// makes of it: no edit is refused, and none undoes another.
+pub fn edits_in_any_order()
+    ensures { EditsInAnyOrder }
+{}
+
+/// The rewriting of a patch that is at most 126 deep runs from the document to what the patch makes of it.
+pub fn rewriting_runs()
+    ensures { RewritingRuns }
+{}
+
+/// Replicas that start from one document and receive the same patches, at least one and no two of which clash, in any
+/// orders and with any repeats, end with the same document: one application of the patches' join to the start. The
+/// join, rewritten against the start, is a JSON Patch that runs from the start to that document.
+pub fn replicas_converge()
+    ensures { ReplicasConverge }
+{}

@@ -1,0 +1,22 @@
+//! Merge patches (RFC 7396): application, compatibility, conflict and join, with the laws that replicas of one document rest on.
+#![tactic(auto)]
+
+pub mod comparing;
+pub mod fault;
+pub mod joining;
+pub mod laws;
+pub mod lists;
+pub mod merging;
+pub mod rewriting;
+
+pub use comparing::{compatible, conflict};
+pub use fault::{JoinFault, ListFault};
+pub use joining::join;
+pub use lists::{join_all, replay};
+pub use merging::{merge, merge_owned};
+pub use rewriting::rewrite;
+
+#[cfg(test)]
+mod rewriting_tests;
+#[cfg(test)]
+mod tests;

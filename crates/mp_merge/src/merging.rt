@@ -1,0 +1,121 @@
+//! Applying a merge patch (RFC 7396 section 2).
+ghost use Rattle.std.specs.Prelude.{◌≡◌, ◌≤◌, ◌↔◌, max, IsTrue, IfOk, OnOk, option_map, string_bytes};
+ghost use Rattle.mp_tree.specs.Document.{null, find, depth};
+ghost use Rattle.mp_tree.specs.View.{document, members};
+ghost use Rattle.mp_merge.specs.Application.{changed, depth_of, mp, mp_members, target_members};
+
+use mp_tree::Doc;
+use std::alloc::{AllocError, Global};
+use std::collections::BTreeMap;
+use std::mem;
+
+/// The target after the merge patch (RFC 7396 section 2); `None` is a target that is absent.
+///
+/// A patch that is no object is the result. An object changes the target name by name: a null removes the name, any
+/// other value is merged with what stands there, and a target that is absent or no object counts as `{}`. The result
+/// is no deeper than the deeper of the two. `AllocError` where memory ran out.
+///
+/// ```text
+/// merge(alloc, Some(&doc), &patch)  // {"a":1,"c":3} for {"a":1,"b":2} and {"b":null,"c":3}
+/// merge(alloc, None, &patch)        // {"a":{}} for {"a":{"b":null},"c":null}
+/// ```
+pub fn merge(alloc: Global, target: Option<&Doc>, patch: &Doc) -> Result<Doc, AllocError>
+    ensures merged { IfOk result (λ d. document d ≡ mp (option_map (λ t. document t.now) target.entry) (document patch.now)) }
+    ensures depth { IfOk result (λ d. depth (document d)
+        ≤ max (depth_of (option_map (λ t. document t.now) target.entry)) (depth (document patch.now))) }
+{
+    let start = match target {
+        Some(doc) => Some(doc.copy(alloc)?),
+        None => None,
+    };
+    merge_owned(alloc, start, patch.copy(alloc)?)
+}
+
+/// As `merge`, of a target and a patch that are owned: their parts are moved and not copied.
+pub fn merge_owned(alloc: Global, target: Option<Doc>, patch: Doc) -> Result<Doc, AllocError>
+    ensures merged { IfOk result (λ d. document d ≡ mp (option_map document target) (document patch)) }
+    ensures depth { IfOk result (λ d. depth (document d)
+        ≤ max (depth_of (option_map document target)) (depth (document patch))) }
+{
+    merged(patch, target, alloc)
+}
+
+// The patch comes first: the recursion goes down it.
+#[cycle(merged)]
+fn merged(patch: Doc, target: Option<Doc>, alloc: Global) -> Result<Doc, AllocError>
+    ensures { IfOk result (λ d. document d ≡ mp (option_map document target) (document patch)) }
+{
+    match patch {
+        Doc::Members(changes) => {
+            let entries = entries_of(target, alloc);
+            Ok(Doc::Members(merged_members(changes, entries, alloc)?))
+        }
+        other => Ok(other),
+    }
+}
+
+// An absent target, or one that is no object, counts as the empty object.
+fn entries_of(target: Option<Doc>, alloc: Global) -> BTreeMap<String, Doc>
+    ensures { members result.entries ≡ target_members (option_map document target) }
+{
+    match target {
+        Some(doc) => match doc {
+            Doc::Members(entries) => entries,
+            _ => BTreeMap::new(alloc),
+        },
+        None => BTreeMap::new(alloc),
+    }
+}
+
+#[cycle(merged)]
+fn merged_members(
+    changes: BTreeMap<String, Doc>,
+    mut entries: BTreeMap<String, Doc>,
+    alloc: Global,
+) -> Result<BTreeMap<String, Doc>, AllocError>
+    ensures { IfOk result (λ m. members m.entries
+        ≡ mp_members (members entries.entries) (members changes.entries)) }
+{
+    for (name, change) in changes {
+        change_entry(change, name, &mut entries, alloc)?;
+    }
+    Ok(entries)
+}
+
+// A null takes the name out; another value is merged with what stood there.
+#[cycle(merged)]
+fn change_entry(
+    change: Doc,
+    name: String,
+    entries: &mut BTreeMap<String, Doc>,
+    alloc: Global,
+) -> Result<(), AllocError>
+    ensures { OnOk result (let n = string_bytes name in let ts = members entries.old.entries in
+        members entries.new.entries
+        ≡ changed n (document change) (mp (find n ts) (document change)) ts) }
+{
+    if is_null(&change) {
+        drop(entries.remove(name.as_str()));
+        return Ok(());
+    }
+    match entries.get_mut(name.as_str()) {
+        Some(slot) => {
+            let target = mem::replace(slot, Doc::Null);
+            *slot = merged(change, Some(target), alloc)?;
+            Ok(())
+        }
+        None => {
+            drop(entries.insert(name, merged(change, None, alloc)?)?);
+            Ok(())
+        }
+    }
+}
+
+pub(crate) fn is_null(doc: &Doc) -> bool
+    ensures { IsTrue result ↔ (document doc.now ≡ null) }
+{
+    match doc {
+        Doc::Null => true,
+        Doc::Flag(_) | Doc::Whole(_) | Doc::Text(_) | Doc::Items(_) | Doc::Members(_) => false,
+    }
+}

@@ -1,0 +1,35 @@
+//! Worked values: merge patches rewritten for a document, and what the rewritings make of it.
+use crate::{merge, rewrite};
+use mp_patch::apply;
+use mp_tree::{read_doc, write_doc};
+use std::test::Fail;
+
+/// Documents, merge patches, and the JSON Patches that they are rewritten as.
+const REWRITTEN: &[(&str, &str, &str)] = &[
+    (
+        r#"{"a":1,"b":{"c":2}}"#,
+        r#"{"a":1,"b":{"c":null,"d":{"e":null}},"x":null}"#,
+        r#"[{"op":"remove","path":"/b/c"},{"op":"add","path":"/b/d","value":{}}]"#,
+    ),
+    (
+        r#"{"a":1}"#,
+        "null",
+        r#"[{"op":"replace","path":"","value":null}]"#,
+    ),
+];
+
+#[test]
+fn rewritten(rt: HostRuntime) -> Result<(), Fail> {
+    for (start, change, wanted) in REWRITTEN {
+        let doc = read_doc(rt.alloc(), start.as_bytes())?;
+        let patch = read_doc(rt.alloc(), change.as_bytes())?;
+        let edits = rewrite(rt.alloc(), &doc, &patch)?;
+        let text = write_doc(rt.alloc(), &edits.to_doc(rt.alloc())?)?;
+        assert_eq!(rt; text.as_str(), *wanted);
+
+        let merged = merge(rt.alloc(), Some(&doc), &patch)?;
+        let edited = apply(rt.alloc(), &doc, &edits)?;
+        assert!(rt; edited.same(&merged), "{wanted} gives what the merge gives");
+    }
+    Ok(())
+}

@@ -1,0 +1,148 @@
+//! Worked values of application, conflict, join and lists of patches, and the texts of the faults.
+use crate::{JoinFault, ListFault, compatible, conflict, join, join_all, merge, replay};
+use mp_pointer::Pointer;
+use mp_tree::{Doc, read_doc, read_docs, write_doc};
+use std::process::Abort;
+use std::test::Fail;
+
+/// Two patches, and the text of their join.
+const JOINS: &[(&str, &str)] = &[
+    (r#"[{"a":{}},{"a":{"b":null}}]"#, r#"{"a":{"b":null}}"#),
+    ("[[1],[1]]", "[1]"),
+    (r#"[{"a":1},{"a":1}]"#, r#"{"a":1}"#),
+    (r#"[{"a":[null]},{"b":null}]"#, r#"{"a":[null],"b":null}"#),
+];
+
+/// Two patches, and the spelling of the pointer to their first conflict.
+const CLASHES: &[(&str, &str)] = &[
+    (r#"[{"a":1},{"a":2}]"#, "/a"),
+    (r#"[{"a":{}},{"a":null}]"#, "/a"),
+    ("[null,{}]", ""),
+    (r#"[{"b":1,"a":{"z":1}},{"a":{"z":2},"b":2}]"#, "/a/z"),
+    (r#"[{"a":{"z":1},"a!":1},{"a":{"z":2},"a!":2}]"#, "/a/z"),
+    // A name that is a prefix of another comes first.
+    (r#"[{"ab":1,"a":1},{"a":2,"ab":2}]"#, "/a"),
+    // By their UTF-8 bytes, and not by their UTF-16 units.
+    ("[{\"😀\":1,\"～\":1},{\"😀\":2,\"～\":2}]", "/～"),
+];
+
+fn is_text<R: Abort + AllocGlobal>(rt: &R, doc: &Doc, wanted: &str) -> Result<(), Fail> {
+    let found = write_doc(rt.alloc(), doc)?;
+    assert_eq!(rt; found.as_str(), wanted);
+    Ok(())
+}
+
+fn is_spelling<R: Abort + AllocGlobal>(
+    rt: &R,
+    pointer: &Pointer,
+    wanted: &str,
+) -> Result<(), Fail> {
+    let found = pointer.print(rt.alloc())?;
+    assert_eq!(rt; found.as_str(), wanted);
+    Ok(())
+}
+
+#[test]
+fn absent_target(rt: HostRuntime) -> Result<(), Fail> {
+    let patch = read_doc(rt.alloc(), br#"{"a":{"b":null},"c":null}"#)?;
+    is_text(&rt, &merge(rt.alloc(), None, &patch)?, r#"{"a":{}}"#)?;
+    is_text(&rt, &merge(rt.alloc(), None, &Doc::Null)?, "null")
+}
+
+#[test]
+fn joins(rt: HostRuntime) -> Result<(), Fail> {
+    for (patches, joined) in JOINS {
+        let docs = read_docs(rt.alloc(), patches.as_bytes())?;
+        let (Some(p), Some(q)) = (docs.first(), docs.last()) else {
+            continue;
+        };
+        assert!(rt; compatible(p, q), "that {patches} are compatible");
+        assert!(rt;
+            conflict(rt.alloc(), p, q)?.is_none(),
+            "no conflict of {patches}"
+        );
+        is_text(&rt, &join(rt.alloc(), p, q)?, joined)?;
+        is_text(&rt, &join(rt.alloc(), q, p)?, joined)?;
+    }
+    Ok(())
+}
+
+#[test]
+fn clashes(rt: HostRuntime) -> Result<(), Fail> {
+    for (patches, place) in CLASHES {
+        let docs = read_docs(rt.alloc(), patches.as_bytes())?;
+        let (Some(p), Some(q)) = (docs.first(), docs.last()) else {
+            continue;
+        };
+        assert!(rt; !compatible(p, q), "that {patches} are not compatible");
+        assert!(rt; !compatible(q, p), "that {patches} are not compatible");
+        clash_at(&rt, p, q, place)?;
+        clash_at(&rt, q, p, place)?;
+    }
+    Ok(())
+}
+
+/// The first conflict of the patches, by itself and as the refusal of their join.
+fn clash_at<R: Abort + AllocGlobal>(rt: &R, p: &Doc, q: &Doc, place: &str) -> Result<(), Fail> {
+    match conflict(rt.alloc(), p, q)? {
+        Some(found) => is_spelling(rt, &found, place)?,
+        None => assert!(rt; false, "a conflict at {place}"),
+    }
+    match join(rt.alloc(), p, q) {
+        Err(JoinFault::Conflict(found)) => is_spelling(rt, &found, place)?,
+        _ => assert!(rt; false, "a join that is refused at {place}"),
+    }
+    Ok(())
+}
+
+#[test]
+fn lists(rt: HostRuntime) -> Result<(), Fail> {
+    let none = join_all(rt.alloc(), &[]);
+    assert!(rt;
+        matches!(none, Err(ListFault::NoPatches)),
+        "the join of no patches"
+    );
+    let five = read_doc(rt.alloc(), b"5")?;
+    is_text(&rt, &replay(rt.alloc(), &five, &[])?, "5")?;
+    let patches = read_docs(
+        rt.alloc(),
+        br#"[{"a":1},{"b":2},{"c":0},{"b":3,"a":1},{"a":2}]"#,
+    )?;
+    match join_all(rt.alloc(), patches.as_slice()) {
+        Err(
+            ListFault::ConflictOf {
+                first,
+                second,
+                place,
+            },
+        ) => {
+            assert_eq!(rt; (first, second), (1, 3));
+            is_spelling(&rt, &place, "/b")
+        }
+        _ => {
+            assert!(rt; false, "the first conflict of a list");
+            Ok(())
+        }
+    }
+}
+
+#[test]
+fn texts(rt: HostRuntime) -> Result<(), Fail> {
+    let root = Pointer::empty(rt.alloc());
+    let conflict = format!(in rt.alloc(); "{}", JoinFault::Conflict(root))?;
+    assert_eq!(rt; conflict.as_str(), "conflict");
+    let memory = format!(in rt.alloc(); "{}", JoinFault::OutOfMemory)?;
+    assert_eq!(rt; memory.as_str(), "out of memory");
+    let none = format!(in rt.alloc(); "{}", ListFault::NoPatches)?;
+    assert_eq!(rt; none.as_str(), "no patches");
+    let clash = ListFault::ConflictOf {
+        first: 1,
+        second: 3,
+        place: Pointer::empty(rt.alloc()),
+    };
+    let clash = format!(in rt.alloc(); "{clash}")?;
+    assert_eq!(rt; clash.as_str(), "conflict of patches 1 and 3");
+    let memory = format!(in rt.alloc(); "{}", ListFault::OutOfMemory)?;
+    assert_eq!(rt; memory.as_str(), "out of memory");
+    Ok(())
+}
