@@ -121,7 +121,7 @@ other-good s other = record {
 
 subcommands-good : AllPass (LeavesGood CarriesWord) (built command_line).subs
 unfolding clap_on_literals command_line
-subcommands-good = (get-good _ refl (λ _. refl), (other-good _ refl, tt))
+subcommands-good = (get-good _ refl (λ _. refl), (other-good _ refl, (other-good _ refl, (other-good _ refl, (other-good _ refl, (other-good _ refl, tt))))))
 
 -- where the line finds no fault in the words, `get` has its word
 pub get-word : (words : List Text) → fault_of command_line words ≡ [] → HasPointer (subcommand_of command_line words)

@@ -1,3 +1,4 @@
+pub mod AnswerLemmas
 pub mod CommandLineLemmas
 pub mod GetWord
 pub mod GivenWords

@@ -1,18 +1,36 @@
--- What the program answers, as a function of its command and its input bytes.
-use Rattle.std.specs.Prelude.{◌≡◌, ℕ, IfOk, string_bytes, List, [], ◌∷◌, ◌++◌, codes, Result, Ok, Err, Option, None, Some}
-use Rattle.mp_tree.specs.Document.{Document, Items, no_items, item}
+-- What the program answers to its command and its input bytes.
+use Rattle.std.specs.Prelude.{◌≡◌, ◌≢◌, ℕ, IfOk, string_bytes, List, [], ◌∷◌, ◌++◌, codes, Result, Ok, Err, Option, None, Some}
+use Rattle.mp_tree.specs.Document.{Document, string, Items, no_items, item, IsDocument}
+use Rattle.mp_tree.specs.Look.{Path}
 use Rattle.mp_tree.specs.Text.{documents_in, text as compact}
 use Rattle.mp_tree.specs.declared.read.DocsFault.{DocsFault}
 use Rattle.mp_tree.specs.declared.read.DocsFault.TheVariants.{NotJson, NotWhole, NotAnArray, OutOfMemory}
 use Rattle.mp_pointer.specs.Part.{numeral, part}
-use Rattle.mp_pointer.specs.Spelling.{Tokens, tokens_in}
+use Rattle.mp_pointer.specs.Spelling.{Tokens, spell, tokens_in}
 use Rattle.mp_pointer.specs.declared.fault.PointerFault.{PointerFault}
 use Rattle.mp_pointer.specs.declared.fault.PointerFault.TheVariants.{NoSlash, BadTilde, OutOfMemory as NoMemory}
+use Rattle.mp_merge.specs.declared.fault.ListFault.{ListFault}
+use Rattle.mp_merge.specs.declared.fault.ListFault.TheVariants.{NoPatches, ConflictOf, OutOfMemory as ListMemory}
 use Rattle.std.specs.declared.alloc.AllocError.{AllocError}
 use Rattle.mp_merge.specs.Application.{mp}
+use Rattle.mp_merge.specs.Join.{IsJoin}
+use Rattle.mp_merge.specs.Lists.{IsFirstConflict}
+use Rattle.mp_merge.specs.Outcome.{IsOutcome}
+use Rattle.mp_merge.specs.Rewriting.{IsRewriting}
+use Rattle.mp_patch.specs.Form.{AreForms, IsFormFault, shapes}
+use Rattle.mp_patch.specs.Operation.{Operation}
+use Rattle.mp_patch.specs.Run.{Runs, IsFaultOf}
+use Rattle.mp_patch.specs.declared.fault.ApplyFault.{ApplyFault}
+use Rattle.mp_patch.specs.declared.fault.ApplyFault.TheVariants.{Refused, OutOfMemory as RunMemory}
+use Rattle.mp_patch.specs.declared.fault.Cause.{Cause}
+use Rattle.mp_patch.specs.declared.fault.Cause.TheVariants.{IntoItself, RemoveRoot, Missing, NoPlace, TooDeep, TestFailed}
+use Rattle.mp_patch.specs.declared.fault.FormCause.{FormCause}
+use Rattle.mp_patch.specs.declared.fault.FormCause.TheVariants.{NotAnObject, NoOp, UnknownOp, NoPath, NoFrom, BadPointer, NoValue}
+use Rattle.mp_patch.specs.declared.fault.FormFault.{FormFault}
+use Rattle.mp_patch.specs.declared.fault.FormFault.TheVariants.{NotAnArray as NoList, Form, OutOfMemory as FormMemory}
 use Rattle.mp_cli.specs.declared.answers.Answer.{Answer}
 use Rattle.mp_cli.specs.declared.command.Command.{Command}
-use Rattle.mp_cli.specs.declared.command.Command.TheVariants.{Get, Merge}
+use Rattle.mp_cli.specs.declared.command.Command.TheVariants.{Get, Patch, Merge, Join, Replay, Rewrite}
 
 -- the bytes that the program writes, with the newline, and the status that it ends with
 pub record Answered : Type 0 where
@@ -72,18 +90,126 @@ abbrev pub merge_answer : Items → Answered
 merge_answer no_items = wrong_shape
 merge_answer (item d ps) = result_line (mp_each d ps)
 
-abbrev pub answer_to : Command → Items → Answered
-answer_to (Get pointer) inputs = get_answer (string_bytes pointer) inputs
-answer_to Merge inputs = merge_answer inputs
+-- ---- `patch`
 
--- the first check that fails, or the command's answer to the elements of the input array
-abbrev checked : Command → Result Items DocsFault → Answered
-checked command (Err fault) = input_fault fault
-checked command (Ok inputs) = answer_to command inputs
+-- an operation by its number, and what is wrong with it
+abbrev pub operation_line : ℕ → List ℕ → ℕ → Answered
+operation_line op words status = line (codes "operation " ++ numeral op ++ codes ": " ++ words) status
 
-unfoldable pub answered : Command → List ℕ → Answered
-answered command input = checked command (documents_in input)
+abbrev pub form_words : FormCause → List ℕ
+form_words NotAnObject = codes "not an object"
+form_words NoOp = codes "no op"
+form_words UnknownOp = codes "unknown op"
+form_words NoPath = codes "no path"
+form_words NoFrom = codes "no from"
+form_words BadPointer = codes "bad pointer"
+form_words NoValue = codes "no value"
 
--- the answer has that text and that status
+abbrev pub cause_words : Cause → List ℕ
+cause_words IntoItself = codes "into itself"
+cause_words RemoveRoot = codes "remove of root"
+cause_words Missing = codes "missing"
+cause_words NoPlace = codes "no place"
+cause_words TooDeep = codes "too deep"
+cause_words TestFailed = codes "test failed"
+
+-- what is wrong with the form of a patch
+abbrev pub form_fault : FormFault → Answered
+form_fault NoList = wrong_shape
+form_fault (Form op cause) = operation_line op (form_words cause) 2
+form_fault FormMemory = line (codes "out of memory") 3
+
+-- why a patch has no result
+abbrev pub run_fault : ApplyFault → Answered
+run_fault (Refused op cause) = operation_line op (cause_words cause) 1
+run_fault RunMemory = line (codes "out of memory") 3
+
+-- where the operations run, the document that they lead to, and else the first that is refused
+pub data IsRunAnswer (d : Document) (operations : List Operation) (a : Answered) : Type 0 where
+  ran : (e : Document) → IsDocument e → Runs d operations e → a ≡ result_line e → IsRunAnswer d operations a
+  halted : (fault : ApplyFault) → fault ≢ RunMemory → IsFaultOf fault d operations → a ≡ run_fault fault → IsRunAnswer d operations a
+
+-- the form of all operations is checked before any is applied
+pub data IsPatchAnswer (d patch : Document) (a : Answered) : Type 0 where
+  malformed : (fault : FormFault) → fault ≢ FormMemory → IsFormFault fault patch → a ≡ form_fault fault → IsPatchAnswer d patch a
+  formed : (operations : List Operation) → AreForms patch operations → IsRunAnswer d operations a → IsPatchAnswer d patch a
+
+-- `patch` wants `[document, json patch]`
+abbrev pub IsPatchAnswerTo : Items → Answered → Type 0
+IsPatchAnswerTo (item d (item patch no_items)) a = IsPatchAnswer d patch a
+IsPatchAnswerTo inputs a = a ≡ wrong_shape
+
+-- ---- lists of merge patches
+
+-- the elements of the input array
+abbrev pub listed : Items → List Document
+listed no_items = []
+listed (item d ds) = d ∷ listed ds
+
+-- the two patches by their numbers, and the pointer as a JSON string
+abbrev pub conflict_line : ℕ → ℕ → Path → Answered
+conflict_line first second place =
+    line (codes "conflict: patches " ++ numeral first ++ codes " and " ++ numeral second ++ codes " at " ++ compact (string (spell place))) 1
+
+abbrev pub no_patches : Answered
+no_patches = line (codes "no patches") 1
+
+-- why a list has no join, or can't be replayed
+abbrev pub list_fault : ListFault → Answered
+list_fault NoPatches = no_patches
+list_fault (ConflictOf first second place) = conflict_line first second place
+list_fault ListMemory = line (codes "out of memory") 3
+
+-- `join` wants `[patch, ..]`: its join, or why there is none
+pub data IsJoinAnswer (patches : List Document) (a : Answered) : Type 0 where
+  joined : (j : Document) → IsDocument j → IsJoin patches j → a ≡ result_line j → IsJoinAnswer patches a
+  none_joined : patches ≡ [] → a ≡ no_patches → IsJoinAnswer patches a
+  join_refused : (first second : ℕ) (place : Path) → IsFirstConflict patches first second place → a ≡ conflict_line first second place → IsJoinAnswer patches a
+
+-- `replay` wants `[document, patch, ..]`, also with no patch: the outcome, or why there is none
+pub data IsReplayAnswer (start : Document) (patches : List Document) (a : Answered) : Type 0 where
+  replayed : (e : Document) → IsDocument e → IsOutcome start patches e → a ≡ result_line e → IsReplayAnswer start patches a
+  replay_refused : (first second : ℕ) (place : Path) → IsFirstConflict patches first second place → a ≡ conflict_line first second place → IsReplayAnswer start patches a
+
+abbrev pub IsReplayAnswerTo : Items → Answered → Type 0
+IsReplayAnswerTo no_items a = a ≡ wrong_shape
+IsReplayAnswerTo (item d ps) a = IsReplayAnswer d (listed ps) a
+
+-- ---- `rewrite`
+
+-- the JSON Patch that a merge patch is for the document, as its shapes
+pub data IsRewriteAnswer (d patch : Document) (a : Answered) : Type 0 where
+  rewritten : (operations : List Operation) → IsRewriting d patch operations → a ≡ result_line (shapes operations) → IsRewriteAnswer d patch a
+
+-- `rewrite` wants `[document, merge patch]`
+abbrev pub IsRewriteAnswerTo : Items → Answered → Type 0
+IsRewriteAnswerTo (item d (item patch no_items)) a = IsRewriteAnswer d patch a
+IsRewriteAnswerTo inputs a = a ≡ wrong_shape
+
+-- ---- all commands
+
+-- the command's answer to the elements of the input array
+abbrev pub IsAnswerTo : Command → Items → Answered → Type 0
+IsAnswerTo (Get pointer) inputs a = a ≡ get_answer (string_bytes pointer) inputs
+IsAnswerTo Patch inputs a = IsPatchAnswerTo inputs a
+IsAnswerTo Merge inputs a = a ≡ merge_answer inputs
+IsAnswerTo Join inputs a = IsJoinAnswer (listed inputs) a
+IsAnswerTo Replay inputs a = IsReplayAnswerTo inputs a
+IsAnswerTo Rewrite inputs a = IsRewriteAnswerTo inputs a
+
+-- the first check that fails, or else the command's answer
+abbrev pub IsChecked : Command → Result Items DocsFault → Answered → Type 0
+IsChecked command (Err fault) a = a ≡ input_fault fault
+IsChecked command (Ok inputs) a = IsAnswerTo command inputs a
+
+-- what the program answers to the input bytes
+unfoldable pub IsAnswered : Command → List ℕ → Answered → Type 0
+IsAnswered command input a = IsChecked command (documents_in input) a
+
+-- the text and the status of an answer
+abbrev pub answered_by : Answer → Answered
+answered_by a = record { text = string_bytes a.text; status = a.status }
+
+-- the call gives that answer
 abbrev pub Gives : Result Answer AllocError → Answered → Type 0
-Gives result expected = IfOk result (λ a. (string_bytes a.text ≡ expected.text) × (a.status ≡ expected.status))
+Gives result expected = IfOk result (λ a. answered_by a ≡ expected)

@@ -5,7 +5,7 @@ use Rattle.clap.specs.Words.{App, IsAmong, Kinds, Row, Rule, Shape, Text, fault_
 use Rattle.clap.specs.declared.error.kind.ErrorKind.{ErrorKind}
 use Rattle.clap.specs.declared.error.kind.ErrorKind.TheVariants.{DisplayHelp}
 use Rattle.mp_cli.specs.declared.command.Command.{Command}
-use Rattle.mp_cli.specs.declared.command.Command.TheVariants.{Get, Merge}
+use Rattle.mp_cli.specs.declared.command.Command.TheVariants.{Get, Patch, Merge, Join, Replay, Rewrite}
 use Rattle.mp_cli.specs.declared.command.CommandFault.{CommandFault}
 use Rattle.mp_cli.specs.declared.command.CommandFault.TheVariants.{Help, Usage, OutOfMemory}
 
@@ -18,7 +18,7 @@ get_shape = record (new_shape (codes "get")) { rules = pointer_rule ∷ [] }
 
 -- the subcommands, in the order of the help
 abbrev pub subcommands : List Shape
-subcommands = get_shape ∷ new_shape (codes "merge") ∷ []
+subcommands = get_shape ∷ new_shape (codes "patch") ∷ new_shape (codes "merge") ∷ new_shape (codes "join") ∷ new_shape (codes "replay") ∷ new_shape (codes "rewrite") ∷ []
 
 -- `mergejoin`, which requires a subcommand, and has none of the name `help`
 unfoldable pub command_line : App
@@ -29,7 +29,11 @@ command_line = fold with_subcommand
 -- the word that asks for a command
 abbrev pub word_of : Command → Text
 word_of (Get pointer) = codes "get"
+word_of Patch = codes "patch"
 word_of Merge = codes "merge"
+word_of Join = codes "join"
+word_of Replay = codes "replay"
+word_of Rewrite = codes "rewrite"
 
 -- the subcommand that the words name, the program's name first, where they name one
 abbrev pub asked_for : List Text → Option Text
@@ -46,7 +50,11 @@ pointer_given words = pointer_in (subcommand_of command_line words)
 -- `get` has the word that was given for POINTER
 abbrev pub CarriesPointer : Command → Option Text → Type 0
 CarriesPointer (Get pointer) given = given ≡ Some (string_bytes pointer)
+CarriesPointer Patch given = ⊤
 CarriesPointer Merge given = ⊤
+CarriesPointer Join given = ⊤
+CarriesPointer Replay given = ⊤
+CarriesPointer Rewrite given = ⊤
 
 -- the kinds of fault that the line finds in the words: none where it takes them
 abbrev pub faults_of : List Text → Kinds

@@ -1,13 +1,16 @@
 //! The answer to an input: the checks in their order, and then the command's work.
-ghost use Rattle.std.specs.Prelude.{◌≡◌, ◌≢◌, ◌++◌, ◌∷◌, [], IfOk, option_map, string_bytes};
+ghost use Rattle.std.specs.Prelude.{◌≡◌, ◌≢◌, ◌++◌, ◌∷◌, [], List, map, IfOk, option_map, string_bytes};
 ghost use Rattle.mp_tree.specs.View.{document, items};
-ghost use Rattle.mp_cli.specs.Answered.{Gives, answered, bad_tilde_line, get_answer, input_fault, line as line_with, merge_answer, part_line, spelling_fault, wrong_shape as shape_fault};
+ghost use Rattle.mp_patch.specs.View.{operations_of};
+ghost use Rattle.mp_pointer.specs.Part.{numeral};
+ghost use Rattle.mp_cli.specs.Answered.{Gives, IsAnswered, IsJoinAnswer, IsPatchAnswer, IsPatchAnswerTo, IsReplayAnswerTo, IsRewriteAnswer, IsRewriteAnswerTo, IsRunAnswer, answered_by, bad_tilde_line, cause_words, conflict_line, form_fault, form_words, get_answer, input_fault, line as line_with, list_fault, merge_answer, operation_line, part_line, run_fault, spelling_fault, wrong_shape as shape_fault};
 
 use crate::answers::Answer;
 use crate::command::Command;
-use mp_merge::merge_owned;
+use mp_merge::{ListFault, join_all, merge_owned, replay as replayed, rewrite as rewriting};
+use mp_patch::{ApplyFault, Cause, FormCause, FormFault, JsonPatch, apply};
 use mp_pointer::{Pointer, PointerFault, get as part_at};
-use mp_tree::{Doc, DocsFault, read_docs, write_doc, write_owned};
+use mp_tree::{Doc, DocsFault, read_docs, write_doc, write_owned, write_text};
 use std::alloc::{AllocError, Global};
 
 /// The status where the command has no result.
@@ -19,23 +22,29 @@ const REFUSED: u8 = 2;
 /// The answer of the program to these input bytes.
 ///
 /// The checks come in this order: the input is JSON; its numbers are whole; it is an array of the
-/// right length; for `get` the spelling of the pointer. `AllocError` where memory ran out, which may
-/// be at any point.
+/// right length, and for `patch` its second element is an array; for `get` the spelling of the
+/// pointer; for `patch` the form of all operations; then the work. `AllocError` where memory ran out,
+/// which may be at any point.
 ///
 /// ```text
 /// answer(alloc, &Command::Merge, b"[{\"a\":1},{\"a\":null}]")  // "{}\n", status 0
 /// answer(alloc, &Command::Merge, b"[]")                        // "input: wrong shape\n", status 2
-/// answer(alloc, &Command::Get(pointer), b"[{\"a\":1}]")          // for the text "/a": "1\n", status 0
+/// answer(alloc, &Command::Join, b"[{\"a\":1},{\"b\":2}]")      // "{\"a\":1,\"b\":2}\n", status 0
+/// answer(alloc, &Command::Join, b"[1,2]")                     // "conflict: patches 0 and 1 at \"\"\n", status 1
+/// answer(alloc, &Command::Get(pointer), b"[{\"a\":1}]")       // for the text "/a": "1\n", status 0
 /// ```
-#[tactic(auto, unfolding(crate::specs::Answered::answered))]
+#[tactic(auto, unfolding(crate::specs::Answered::IsAnswered))]
 pub fn answer(alloc: Global, command: &Command, input: &[u8]) -> Result<Answer, AllocError>
-    ensures text { IfOk result (λ a. string_bytes a.text ≡ (answered command.now input.now).text) }
-    ensures status { IfOk result (λ a. a.status ≡ (answered command.now input.now).status) }
+    ensures { IfOk result (λ a. IsAnswered command.now input.now (answered_by a)) }
 {
     match read_docs(alloc, input) {
         Ok(docs) => match command {
             Command::Get(pointer) => get(alloc, pointer.as_str(), docs.as_slice()),
+            Command::Patch => patch(alloc, docs.as_slice()),
             Command::Merge => merge(alloc, docs),
+            Command::Join => join(alloc, docs.as_slice()),
+            Command::Replay => replay(alloc, docs.as_slice()),
+            Command::Rewrite => rewrite(alloc, docs.as_slice()),
         },
         Err(fault) => fault_answer(alloc, fault),
     }
@@ -97,7 +106,7 @@ fn fault_in_spelling(alloc: Global, fault: PointerFault) -> Result<Answer, Alloc
 fn bad_tilde(alloc: Global, place: usize) -> Result<Answer, AllocError>
     ensures { Gives result (bad_tilde_line place) }
 {
-    let text = format!(in alloc; "pointer: bad tilde at {place}")?;
+    let text = numbered(alloc, "pointer: bad tilde at ", place)?;
     line(alloc, text.as_str(), REFUSED)
 }
 
@@ -108,6 +117,90 @@ fn part(alloc: Global, found: Option<&Doc>) -> Result<Answer, AllocError>
         Some(doc) => printed(write_doc(alloc, doc)?),
         None => line(alloc, "missing", NO_RESULT),
     }
+}
+
+fn patch(alloc: Global, docs: &[Doc]) -> Result<Answer, AllocError>
+    ensures { IfOk result (λ a. IsPatchAnswerTo (items docs.now) (answered_by a)) }
+{
+    if docs.len() != 2 {
+        return wrong_shape(alloc);
+    }
+    patched(alloc, &docs[0], &docs[1])
+}
+
+fn patched(alloc: Global, doc: &Doc, patch: &Doc) -> Result<Answer, AllocError>
+    ensures { IfOk result (λ a. IsPatchAnswer (document doc.now) (document patch.now) (answered_by a)) }
+{
+    match JsonPatch::from_doc(alloc, patch) {
+        Ok(patch) => applied(alloc, doc, &patch),
+        Err(fault) => fault_in_form(alloc, fault),
+    }
+}
+
+fn applied(alloc: Global, doc: &Doc, patch: &JsonPatch) -> Result<Answer, AllocError>
+    ensures { IfOk result (λ a. IsRunAnswer (document doc.now) (operations_of patch.now) (answered_by a)) }
+{
+    match apply(alloc, doc, patch) {
+        Ok(result) => printed(write_owned(alloc, result)?),
+        Err(fault) => fault_in_run(alloc, fault),
+    }
+}
+
+fn fault_in_form(alloc: Global, fault: FormFault) -> Result<Answer, AllocError>
+    ensures line { Gives result (form_fault fault) }
+    ensures fault { IfOk result (λ a. fault ≢ FormFault.OutOfMemory) }
+{
+    match fault {
+        FormFault::NotAnArray => wrong_shape(alloc),
+        FormFault::Form { op, cause } => operation(alloc, op, words_of_form(cause), REFUSED),
+        FormFault::OutOfMemory => Err(AllocError),
+    }
+}
+
+fn words_of_form(cause: FormCause) -> &'static str
+    ensures { result.now ≡ form_words cause }
+{
+    match cause {
+        FormCause::NotAnObject => "not an object",
+        FormCause::NoOp => "no op",
+        FormCause::UnknownOp => "unknown op",
+        FormCause::NoPath => "no path",
+        FormCause::NoFrom => "no from",
+        FormCause::BadPointer => "bad pointer",
+        FormCause::NoValue => "no value",
+    }
+}
+
+fn fault_in_run(alloc: Global, fault: ApplyFault) -> Result<Answer, AllocError>
+    ensures line { Gives result (run_fault fault) }
+    ensures fault { IfOk result (λ a. fault ≢ ApplyFault.OutOfMemory) }
+{
+    match fault {
+        ApplyFault::Refused { op, cause } => operation(alloc, op, words_of_cause(cause), NO_RESULT),
+        ApplyFault::OutOfMemory => Err(AllocError),
+    }
+}
+
+fn words_of_cause(cause: Cause) -> &'static str
+    ensures { result.now ≡ cause_words cause }
+{
+    match cause {
+        Cause::IntoItself => "into itself",
+        Cause::RemoveRoot => "remove of root",
+        Cause::Missing => "missing",
+        Cause::NoPlace => "no place",
+        Cause::TooDeep => "too deep",
+        Cause::TestFailed => "test failed",
+    }
+}
+
+fn operation(alloc: Global, op: usize, words: &str, status: u8) -> Result<Answer, AllocError>
+    ensures { Gives result (operation_line op words.now status) }
+{
+    let mut text = numbered(alloc, "operation ", op)?;
+    text.push_str(": ")?;
+    text.push_str(words)?;
+    line(alloc, text.as_str(), status)
 }
 
 fn merge(alloc: Global, docs: Vec<Doc>) -> Result<Answer, AllocError>
@@ -121,6 +214,80 @@ fn merge(alloc: Global, docs: Vec<Doc>) -> Result<Answer, AllocError>
         doc = merge_owned(alloc, Some(doc), patch)?;
     }
     printed(write_owned(alloc, doc)?)
+}
+
+fn join(alloc: Global, patches: &[Doc]) -> Result<Answer, AllocError>
+    ensures { IfOk result (λ a. IsJoinAnswer (map document patches.now) (answered_by a)) }
+{
+    match join_all(alloc, patches) {
+        Ok(joined) => printed(write_owned(alloc, joined)?),
+        Err(fault) => fault_in_list(alloc, fault),
+    }
+}
+
+fn replay(alloc: Global, docs: &[Doc]) -> Result<Answer, AllocError>
+    ensures { IfOk result (λ a. IsReplayAnswerTo (items docs.now) (answered_by a)) }
+{
+    let Some((start, patches)) = docs.split_first() else {
+        return wrong_shape(alloc);
+    };
+    match replayed(alloc, start, patches) {
+        Ok(doc) => printed(write_owned(alloc, doc)?),
+        Err(fault) => fault_in_list(alloc, fault),
+    }
+}
+
+fn fault_in_list(alloc: Global, fault: ListFault) -> Result<Answer, AllocError>
+    ensures line { Gives result (list_fault fault) }
+    ensures fault { IfOk result (λ a. fault ≢ ListFault.OutOfMemory) }
+{
+    match fault {
+        ListFault::NoPatches => line(alloc, "no patches", NO_RESULT),
+        ListFault::ConflictOf {
+            first,
+            second,
+            place,
+        } => conflict(alloc, first, second, &place),
+        ListFault::OutOfMemory => Err(AllocError),
+    }
+}
+
+fn conflict(
+    alloc: Global,
+    first: usize,
+    second: usize,
+    place: &Pointer,
+) -> Result<Answer, AllocError>
+    ensures { Gives result (conflict_line first second place.now) }
+{
+    let mut text = numbered(alloc, "conflict: patches ", first)?;
+    text.push_str(numbered(alloc, " and ", second)?.as_str())?;
+    text.push_str(" at ")?;
+    text.push_str(write_text(alloc, place.print(alloc)?.as_str())?.as_str())?;
+    line(alloc, text.as_str(), NO_RESULT)
+}
+
+// The text before a number, and the number in plain decimals.
+fn numbered(alloc: Global, before: &str, number: usize) -> Result<String, AllocError>
+    ensures { IfOk result (λ text. string_bytes text ≡ before.now ++ numeral number) }
+{
+    format!(in alloc; "{before}{number}")
+}
+
+fn rewrite(alloc: Global, docs: &[Doc]) -> Result<Answer, AllocError>
+    ensures { IfOk result (λ a. IsRewriteAnswerTo (items docs.now) (answered_by a)) }
+{
+    if docs.len() != 2 {
+        return wrong_shape(alloc);
+    }
+    rewritten(alloc, &docs[0], &docs[1])
+}
+
+fn rewritten(alloc: Global, doc: &Doc, patch: &Doc) -> Result<Answer, AllocError>
+    ensures { IfOk result (λ a. IsRewriteAnswer (document doc.now) (document patch.now) (answered_by a)) }
+{
+    let edits = rewriting(alloc, doc, patch)?;
+    printed(write_owned(alloc, edits.to_doc(alloc)?)?)
 }
 
 fn printed(mut text: String) -> Result<Answer, AllocError>

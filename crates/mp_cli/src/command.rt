@@ -1,6 +1,6 @@
 //! The commands of the program, and the words that ask for them.
 ghost use Rattle.std.specs.Prelude.{◌≡◌, ◌≢◌, map, true, false, Some, [], codes, IfOk, IfErr, OnOk, string_bytes};
-ghost use Rattle.clap.specs.Words.{app_of, kind_of, shape_of, subcommand_name_of, subcommand_rows_of, takes, IsAmong};
+ghost use Rattle.clap.specs.Words.{app_of, kind_of, shape_of, subcommand_name_of, subcommand_rows_of, takes, with_subcommand, IsAmong};
 ghost use Rattle.clap.specs.Simple.{new_shape};
 ghost use Rattle.clap.specs.declared.builder.command.Command.TheViews.{out-Command};
 ghost use Rattle.mp_cli.specs.CommandLine.{command_line, get_shape, asked_for, faults_of, pointer_given, pointer_in, word_of, CarriesPointer, HasMistake, HasPointer, IsSubcommand, IsHelp, IsUsage};
@@ -19,8 +19,16 @@ pub enum Command {
     /// Print the part of the input's one element that this JSON Pointer names. The text is the word
     /// as it was given, which may be no pointer.
     Get(String),
+    /// Apply the JSON Patch that is the input's second element to its first.
+    Patch,
     /// Apply the merge patches of the input, one after another, to its first element.
     Merge,
+    /// Print the join of the merge patches that the input is a list of.
+    Join,
+    /// Apply the merge patches of the input, which are to be compatible, to its first element.
+    Replay,
+    /// Print the merge patch that is the input's second element as a JSON Patch for its first.
+    Rewrite,
 }
 
 /// Why words ask for no command.
@@ -85,18 +93,54 @@ fn program_line<'a>(alloc: Global) -> Result<clap::Command<'a>, AllocError>
     ensures required { IfOk result (λ line. (out-Command line).subcommand_required ≡ true) }
     ensures no_globals { IfOk result (λ line. (out-Command line).has_globals ≡ false) }
 {
-    clap::Command::new(alloc, "mergejoin")
+    let line = clap::Command::new(alloc, "mergejoin")
         .about(
-            "JSON Merge Patch (RFC 7396) and JSON Pointer (RFC 6901) over one JSON array on standard input",
+            "JSON Merge Patch (RFC 7396), JSON Pointer (RFC 6901) and JSON Patch (RFC 6902) over one JSON array on standard input",
         )
         .subcommand_required(true)
         .disable_help_subcommand(true)
-        .subcommand(get_line(alloc)?)?
-        .subcommand(plain_line(
-            alloc,
-            "merge",
-            "Apply merge patches to a document, one after another",
-        ))
+        .subcommand(get_line(alloc)?)?;
+    let line = with_plain(alloc, line, "patch", "Apply a JSON Patch to a document")?;
+    let line = with_plain(
+        alloc,
+        line,
+        "merge",
+        "Apply merge patches to a document, one after another",
+    )?;
+    let line = with_plain(
+        alloc,
+        line,
+        "join",
+        "Make one merge patch with the effect of several compatible ones",
+    )?;
+    let line = with_plain(
+        alloc,
+        line,
+        "replay",
+        "Apply compatible merge patches to a document, in whatever order and with whatever repeats",
+    )?;
+    with_plain(
+        alloc,
+        line,
+        "rewrite",
+        "Make a JSON Patch that does to a document what a merge patch does",
+    )
+}
+
+/// The line with one more subcommand, which has no argument of its own.
+fn with_plain<'a>(
+    alloc: Global,
+    line: clap::Command<'a>,
+    name: &'a str,
+    about: &'a str,
+) -> Result<clap::Command<'a>, AllocError>
+    requires required { (out-Command line).subcommand_required ≡ true }
+    requires no_globals { (out-Command line).has_globals ≡ false }
+    ensures line { IfOk result (λ new. app_of new ≡ with_subcommand (app_of line.entry) (new_shape name.now)) }
+    ensures required { IfOk result (λ new. (out-Command new).subcommand_required ≡ true) }
+    ensures no_globals { IfOk result (λ new. (out-Command new).has_globals ≡ false) }
+{
+    line.subcommand(plain_line(alloc, name, about))
 }
 
 /// A subcommand with no argument of its own.
@@ -134,7 +178,11 @@ fn chosen(alloc: Global, matches: &ArgMatches<'_>) -> Result<Command, AllocError
 {
     match matches.subcommand_name() {
         Some("get") => Ok(Command::Get(pointer_word(alloc, matches)?)),
+        Some("patch") => Ok(Command::Patch),
         Some("merge") => Ok(Command::Merge),
+        Some("join") => Ok(Command::Join),
+        Some("replay") => Ok(Command::Replay),
+        Some("rewrite") => Ok(Command::Rewrite),
         _ => unreachable!(),
     }
 }

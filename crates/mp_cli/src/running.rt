@@ -1,6 +1,6 @@
 //! The run of the program: its input is read, answered and written.
 ghost use Rattle.std.specs.Prelude.{◌≡◌, ◌≢◌, ◌↔◌, ◌+◌, ◌<◌, ◌≤◌, ℕ, List, IsErrOf, IfOk, IfErr, IfSome, OnOk, OnErr};
-ghost use Rattle.mp_cli.specs.Answered.{answered};
+ghost use Rattle.mp_cli.specs.Answered.{Answered, IsAnswered};
 ghost use Rattle.mp_cli.specs.Counted.{device_of, calls_of, failures_of, bytes_of};
 ghost use Rattle.mp_cli.specs.FaultLine.{line_of, status_of};
 ghost use Rattle.mp_cli.specs.Run.{ReadsBytes, ReadsWhole, WritesWhole, Delivers, TouchesOne};
@@ -106,15 +106,16 @@ pub fn run<R: Read, W: Write, E: Write>(
     // bytes it has.
     ensures answered { IfOk result (λ status. (bytes : List ℕ)
         × ReadsWhole R.remaining input.old input.new bytes
-        × Delivers W.contents E.contents (answered command.now bytes) status
-        out.old out.new err.old err.new) }
+        × (a : Answered) × IsAnswered command.now bytes a
+        × Delivers W.contents E.contents a status out.old out.new err.old err.new) }
     ensures answered_known { IfOk result (λ status. IfSome (R.remaining (device_of input.old))
         (λ bytes. ReadsWhole R.remaining input.old input.new bytes
-        × Delivers W.contents E.contents (answered command.now bytes) status
-        out.old out.new err.old err.new)) }
+        × (a : Answered) × IsAnswered command.now bytes a
+        × Delivers W.contents E.contents a status out.old out.new err.old err.new)) }
     ensures one_writer { IsErrOf result RunFault.WriteFailed → (bytes : List ℕ)
         × ReadsWhole R.remaining input.old input.new bytes
-        × TouchesOne (answered command.now bytes) out.old out.new err.old err.new }
+        × (a : Answered) × IsAnswered command.now bytes a
+        × TouchesOne a out.old out.new err.old err.new }
     ensures nothing_written { IfErr result (λ fault. fault ≢ RunFault.WriteFailed
         → (out.new ≡ out.old) × (err.new ≡ err.old)) }
 {

@@ -5,8 +5,14 @@
 #[cfg(test)]
 mod get_rows;
 #[cfg(test)]
+mod list_rows;
+#[cfg(test)]
 mod merge_patch_cases;
 #[cfg(test)]
 mod merge_rows;
+#[cfg(test)]
+mod patch_rows;
+#[cfg(test)]
+mod rewrite_rows;
 #[cfg(test)]
 mod rows;

@@ -1,4 +1,5 @@
 //! The fifteen examples of RFC 7396, appendix A.
+use crate::rewrite_rows::line;
 use crate::rows::check;
 use mp_cli::Command;
 use std::test::Fail;
@@ -33,6 +34,29 @@ fn merge(rt: HostRuntime) -> Result<(), Fail> {
     for (original, patch, result) in CASES {
         let input = format!(in rt.alloc(); "[{original},{patch}]")?;
         check(&rt, &Command::Merge, input.as_bytes(), result, 0);
+    }
+    Ok(())
+}
+
+/// A patch that is received twice leaves what it leaves once.
+#[test]
+fn replay(rt: HostRuntime) -> Result<(), Fail> {
+    for (original, patch, result) in CASES {
+        let once = format!(in rt.alloc(); "[{original},{patch}]")?;
+        check(&rt, &Command::Replay, once.as_bytes(), result, 0);
+        let twice = format!(in rt.alloc(); "[{original},{patch},{patch}]")?;
+        check(&rt, &Command::Replay, twice.as_bytes(), result, 0);
+    }
+    Ok(())
+}
+
+#[test]
+fn rewrite(rt: HostRuntime) -> Result<(), Fail> {
+    for (original, patch, result) in CASES {
+        let input = format!(in rt.alloc(); "[{original},{patch}]")?;
+        let edits = line(&rt, &Command::Rewrite, input.as_str())?;
+        let rewritten = format!(in rt.alloc(); "[{original},{edits}]")?;
+        check(&rt, &Command::Patch, rewritten.as_bytes(), result, 0);
     }
     Ok(())
 }

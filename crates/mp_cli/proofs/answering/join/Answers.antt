@@ -1,0 +1,18 @@
+use Rattle.std.proofs.Common.{◌≡◌, ◌∙◌, map, refl, ap}
+use Rattle.std.proofs.lemmas.Result.{IfOk-weaker}
+use Rattle.mp_tree.specs.View.{document}
+use Rattle.mp_tree.proofs.Facts.{IsDocument-document}
+use Rattle.mp_cli.specs.Answered.{line, joined}
+use Rattle.mp_cli.proofs.AnswerLemmas.{no_join, if_both}
+use Rattle.mp_cli.proofs.answering.join.Goals as goal
+
+pub returns-in_ok-write_owned-in-Ok : goal.returns-in_ok-write_owned-in-Ok
+returns-in_ok-write_owned-in-Ok c =
+    let j = c.in-Ok.joined in
+    let text = c.in_ok-write_owned-in-Ok.ensures.text in
+    IfOk-weaker c.printed.result _ _ (λ a is. joined (document j) (IsDocument-document j) c.in-Ok.ensures.joined (is ∙ ap (λ t. line t 0) text)) c.printed.ensures
+
+pub returns-in-Err : goal.returns-in-Err
+returns-in-Err c =
+    let patches = map document c.args.patches.now in
+    if_both c.fault_in_list.result _ _ _ c.fault_in_list.ensures.line c.fault_in_list.ensures.fault (λ a is memory. no_join c.in-Err.fault patches _ memory c.in-Err.ensures.joined is)

@@ -1,0 +1,91 @@
+//! `rewrite`, and the four ways to one document: replay in two orders, the merge of the join, and the patch of the
+//! rewritten join.
+use crate::rows::{Row, check, check_rows};
+use mp_cli::{Command, answer};
+use std::process::Abort;
+use std::test::Fail;
+
+const REWRITTEN: &[Row] = &[
+    (
+        r#"[{"a":1,"b":{"c":2}},{"a":1,"b":{"c":null,"d":{"e":null}},"x":null}]"#,
+        r#"[{"op":"remove","path":"/b/c"},{"op":"add","path":"/b/d","value":{}}]"#,
+        0,
+    ),
+    (
+        r#"[{"a":1,"b":{"d":{}}},{"a":1,"b":{"c":null,"d":{"e":null}},"x":null}]"#,
+        "[]",
+        0,
+    ),
+    (
+        r#"[5,{"a":1}]"#,
+        r#"[{"op":"replace","path":"","value":{"a":1}}]"#,
+        0,
+    ),
+    (
+        r#"[{"a":1},null]"#,
+        r#"[{"op":"replace","path":"","value":null}]"#,
+        0,
+    ),
+    ("[null,null]", "[]", 0),
+    (
+        r#"[{"a":null},{"a":{"b":null}}]"#,
+        r#"[{"op":"replace","path":"/a","value":{}}]"#,
+        0,
+    ),
+    (
+        r#"[{"a":[1]},{"a":[1,null]}]"#,
+        r#"[{"op":"replace","path":"/a","value":[1,null]}]"#,
+        0,
+    ),
+    (
+        r#"[{"a":1},{"a":null,"b":null}]"#,
+        r#"[{"op":"remove","path":"/a"}]"#,
+        0,
+    ),
+    ("[5,5]", "[]", 0),
+    ("[5]", "input: wrong shape", 2),
+    ("[1,2,3]", "input: wrong shape", 2),
+];
+
+/// A start, and compatible patches in two orders.
+const START: &str = r#"{"k":0,"a":{"z":1},"s":"old"}"#;
+
+const ONE_ORDER: &str = r#"{"a":{"x":1}},{"a":{"y":null,"z":null}},{"k":null},{"s":{"t":[null]}}"#;
+
+const OTHER_ORDER: &str =
+    r#"{"s":{"t":[null]}},{"k":null},{"a":{"y":null,"z":null}},{"k":null},{"a":{"x":1}}"#;
+
+const END: &str = r#"{"a":{"x":1},"s":{"t":[null]}}"#;
+
+#[test]
+fn rewritten(rt: HostRuntime) -> Result<(), Fail> {
+    check_rows(&rt, &Command::Rewrite, REWRITTEN);
+    Ok(())
+}
+
+#[test]
+fn four_ways_to_one_document(rt: HostRuntime) -> Result<(), Fail> {
+    let one = format!(in rt.alloc(); "[{START},{ONE_ORDER}]")?;
+    check(&rt, &Command::Replay, one.as_bytes(), END, 0);
+    let other = format!(in rt.alloc(); "[{START},{OTHER_ORDER}]")?;
+    check(&rt, &Command::Replay, other.as_bytes(), END, 0);
+    let patches = format!(in rt.alloc(); "[{OTHER_ORDER}]")?;
+    let join = line(&rt, &Command::Join, patches.as_str())?;
+    let merged = format!(in rt.alloc(); "[{START},{join}]")?;
+    check(&rt, &Command::Merge, merged.as_bytes(), END, 0);
+    let edits = line(&rt, &Command::Rewrite, merged.as_str())?;
+    let patched = format!(in rt.alloc(); "[{START},{edits}]")?;
+    check(&rt, &Command::Patch, patched.as_bytes(), END, 0);
+    Ok(())
+}
+
+/// The text of an answer with status 0.
+pub fn line<R: Abort + AllocGlobal>(
+    rt: &R,
+    command: &Command,
+    input: &str,
+) -> Result<String, Fail> {
+    let found = answer(rt.alloc(), command, input.as_bytes())?;
+    assert_eq!(rt; found.status, 0, "the status of {input}");
+    Ok(found.text)
+}
