@@ -152,4 +152,5 @@ def main():
     print(json.dumps([document, patch], ensure_ascii=False, separators=(",", ":")))
 
 
-main()
+if __name__ == "__main__":
+    main()

@@ -1,0 +1,96 @@
+# shellcheck shell=bash
+# What the modes of bench/run share: the folder that all is measured in, the counting
+# of instructions, and the table of several programs beside each other.
+
+# shellcheck source=bin/program.sh
+. "$(dirname -- "$(readlink -f -- "${BASH_SOURCE[0]}")")/../bin/program.sh"
+
+# All that is built and measured stands in a folder outside the repository.
+"$top/bin/mergejoin" --help </dev/null >/dev/null
+work=${TMPDIR:-/tmp}/mergejoin-bench
+mkdir -p -- "$work"
+cd -- "$work" || exit
+cp -r -- "$program" "$top"/bench/{rust,*.py,*.cpp,*.jq} .
+exec </dev/null
+
+say() { printf 'bench: %s\n' "$1" >&2; }
+
+install_package() {
+  say "installing Debian's package $1 .."
+  { apt-get -q update && DEBIAN_FRONTEND=noninteractive \
+    apt-get -q -y --no-install-recommends install "$1"; } >apt.log 2>&1 ||
+    { say "it can't be had here: $work/apt.log"; return 1; }
+}
+
+# The interpreter itself, where the python3 named $1 is a script that finds it.
+interpreter() { "$1" -c 'import sys; print(sys.executable)'; }
+
+# With one seed, so that the count of Python repeats.
+export PYTHONHASHSEED=0
+
+# Runs the command from $3 on, on the input $1 and with its output in $2, and prints
+# the number of its instructions.
+count() {
+  local input=$1 output=$2
+  shift 2
+  valgrind --tool=callgrind --callgrind-out-file=/dev/null --log-file=callgrind.log \
+    "$@" <"$input" >"$output" || { say "$* failed"; return 1; }
+  awk '/ Collected :/ { print $NF }' callgrind.log
+}
+
+command -v valgrind >/dev/null || install_package valgrind
+
+# Says it where the output $2 of $1 is not the output $4 of $3: then the mode fails.
+differ=0
+compare() {
+  cmp -s -- "$2" "$4" && return
+  say "DIFFERS: $1 prints $work/$2, $3 $work/$4"
+  # shellcheck disable=SC2034 # the status that the modes end with
+  differ=1
+}
+
+# The programs: each with its name in the table and its command, of words with no space.
+titles=() commands=()
+add() { titles+=("$1") commands+=("$2"); }
+
+# Counts each program on the input $1.json, which becomes a column of the table, and
+# compares what they print.
+sizes=() counts=()
+measure() {
+  local i instructions
+  sizes+=("$(wc -c <"$1.json")")
+  for i in "${!titles[@]}"; do
+    say "$1.json: ${titles[i]} .."
+    # shellcheck disable=SC2086 # the words of the command
+    instructions=$(count "$1.json" "$1.$i.out" ${commands[i]})
+    counts+=("$instructions")
+    compare "${titles[i]}" "$1.$i.out" mergejoin "$1.0.out"
+  done
+}
+
+# The words $1, and under them when and where it was measured.
+print_head() (
+  . /etc/os-release
+  printf '%s\n' "$1"
+  printf '%s, %s, %s, %s.\n\n' "$(date -u +%F)" "$(uname -m)" "${PRETTY_NAME:-}" "$(valgrind --version)"
+)
+
+# The table of what was measured, in millions; in brackets the ratio to the program
+# with place $1, if there is one.
+print_table() {
+  local i k row size
+  printf '| program |'
+  for size in "${sizes[@]}"; do awk -v n="$size" 'BEGIN { printf " %.1f kB |", n / 1000 }'; done
+  printf '\n| --- |'
+  printf ' ---: |%.0s' "${sizes[@]}"
+  printf '\n'
+  for i in "${!titles[@]}"; do
+    printf '| %s |' "${titles[i]}"
+    for k in "${!sizes[@]}"; do
+      row=$((k * ${#titles[@]}))
+      awk -v n="${counts[row + i]}" -v r="${1:+${counts[row + $1]}}" \
+        'BEGIN { printf " %.2f", n / 1e6; if (r) printf " (%.2f)", n / r; printf " |" }'
+    done
+    printf '\n'
+  done
+}

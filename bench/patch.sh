@@ -1,0 +1,46 @@
+#!/usr/bin/env bash
+# bench/run patch: counts the instructions of `patch` with 1,000 operations on a
+# document of 300 kB (bench/patch_inputs.py), beside the same in C++ with nlohmann's
+# JSON and in Python with jsonpatch.
+set -euo pipefail
+
+# shellcheck source=bench/common.sh
+. "$(dirname -- "$(readlink -f -- "${BASH_SOURCE[0]}")")/common.sh"
+
+add mergejoin './mergejoin patch'
+
+# C++, over the header that Debian's package puts where every compiler looks.
+cpp= # its place among the programs
+header=/usr/include/nlohmann/json.hpp
+if ! compiler=$(command -v g++ || command -v clang++); then
+  say 'no compiler of C++ here: without the peer in C++'
+elif [[ -e $header ]] || install_package nlohmann-json3-dev; then
+  if "$compiler" -std=c++17 -O3 -DNDEBUG -o patch patch.cpp >cpp.log 2>&1; then
+    cpp=${#titles[@]}
+    add "C++, $(./patch --version)" ./patch
+  else
+    say "the peer in C++ can't be built: $work/cpp.log"
+  fi
+fi
+
+# Python: the one on the PATH, or Debian's own, which its package serves.
+has_jsonpatch() { "$1" -c 'import jsonpatch' 2>/dev/null; }
+python=
+if has_jsonpatch python3; then
+  python=python3
+elif has_jsonpatch /usr/bin/python3 || { install_package python3-jsonpatch && has_jsonpatch /usr/bin/python3; }; then
+  python=/usr/bin/python3
+else
+  say 'no jsonpatch here: without the peer in Python'
+fi
+if [[ $python ]]; then
+  version=$("$python" -c 'import jsonpatch; print(jsonpatch.__version__)')
+  add "$("$python" --version), jsonpatch $version" "$(interpreter "$python") patch.py"
+fi
+
+python3 patch_inputs.py 1000 300000 >patch.json
+measure patch
+
+print_head "Millions of instructions by callgrind, of 1,000 operations on a document of 300 kB; in brackets, how many times those of C++."
+print_table "$cpp"
+exit "$differ"
