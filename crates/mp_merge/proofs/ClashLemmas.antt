@@ -1,7 +1,7 @@
 -- Clashes name by name.
-use Rattle.std.proofs.Common.{◌≡◌, ◌⊎◌, inl, inr, ◌↔◌, ℕ, List, [], ◌∷◌, Bool, true, false, cond, Option, Some, None, String, Vec, BTreeMap, Global, Less, refl, sym, ap, ◌∙◌, subst, rules, true≢false}
+use Rattle.std.proofs.Common.{◌≡◌, ◌↔◌, ℕ, List, [], ◌∷◌, Bool, true, false, Option, Some, None, String, BTreeMap, Global, Less, refl, sym, ap, ◌∙◌, subst, rules, true≢false}
 use Rattle.std.specs.Ordering.{ordering_then}
-use Rattle.mp_tree.specs.Document.{Document, null, flag, whole, string, list, object, Members, no_members, member, name_cmp, is_name, find, IsMap}
+use Rattle.mp_tree.specs.Document.{Document, null, flag, whole, string, list, object, Members, no_members, member, find, IsMap}
 use Rattle.mp_tree.specs.Look.{Path, nothing, an_object, plain, look, look_of, look_here}
 use Rattle.mp_tree.specs.View.{document, document_step}
 use Rattle.mp_tree.specs.declared.doc.Doc.{Doc, Members as Map, ind-Doc, roll-Doc, fold-roll-Doc, the_lemmas}

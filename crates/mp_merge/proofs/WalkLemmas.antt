@@ -1,9 +1,9 @@
 -- One step of a walk over the members of two patches.
-use Rattle.std.proofs.Common.{◌≡◌, ℕ, List, ◌∷◌, Some, None, Option, option_map, String, Global, string_bytes, string_cmp, sym, ap, ◌∙◌, subst}
+use Rattle.std.proofs.Common.{◌≡◌, ℕ, List, ◌∷◌, Option, option_map, String, Global, string_bytes, string_cmp, sym, ap, ◌∙◌, subst}
 use Rattle.std.specs.BTreeMap.{is_at}
 use Rattle.std.specs.List.Sorted.{IsStrictlySortedBy}
 use Rattle.std.specs.Map.{keys_of, lookup}
-use Rattle.mp_tree.specs.Document.{object, Members, member, name_cmp, find, IsMap}
+use Rattle.mp_tree.specs.Document.{Members, member, name_cmp, find, IsMap}
 use Rattle.mp_tree.specs.View.{document, members}
 use Rattle.mp_tree.specs.declared.doc.Doc.{Doc}
 use Rattle.mp_tree.proofs.Facts.{find-members, IsMap-members, members-cons}

@@ -1,5 +1,5 @@
 -- What the private walks over two patches compute. Public contracts speak of clashes and joins alone.
-use Rattle.std.specs.Prelude.{List, ℕ, Option, None, Some}
+use Rattle.std.specs.Prelude.{Option, None, Some}
 use Rattle.mp_tree.specs.Document.{Document, null, flag, whole, string, list, object, Members, no_members, member, find, put}
 use Rattle.mp_merge.specs.Application.{target_members}
 

@@ -69,28 +69,34 @@ fn joins(rt: HostRuntime) -> Result<(), Fail> {
 
 #[test]
 fn clashes(rt: HostRuntime) -> Result<(), Fail> {
-    for (patches, place) in CLASHES {
+    for (patches, wanted) in CLASHES {
         let docs = read_docs(rt.alloc(), patches.as_bytes())?;
         let (Some(p), Some(q)) = (docs.first(), docs.last()) else {
             continue;
         };
         assert!(rt; !compatible(p, q), "that {patches} are not compatible");
         assert!(rt; !compatible(q, p), "that {patches} are not compatible");
-        clash_at(&rt, p, q, place)?;
-        clash_at(&rt, q, p, place)?;
+        let Some(place) = conflict(rt.alloc(), p, q)? else {
+            assert!(rt; false, "a conflict of {patches}");
+            continue;
+        };
+        is_spelling(&rt, &place, wanted)?;
     }
     Ok(())
 }
 
-/// The first conflict of the patches, by itself and as the refusal of their join.
-fn clash_at<R: Abort + AllocGlobal>(rt: &R, p: &Doc, q: &Doc, place: &str) -> Result<(), Fail> {
-    match conflict(rt.alloc(), p, q)? {
-        Some(found) => is_spelling(rt, &found, place)?,
-        None => assert!(rt; false, "a conflict at {place}"),
-    }
-    match join(rt.alloc(), p, q) {
-        Err(JoinFault::Conflict(found)) => is_spelling(rt, &found, place)?,
-        _ => assert!(rt; false, "a join that is refused at {place}"),
+#[test]
+fn refused_joins(rt: HostRuntime) -> Result<(), Fail> {
+    for (patches, wanted) in CLASHES {
+        let docs = read_docs(rt.alloc(), patches.as_bytes())?;
+        let (Some(p), Some(q)) = (docs.first(), docs.last()) else {
+            continue;
+        };
+        let Err(JoinFault::Conflict(place)) = join(rt.alloc(), q, p) else {
+            assert!(rt; false, "a join of {patches} that is refused");
+            continue;
+        };
+        is_spelling(&rt, &place, wanted)?;
     }
     Ok(())
 }

@@ -1,5 +1,5 @@
-use Rattle.std.proofs.Common.{◌≡◌, List, ◌∷◌, Some, None, Option, MatchOption, String, Global, string_bytes, sym, ap, ◌∙◌, subst}
-use Rattle.mp_tree.specs.Document.{object, member, find, IsMap}
+use Rattle.std.proofs.Common.{◌≡◌, ◌∷◌, Some, None, Option, MatchOption, String, Global, string_bytes, sym, ap, ◌∙◌, subst}
+use Rattle.mp_tree.specs.Document.{object, find, IsMap}
 use Rattle.mp_tree.specs.Look.{Path}
 use Rattle.mp_tree.specs.View.{document, members}
 use Rattle.mp_tree.specs.declared.doc.Doc.{Doc}

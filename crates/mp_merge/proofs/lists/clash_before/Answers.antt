@@ -1,8 +1,7 @@
-use Rattle.std.proofs.Common.{◌≡◌, ◌<◌, length, map, Option, Some, MatchOption, slice_get, sym, ◌∙◌, subst, arith, rules}
+use Rattle.std.proofs.Common.{◌≡◌, map, Option, Some, MatchOption, slice_get, subst, arith}
 use Rattle.mp_tree.specs.Look.{Path}
 use Rattle.mp_tree.specs.View.{document}
 use Rattle.mp_merge.specs.Clash.{Compatible, IsFirstClash}
-use Rattle.mp_merge.specs.Lists.{CompatibleBelow}
 use Rattle.mp_merge.proofs.Numbered.{at_number, same_at, below_more}
 use Rattle.mp_merge.proofs.lists.clash_before.Goals as goal
 

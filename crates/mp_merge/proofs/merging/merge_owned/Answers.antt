@@ -1,4 +1,4 @@
-use Rattle.std.proofs.Common.{option_map, ◌≡◌, ◌≤◌, max, sym, ap, subst, rules}
+use Rattle.std.proofs.Common.{option_map, ◌≡◌, ◌≤◌, max, sym, subst}
 use Rattle.std.proofs.lemmas.Result.{IfOk-weaker}
 use Rattle.mp_tree.specs.Document.{depth}
 use Rattle.mp_tree.specs.View.{document}
