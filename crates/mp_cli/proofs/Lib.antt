@@ -2,4 +2,7 @@ pub mod AnswerLemmas
 pub mod CommandLineLemmas
 pub mod GetWord
 pub mod GivenWords
+pub mod OneAnswer
+pub mod OneConflict
+pub mod OneFormFault
 pub mod RunLemmas

@@ -2,4 +2,5 @@ pub mod Answered
 pub mod CommandLine
 pub mod Counted
 pub mod FaultLine
+pub mod Laws
 pub mod Run

@@ -6,6 +6,7 @@ mod answering;
 pub mod answers;
 mod command;
 mod counted;
+pub mod laws;
 mod running;
 
 pub use answering::answer;

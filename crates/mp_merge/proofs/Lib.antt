@@ -9,6 +9,7 @@ pub mod EditWalks
 pub mod Edits
 pub mod Elements
 pub mod Exchange
+pub mod Facts
 pub mod Headline
 pub mod Joins
 pub mod Listings

@@ -10,6 +10,7 @@ pub mod MapEdits
 pub mod Maps
 pub mod Meaning
 pub mod Names
+pub mod ReadDocuments
 pub mod ReadLemmas
 pub mod RoundTrip
 pub mod SameParts

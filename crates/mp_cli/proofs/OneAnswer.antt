@@ -1,0 +1,142 @@
+-- The program has one answer to a command and its input bytes.
+use Rattle.std.proofs.Common.{◌≡◌, ◌≢◌, ℕ, List, [], ◌∷◌, Result, Ok, Err, Option, Some, IfSome, refl, sym, ap, ◌∙◌, subst, codes}
+use Rattle.mp_tree.specs.Document.{Document, Items, no_items, item, Members, find, IsDocument, AreDocuments, IsMap}
+use Rattle.mp_tree.specs.Text.{documents_in}
+use Rattle.mp_tree.specs.declared.read.DocsFault.{DocsFault}
+use Rattle.mp_tree.proofs.Facts.{AreDocuments-documents_in, IsDocument-find}
+use Rattle.mp_patch.specs.Form.{AreForms, EachForm, Carries, needed, shapes}
+use Rattle.mp_patch.specs.Laws.{HasDocument, HaveDocuments}
+use Rattle.mp_patch.specs.Operation.{Operation, add, remove, replace, move, copy, test}
+use Rattle.mp_patch.specs.Run.{Runs, IsFaultOf}
+use Rattle.mp_patch.specs.declared.fault.ApplyFault.{ApplyFault}
+use Rattle.mp_patch.specs.declared.fault.ApplyFault.TheVariants.{Refused, OutOfMemory}
+use Rattle.mp_patch.proofs.Facts.{forms_have_no_fault, has_one_reading, has_one_end, runs_unrefused, has_one_refusal}
+use Rattle.mp_merge.proofs.Facts.{empty_has_no_join, one_join, one_outcome, one_rewriting}
+use Rattle.mp_merge.specs.Join.{IsJoin}
+use Rattle.mp_merge.specs.Lists.{IsFirstConflict}
+use Rattle.mp_tree.specs.Look.{Path}
+use Rattle.mp_cli.specs.Answered.{Answered, listed, result_line, conflict_line, form_fault, run_fault, IsRunAnswer, ran, halted, IsPatchAnswer, malformed, formed, IsJoinAnswer, joined, none_joined, join_refused, IsReplayAnswer, replayed, replay_refused, IsRewriteAnswer, rewritten, IsPatchAnswerTo, IsReplayAnswerTo, IsRewriteAnswerTo, IsAnswerTo, IsChecked, IsAnswered}
+use Rattle.mp_cli.specs.Laws.{HasOneAnswer}
+use Rattle.mp_cli.specs.declared.command.Command.{Command}
+use Rattle.mp_cli.specs.declared.command.Command.TheVariants.{Get, Patch, Merge, Join, Replay, Rewrite}
+use Rattle.mp_cli.proofs.OneConflict.{one_first_conflict, conflict_has_patches, conflict_has_no_join, conflict_has_no_outcome}
+use Rattle.mp_cli.proofs.OneFormFault.{one_form_fault}
+
+-- ---- `patch`
+
+value_is_document : (ms : Members) (v : Document) → IsMap ms → find (codes "value") ms ≡ Some v → IsDocument v
+value_is_document ms v good at = subst (λ (o : Option Document). IfSome o IsDocument) at (IsDocument-find (codes "value") ms good)
+
+carried_document : (ms : Members) (o : Operation) → IsMap ms → Carries ms (needed o) → HasDocument o
+carried_document ms (add t v) good carries = value_is_document ms v good carries.1.1.0
+carried_document ms (remove t) good carries = tt
+carried_document ms (replace t v) good carries = value_is_document ms v good carries.1.1.0
+carried_document ms (move f t) good carries = tt
+carried_document ms (copy f t) good carries = tt
+carried_document ms (test t v) good carries = value_is_document ms v good carries.1.1.0
+
+each_document : (ds : Items) (operations : List Operation) → AreDocuments ds → EachForm ds operations → HaveDocuments operations
+each_document no_items [] good forms = tt
+each_document no_items (o ∷ operations) good forms = absurd forms
+each_document (item d ds) [] good forms = absurd forms
+each_document (item d ds) (o ∷ operations) good ((ms, is, carries), forms) = (carried_document ms o (subst IsDocument is good.0) carries, each_document ds operations good.1 forms)
+
+forms_of_documents : (patch : Document) (operations : List Operation) → IsDocument patch → AreForms patch operations → HaveDocuments operations
+forms_of_documents patch operations good (ds, is, forms) = each_document ds operations (subst IsDocument is good) forms
+
+module _ (d : Document) (operations : List Operation) (a b : Answered) (good : IsDocument d) (values : HaveDocuments operations) where
+  not_both : (e : Document) (fault : ApplyFault) → Runs d operations e → fault ≢ OutOfMemory → IsFaultOf fault d operations → ⊥
+  not_both e OutOfMemory runs memory refused = memory refl
+  not_both e (Refused k cause) runs memory refused = runs_unrefused d e operations k cause good values runs refused
+
+  one_fault : (fault other : ApplyFault) → fault ≢ OutOfMemory → other ≢ OutOfMemory → IsFaultOf fault d operations → IsFaultOf other d operations → run_fault fault ≡ run_fault other
+  one_fault OutOfMemory other memory also one two = absurd (memory refl)
+  one_fault (Refused k cause) OutOfMemory memory also one two = absurd (also refl)
+  one_fault (Refused k cause) (Refused n other) memory also one two =
+      let same = has_one_refusal d operations k n cause other good values one two in
+      ap (λ i. run_fault (Refused i cause)) same.0 ∙ ap (λ c. run_fault (Refused n c)) same.1
+
+  one_run : IsRunAnswer d operations a → IsRunAnswer d operations b → a ≡ b
+  one_run (ran e fine runs is) (ran f also more was) = is ∙ ap result_line (has_one_end d e f operations good values runs more) ∙ sym was
+  one_run (ran e fine runs is) (halted fault memory refused was) = absurd (not_both e fault runs memory refused)
+  one_run (halted fault memory refused is) (ran f also more was) = absurd (not_both f fault more memory refused)
+  one_run (halted fault memory refused is) (halted other also again was) = is ∙ one_fault fault other memory also refused again ∙ sym was
+
+one_patch : (d patch : Document) (a b : Answered) → IsDocument d → IsDocument patch → IsPatchAnswer d patch a → IsPatchAnswer d patch b → a ≡ b
+one_patch d patch a b good fine (malformed fault memory one is) (malformed other also two was) = is ∙ ap form_fault (one_form_fault fault other patch memory also one two) ∙ sym was
+one_patch d patch a b good fine (malformed fault memory one is) (formed operations forms runs) = absurd (memory (forms_have_no_fault patch operations fault forms one))
+one_patch d patch a b good fine (formed operations forms runs) (malformed fault memory one is) = absurd (memory (forms_have_no_fault patch operations fault forms one))
+one_patch d patch a b good fine (formed operations forms runs) (formed others also more) =
+    let same = has_one_reading patch others operations also forms in
+    one_run d operations a b good (forms_of_documents patch operations fine forms) runs (subst (λ (os : List Operation). IsRunAnswer d os b) same more)
+
+one_patch_to : (ds : Items) (a b : Answered) → AreDocuments ds → IsPatchAnswerTo ds a → IsPatchAnswerTo ds b → a ≡ b
+one_patch_to no_items a b good is was = is ∙ sym was
+one_patch_to (item d no_items) a b good is was = is ∙ sym was
+one_patch_to (item d (item patch no_items)) a b good is was = one_patch d patch a b good.0 good.1.0 is was
+one_patch_to (item d (item patch (item e ds))) a b good is was = is ∙ sym was
+
+-- ---- lists of merge patches
+
+one_conflict_line : (patches : List Document) (first second other_first other_second : ℕ) (place other_place : Path) (a b : Answered) → IsFirstConflict patches first second place
+    → a ≡ conflict_line first second place → IsFirstConflict patches other_first other_second other_place → b ≡ conflict_line other_first other_second other_place → a ≡ b
+one_conflict_line patches first second other_first other_second place other_place a b one is two was =
+    is ∙ one_first_conflict conflict_line patches first second other_first other_second place other_place one two ∙ sym was
+
+none_has_no_join : (patches : List Document) (j : Document) → patches ≡ [] → IsJoin patches j → ⊥
+none_has_no_join patches j none joins = empty_has_no_join j (subst (λ (ps : List Document). IsJoin ps j) none joins)
+
+none_has_no_conflict : (patches : List Document) (first second : ℕ) (place : Path) → patches ≡ [] → IsFirstConflict patches first second place → ⊥
+none_has_no_conflict patches first second place none conflict = conflict_has_patches first second place (subst (λ (ps : List Document). IsFirstConflict ps first second place) none conflict)
+
+one_join_answer : (patches : List Document) (a b : Answered) → IsJoinAnswer patches a → IsJoinAnswer patches b → a ≡ b
+one_join_answer patches a b (joined i good one is) (joined j other two was) = is ∙ ap result_line (one_join patches i j good other one two) ∙ sym was
+one_join_answer patches a b (joined i good one is) (none_joined none was) = absurd (none_has_no_join patches i none one)
+one_join_answer patches a b (joined i good one is) (join_refused first second place two was) = absurd (conflict_has_no_join patches i first second place one two)
+one_join_answer patches a b (none_joined none is) (joined j other two was) = absurd (none_has_no_join patches j none two)
+one_join_answer patches a b (none_joined none is) (none_joined also was) = is ∙ sym was
+one_join_answer patches a b (none_joined none is) (join_refused first second place two was) = absurd (none_has_no_conflict patches first second place none two)
+one_join_answer patches a b (join_refused first second place one is) (joined j other two was) = absurd (conflict_has_no_join patches j first second place two one)
+one_join_answer patches a b (join_refused first second place one is) (none_joined none was) = absurd (none_has_no_conflict patches first second place none one)
+one_join_answer patches a b (join_refused first second place one is) (join_refused least most where_else two was) =
+    one_conflict_line patches first second least most place where_else a b one is two was
+
+one_replay : (d : Document) (patches : List Document) (a b : Answered) → IsReplayAnswer d patches a → IsReplayAnswer d patches b → a ≡ b
+one_replay d patches a b (replayed e good one is) (replayed f other two was) = is ∙ ap result_line (one_outcome d patches e f good other one two) ∙ sym was
+one_replay d patches a b (replayed e good one is) (replay_refused first second place two was) = absurd (conflict_has_no_outcome d e patches first second place one two)
+one_replay d patches a b (replay_refused first second place one is) (replayed f other two was) = absurd (conflict_has_no_outcome d f patches first second place two one)
+one_replay d patches a b (replay_refused first second place one is) (replay_refused least most where_else two was) =
+    one_conflict_line patches first second least most place where_else a b one is two was
+
+one_replay_to : (ds : Items) (a b : Answered) → IsReplayAnswerTo ds a → IsReplayAnswerTo ds b → a ≡ b
+one_replay_to no_items a b is was = is ∙ sym was
+one_replay_to (item d ps) a b is was = one_replay d (listed ps) a b is was
+
+-- ---- `rewrite`
+
+one_rewrite : (d patch : Document) (a b : Answered) → IsRewriteAnswer d patch a → IsRewriteAnswer d patch b → a ≡ b
+one_rewrite d patch a b (rewritten operations one is) (rewritten others two was) = is ∙ ap (λ os. result_line (shapes os)) (one_rewriting d patch operations others one two) ∙ sym was
+
+one_rewrite_to : (ds : Items) (a b : Answered) → IsRewriteAnswerTo ds a → IsRewriteAnswerTo ds b → a ≡ b
+one_rewrite_to no_items a b is was = is ∙ sym was
+one_rewrite_to (item d no_items) a b is was = is ∙ sym was
+one_rewrite_to (item d (item patch no_items)) a b is was = one_rewrite d patch a b is was
+one_rewrite_to (item d (item patch (item e ds))) a b is was = is ∙ sym was
+
+-- ---- all commands
+
+one_answer_to : (command : Command) (ds : Items) (a b : Answered) → AreDocuments ds → IsAnswerTo command ds a → IsAnswerTo command ds b → a ≡ b
+one_answer_to (Get pointer) ds a b good is was = is ∙ sym was
+one_answer_to Patch ds a b good is was = one_patch_to ds a b good is was
+one_answer_to Merge ds a b good is was = is ∙ sym was
+one_answer_to Join ds a b good is was = one_join_answer (listed ds) a b is was
+one_answer_to Replay ds a b good is was = one_replay_to ds a b is was
+one_answer_to Rewrite ds a b good is was = one_rewrite_to ds a b is was
+
+one_checked : (command : Command) (r : Result Items DocsFault) (a b : Answered) → ((ds : Items) → r ≡ Ok ds → AreDocuments ds) → IsChecked command r a → IsChecked command r b → a ≡ b
+one_checked command (Err fault) a b good is was = is ∙ sym was
+one_checked command (Ok ds) a b good is was = one_answer_to command ds a b (good ds refl) is was
+
+pub one_answer : HasOneAnswer
+unfolding IsAnswered
+one_answer command input a b is was = one_checked command (documents_in input) a b (AreDocuments-documents_in input) is was

@@ -1,0 +1,5 @@
+use Rattle.mp_cli.proofs.OneAnswer.{one_answer}
+use Rattle.mp_cli.proofs.laws.one_answer.Goals as goal
+
+pub returns : goal.returns
+returns c = one_answer

@@ -1,0 +1,53 @@
+-- What is read of the input is documents: a map is built name by name.
+use Rattle.std.proofs.Common.{◌≡◌, ℕ, List, Option, None, Some, IfSome, option_map, option_and_then, Ok, refl, subst}
+use Rattle.serde_json.specs.Data as json
+use Rattle.serde_json.specs.Data.{Data}
+use Rattle.mp_tree.specs.Document.{Document, null, flag, whole, string, list, object, Items, item, Members, put, IsDocument, AreDocuments, IsMap}
+use Rattle.mp_tree.specs.Text.{document_from, items_from, members_from, whole_number, reading, elements, documents_in}
+use Rattle.mp_tree.proofs.Maps.{IsMap-put}
+
+-- what holds of a value holds of what it is mapped to
+if_mapped : {X Y : Type 0} (f : X → Y) (P : X → Type 0) (Q : Y → Type 0) (o : Option X) → ((x : X) → P x → Q (f x)) → IfSome o P → IfSome (option_map f o) Q
+if_mapped f P Q None keeps good = tt
+if_mapped f P Q (Some x) keeps good = keeps x good
+
+if_both : {X Y Z : Type 0} (f : X → Y → Z) (P : X → Type 0) (Q : Y → Type 0) (R : Z → Type 0) (o : Option X) (r : Option Y) → ((x : X) (y : Y) → P x → Q y → R (f x y)) → IfSome o P → IfSome r Q
+    → IfSome (option_and_then (λ x. option_map (f x) r) o) R
+if_both f P Q R None r keeps good other = tt
+if_both f P Q R (Some x) r keeps good other = if_mapped (f x) Q R r (λ y fine. keeps x y good fine) other
+
+mutual
+  from_data : (x : Data) → IfSome (document_from x) IsDocument
+  from_data json.null = tt
+  from_data (json.boolean b) = tt
+  from_data (json.number n) = if_mapped whole (λ z. Unit {0}) IsDocument (whole_number n) (λ z is. tt) (elim (whole_number n) as (λ o. IfSome o (λ z. Unit {0})) [ None ↦ tt | Some z ↦ tt ])
+  from_data (json.string s) = tt
+  from_data (json.array ds) = if_mapped list AreDocuments IsDocument (items_from ds) (λ es good. good) (from_items ds)
+  from_data (json.object ms) = if_mapped object IsMap IsDocument (members_from ms) (λ es good. good) (from_members ms)
+
+  from_items : (ds : json.Items) → IfSome (items_from ds) AreDocuments
+  from_items json.no_items = tt
+  from_items (json.item d ds) = if_both item IsDocument AreDocuments AreDocuments (document_from d) (items_from ds) (λ e es good fine. (good, fine)) (from_data d) (from_items ds)
+
+  from_members : (ms : json.Members) → IfSome (members_from ms) IsMap
+  from_members json.no_members = tt
+  from_members (json.member n d ms) = if_both (put n) IsDocument IsMap IsMap (document_from d) (members_from ms) (λ e es good fine. IsMap-put n e es good fine) (from_data d) (from_members ms)
+
+of_elements : (d : Document) (ds : Items) → IsDocument d → elements d ≡ Ok ds → AreDocuments ds
+of_elements (list es) ds good is = let same : es ≡ ds = cc in subst AreDocuments same good
+of_elements null ds good is = absurd (cc)
+of_elements (flag b) ds good is = absurd (cc)
+of_elements (whole z) ds good is = absurd (cc)
+of_elements (string s) ds good is = absurd (cc)
+of_elements (object ms) ds good is = absurd (cc)
+
+pub AreDocuments-documents_in : (input : List ℕ) (ds : Items) → documents_in input ≡ Ok ds → AreDocuments ds
+AreDocuments-documents_in input ds is = by_reading (reading input) refl
+  where
+    by_document : (x : Data) (o : Option Document) → reading input ≡ Some x → document_from x ≡ o → AreDocuments ds
+    by_document x None read none = let fault = rw (read, none) at is in absurd (cc)
+    by_document x (Some d) read whole_ones = of_elements d ds (subst (λ (o : Option Document). IfSome o IsDocument) whole_ones (from_data x)) (rw (read, whole_ones) at is)
+
+    by_reading : (o : Option Data) → reading input ≡ o → AreDocuments ds
+    by_reading None none = let fault = rw none at is in absurd (cc)
+    by_reading (Some x) read = by_document x (document_from x) read refl
