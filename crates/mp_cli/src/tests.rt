@@ -175,6 +175,7 @@ fn expect_pointer(rt: &(impl Abort + AllocGlobal), line: &str, pointer: &str) {
 fn words_ask_for_commands(rt: HostRuntime) -> Result<(), Fail> {
     let alloc = rt.alloc();
     assert!(rt; matches!(asked(alloc, "mergejoin merge")?, Ok(Command::Merge)));
+    assert!(rt; matches!(asked(alloc, "mergejoin join")?, Ok(Command::Join)));
     for (line, pointer) in [
         ("mergejoin get /a", "/a"),
         ("mergejoin get foo~2", "foo~2"),
@@ -228,8 +229,12 @@ fn expect_help(rt: &(impl Abort + AllocGlobal), line: &str, parts: &[&str]) {
 #[test]
 fn help_names_the_subcommands(rt: HostRuntime) {
     let lines = [
-        "get    Print the part of a document that a JSON Pointer names",
-        "merge  Apply merge patches to a document, one after another",
+        "get      Print the part of a document that a JSON Pointer names",
+        "patch    Apply a JSON Patch to a document",
+        "merge    Apply merge patches to a document, one after another",
+        "join     Make one merge patch with the effect of several compatible ones",
+        "replay   Apply compatible merge patches to a document",
+        "rewrite  Make a JSON Patch that does to a document what a merge patch does",
     ];
     for line in ["mergejoin --help", "mergejoin -h"] {
         expect_help(&rt, line, &lines);
