@@ -38,12 +38,12 @@ clash_above p q w here under =
     }
 
 -- one of the two is quiet, or they say the same
-data Agree (one two : Option Look) : Type 0 where
+pub data Agree (one two : Option Look) : Type 0 where
   quiet_first : one ≡ None → Agree one two
   quiet_second : two ≡ None → Agree one two
   same : one ≡ two → Agree one two
 
-says-agree : (p q : Document) → Compatible p q → (w : Path) → Agree (says p w) (says q w)
+pub says-agree : (p q : Document) → Compatible p q → (w : Path) → Agree (says p w) (says q w)
 says-agree p q free w = by (reach p w) (reach q w)
   where
     by : Reach (Some p) w (says p w) → Reach (Some q) w (says q w) → Agree (says p w) (says q w)

@@ -11,6 +11,7 @@ pub mod Elements
 pub mod Exchange
 pub mod Facts
 pub mod Headline
+pub mod InTurn
 pub mod Joins
 pub mod Listings
 pub mod Looks

@@ -1,5 +1,5 @@
 -- Applying a merge patch (RFC 7396 section 2).
-use Rattle.std.specs.Prelude.{◌≡◌, List, ℕ, Option, None, Some}
+use Rattle.std.specs.Prelude.{◌≡◌, List, [], ◌∷◌, ℕ, Option, None, Some}
 use Rattle.mp_tree.specs.Document.{Document, null, flag, whole, string, list, object, Members, no_members, member, find, put, without, IsMap, depth}
 
 -- the members of a target: none where it is absent or no object
@@ -30,6 +30,11 @@ abbrev mutual
   pub mp_members : Members → Members → Members
   mp_members ts no_members = ts
   mp_members ts (member n p ps) = changed n p (mp (find n ts) p) (mp_members ts ps)
+
+-- each patch of the list applied, in turn, to what those before it left
+abbrev pub in_turn : Document → List Document → Document
+in_turn d [] = d
+in_turn d (p ∷ ps) = in_turn (mp (Some d) p) ps
 
 -- an absent target counts as depth 0
 abbrev pub depth_of : Option Document → ℕ

@@ -4,7 +4,7 @@ use Rattle.std.specs.List.{All}
 use Rattle.mp_tree.specs.Document.{Document, IsDocument, depth, depth_limit}
 use Rattle.mp_patch.specs.Operation.{Operation}
 use Rattle.mp_patch.specs.Run.{Runs}
-use Rattle.mp_merge.specs.Application.{mp}
+use Rattle.mp_merge.specs.Application.{mp, in_turn}
 use Rattle.mp_merge.specs.Join.{IsJoin}
 use Rattle.mp_merge.specs.Laws.{HaveSameMembers}
 use Rattle.mp_merge.specs.Lists.{PairwiseCompatible}
@@ -19,8 +19,10 @@ pub record Converge (start : Document) (patches : List Document) : Type 0 where
   pub is_join : IsJoin patches joined
   -- a replica may receive the patches in any order and with any repeats: its outcome is that application
   pub agree : (received : List Document) (e : Document) → HaveSameMembers patches received → IsDocument e → IsOutcome start received e → e ≡ mp (Some start) joined
-  -- and the application is such an outcome
+  -- the application is such an outcome
   pub reached : (received : List Document) → HaveSameMembers patches received → IsOutcome start received (mp (Some start) joined)
+  -- and a replica that applies each patch as it comes ends with it too
+  pub each_in_turn : (received : List Document) → HaveSameMembers patches received → in_turn start received ≡ mp (Some start) joined
   -- the join, rewritten against the start, is a JSON Patch that runs from the start to it
   pub runs : (operations : List Operation) → IsRewriting start joined operations → Runs start operations (mp (Some start) joined)
 

@@ -5,7 +5,7 @@ use Rattle.mp_tree.specs.Document.{Document, IsDocument, depth, depth_limit}
 use Rattle.mp_tree.specs.Look.{Path}
 use Rattle.mp_patch.specs.Operation.{Operation}
 use Rattle.mp_patch.specs.Run.{Runs}
-use Rattle.mp_merge.specs.Application.{mp}
+use Rattle.mp_merge.specs.Application.{mp, in_turn}
 use Rattle.mp_merge.specs.Clash.{Clash, Compatible, IsFirstClash}
 use Rattle.mp_merge.specs.Join.{IsJoin}
 use Rattle.mp_merge.specs.Lists.{PairwiseCompatible}
@@ -21,6 +21,10 @@ ApplicationIsOutcome = (d p : Document) → IsDocument d → IsDocument p → Is
 -- a start and a collection have one outcome
 abbrev pub HasOneOutcome : Type 0
 HasOneOutcome = (d : Document) (patches : List Document) (e f : Document) → IsDocument e → IsDocument f → IsOutcome d patches e → IsOutcome d patches f → e ≡ f
+
+-- pairwise compatible patches that are applied in turn make their outcome of the start
+abbrev pub AppliedInTurn : Type 0
+AppliedInTurn = (d : Document) (patches : List Document) → IsDocument d → All IsDocument patches → PairwiseCompatible patches → IsOutcome d patches (in_turn d patches)
 
 -- the lists have the same members, in any order and with any repeats
 abbrev pub HaveSameMembers : List Document → List Document → Type 0

@@ -1,7 +1,7 @@
 //! Laws over documents and merge patches alone: each function runs nothing, and its contract is the law.
 ghost use Rattle.mp_merge.specs.Application.{AppliesAtEachName};
 ghost use Rattle.mp_merge.specs.Headline.{ReplicasConverge};
-ghost use Rattle.mp_merge.specs.Laws.{ApplicationIsOutcome, HasOneOutcome, ReplicasAgree, Exchange, HasOneFirstClash, ClashWithAJoin, JoinIsIdempotent, JoinIsCommutative, JoinIsAssociative, HasOneJoin, EmptyHasNoJoin, JoinExists, JoinGivesOutcome, HasOneRewriting, EmptyRewriting, EditsInAnyOrder, RewritingRuns};
+ghost use Rattle.mp_merge.specs.Laws.{ApplicationIsOutcome, HasOneOutcome, AppliedInTurn, ReplicasAgree, Exchange, HasOneFirstClash, ClashWithAJoin, JoinIsIdempotent, JoinIsCommutative, JoinIsAssociative, HasOneJoin, EmptyHasNoJoin, JoinExists, JoinGivesOutcome, HasOneRewriting, EmptyRewriting, EditsInAnyOrder, RewritingRuns};
 
 /// Application at each name, in the words of RFC 7396 section 2: a name that the patch does not carry stays as it
 /// was, a null removes it, and any other value is merged with what stood there.
@@ -18,6 +18,12 @@ pub fn application_is_outcome()
 /// A document and a collection of patches have at most one outcome.
 pub fn one_outcome()
     ensures { HasOneOutcome }
+{}
+
+/// Patches, no two of which clash, that are applied one after another make their outcome of the start: so what a
+/// replica has that applies each patch as it comes is what any other has.
+pub fn applied_in_turn()
+    ensures { AppliedInTurn }
 {}
 
 /// Replicas that start from one document and receive the same patches, in any orders and with any repeats, end with
@@ -102,8 +108,9 @@ pub fn rewriting_runs()
 {}
 
 /// Replicas that start from one document and receive the same patches, at least one and no two of which clash, in any
-/// orders and with any repeats, end with the same document: one application of the patches' join to the start. The
-/// join, rewritten against the start, is a JSON Patch that runs from the start to that document.
+/// orders and with any repeats, end with the same document, whether they apply each patch as it comes or all at once:
+/// one application of the patches' join to the start. The join, rewritten against the start, is a JSON Patch that runs
+/// from the start to that document.
 pub fn replicas_converge()
     ensures { ReplicasConverge }
 {}

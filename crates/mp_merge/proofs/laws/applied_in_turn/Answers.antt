@@ -1,0 +1,5 @@
+use Rattle.mp_merge.proofs.InTurn.{applied_in_turn}
+use Rattle.mp_merge.proofs.laws.applied_in_turn.Goals as goal
+
+pub returns : goal.returns
+returns c = applied_in_turn
