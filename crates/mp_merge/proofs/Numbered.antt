@@ -7,14 +7,11 @@ use Rattle.mp_tree.specs.Document.{Document, IsDocument}
 use Rattle.mp_tree.specs.Look.{Path}
 use Rattle.mp_tree.specs.View.{document}
 use Rattle.mp_tree.specs.declared.doc.Doc.{Doc}
-use Rattle.mp_merge.specs.Application.{mp}
 use Rattle.mp_merge.specs.Clash.{Compatible}
 use Rattle.mp_merge.specs.Join.{IsJoin}
 use Rattle.mp_merge.specs.Lists.{CompatibleBelow, IsFreeBelow, IsClashBelow, IsFirstConflict}
-use Rattle.mp_merge.specs.Outcome.{IsOutcome}
 use Rattle.mp_merge.specs.Walks.{union}
 use Rattle.mp_merge.proofs.ClashLemmas.{compatible-sym}
-use Rattle.mp_merge.proofs.InTurn.{one_more}
 use Rattle.mp_merge.proofs.Joins.{compatible_from_join, compatible_with_join}
 use Rattle.mp_merge.proofs.Unions.{union_grows_join}
 
@@ -24,33 +21,22 @@ at_number ds i d below is = slice_get-map document ds i ∙ ap (option_map docum
 pub same_at : (patches : List Document) (k : ℕ) (p q : Document) → slice_get patches k ≡ Some p → slice_get patches k ≡ Some q → p ≡ q
 same_at patches k p q one other = let same = sym one ∙ other in cc
 
-below_or_at : (i k : ℕ) → i < k + 1 → (i < k) ⊎ (i ≡ k)
-below_or_at zero zero less = inr refl
-below_or_at zero (suc k) less = inl (omega arith)
-below_or_at (suc i) zero less = absurd (omega arith)
-below_or_at (suc i) (suc k) less = by (below_or_at i k (omega arith))
-  where
-    by : (i < k) ⊎ (i ≡ k) → (suc i < suc k) ⊎ (suc i ≡ suc k)
-    by (inl below) = inl (omega arith)
-    by (inr same) = inr (ap suc same)
-
 pub below_more : (patches : List Document) (k : ℕ) (p q : Document) → slice_get patches k ≡ Some p → Compatible p q → CompatibleBelow patches k q → CompatibleBelow patches (k + 1) q
-below_more patches k p q at free below i r less at_i = by (below_or_at i k less)
+below_more patches k p q at free below i r less at_i = by (split i k less)
   where
+    split : (i k : ℕ) → i < k + 1 → (i < k) ⊎ (i ≡ k)
+    split zero zero less = inr refl
+    split zero (suc k) less = inl (omega arith)
+    split (suc i) zero less = absurd (omega arith)
+    split (suc i) (suc k) less = by_one (split i k (omega arith))
+      where
+        by_one : (i < k) ⊎ (i ≡ k) → (suc i < suc k) ⊎ (suc i ≡ suc k)
+        by_one (inl below) = inl (omega arith)
+        by_one (inr same) = inr (ap suc same)
+
     by : (i < k) ⊎ (i ≡ k) → Compatible r q
     by (inl early) = below i r early at_i
     by (inr same) = subst (λ d. Compatible d q) (same_at patches k p r at (sym (ap (slice_get patches) same) ∙ at_i)) free
-
--- each patch with a number below k is compatible with those before it
-abbrev pub AreFreeBelow : List Document → ℕ → Type 0
-AreFreeBelow patches k = (i : ℕ) → i < k → IsFreeBelow patches i
-
-pub free_more : (patches : List Document) (k : ℕ) → AreFreeBelow patches k → IsFreeBelow patches k → AreFreeBelow patches (k + 1)
-free_more patches k free here i less = by (below_or_at i k less)
-  where
-    by : (i < k) ⊎ (i ≡ k) → IsFreeBelow patches i
-    by (inl early) = free i early
-    by (inr same) = subst (IsFreeBelow patches) (sym same) here
 
 -- ---- the patches below a number
 
@@ -80,19 +66,7 @@ free_of_join patches k j p within at joined free = compatible_with_join (take k 
     let found = below_contains patches k q (omega arith) there in
     compatible-sym q p (free p at found.0 q found.1 found.2))
 
-take_next : (patches : List Document) (k : ℕ) (p : Document) → k < length patches → slice_get patches k ≡ Some p → take (k + 1) patches ≡ take k patches ++ p ∷ []
-take_next patches k p within at = take_more patches k p within ∙ ap (λ d. take k patches ++ d ∷ []) (get_or_from_slice_get patches k p p at)
-
 pub joined_more : (patches : List Document) (k : ℕ) (p j : Document) → k < length patches → slice_get patches k ≡ Some p → IsDocument p → IsDocument j → IsJoin (take k patches) j → Compatible p j → IsJoin (take (k + 1) patches) (union p j)
 joined_more patches k p j within at good other joined free =
-    subst (λ ps. IsJoin ps (union p j)) (sym (take_next patches k p within at)) (union_grows_join (take k patches) p j good other joined free)
-
--- ---- the outcome of those below a number
-
-pub outcome_more : (d : Document) (patches : List Document) (k : ℕ) (e p : Document) → k < length patches → slice_get patches k ≡ Some p → IsDocument e → IsDocument p → IsFreeBelow patches k
-    → IsOutcome d (take k patches) e → IsOutcome d (take (k + 1) patches) (mp (Some e) p)
-outcome_more d patches k e p within at good patch free outcome =
-    let compatible : (q : Document) → Contains (take k patches) q → Compatible q p = λ q there. (
-    let found = below_contains patches k q (omega arith) there in
-    free p at found.0 q found.1 found.2) in
-    subst (λ ps. IsOutcome d ps (mp (Some e) p)) (sym (take_next patches k p within at)) (one_more d (take k patches) e p good patch compatible outcome)
+    let more : take (k + 1) patches ≡ take k patches ++ p ∷ [] = take_more patches k p within ∙ ap (λ d. take k patches ++ d ∷ []) (get_or_from_slice_get patches k p p at) in
+    subst (λ ps. IsJoin ps (union p j)) (sym more) (union_grows_join (take k patches) p j good other joined free)

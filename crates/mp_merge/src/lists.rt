@@ -1,5 +1,5 @@
 //! Lists of merge patches: their join, and the document that they make of a start.
-ghost use Rattle.std.specs.Prelude.{◌≡◌, ◌<◌, ◌+◌, ℕ, List, [], length, map, take, slice_get, Some, IfOk, MatchOption, MatchResult};
+ghost use Rattle.std.specs.Prelude.{◌≡◌, ◌<◌, ◌+◌, List, [], length, map, take, slice_get, Some, IfOk, MatchOption, MatchResult};
 ghost use Rattle.mp_tree.specs.View.{document};
 ghost use Rattle.mp_merge.specs.Clash.{IsFirstClash};
 ghost use Rattle.mp_merge.specs.Join.{IsJoin};
@@ -77,23 +77,6 @@ fn clash_before(
     Ok(None)
 }
 
-// That each two of the patches are compatible, or the first conflict of the list.
-fn check_pairs(alloc: Global, patches: &[Doc]) -> Result<(), ListFault>
-    ensures { MatchResult result (λ unit. (k : ℕ) → k < length (map document patches.now) → IsFreeBelow (map document patches.now) k)
-        (λ fault. IsReplayFault fault (map document patches.now)) }
-{
-    for second in 0..patches.len() {
-        if let Some((first, place)) = clash_before(alloc, patches, second)? {
-            return Err(ListFault::ConflictOf {
-                first,
-                second,
-                place,
-            });
-        }
-    }
-    Ok(())
-}
-
 /// The document that the patches make of the start, where they are pairwise compatible: each replica that receives
 /// them, in whatever order and with whatever repeats, ends with it. It is one application of their join; of no
 /// patches it is the start.
@@ -108,11 +91,9 @@ pub fn replay(alloc: Global, start: &Doc, patches: &[Doc]) -> Result<Doc, ListFa
         (λ fault. IsReplayFault fault (map document patches.now)) }
     ensures none { patches.now ≡ [] → IfOk result (λ e. document e ≡ document start.now) }
 {
-    check_pairs(alloc, patches)?;
-    let mut document = start.copy(alloc)?;
-    for number in 0..patches.len() {
-        let patch = patches[number].copy(alloc)?;
-        document = merge_owned(alloc, Some(document), patch)?;
+    if patches.is_empty() {
+        return Ok(start.copy(alloc)?);
     }
-    Ok(document)
+    let joined = join_all(alloc, patches)?;
+    Ok(merge_owned(alloc, Some(start.copy(alloc)?), joined)?)
 }
