@@ -1,24 +1,19 @@
 -- Replicas that receive the same compatible patches converge.
-use Rattle.std.proofs.Common.{◌≡◌, List, [], ◌∷◌, Some, refl, arith}
+use Rattle.std.proofs.Common.{◌≡◌, List, [], ◌∷◌, Some, refl}
 use Rattle.std.proofs.lemmas.List.Elements.{All-contains, All-contains_itself, All-weaker}
 use Rattle.std.specs.List.{All, Contains}
-use Rattle.mp_tree.specs.Document.{Document, IsDocument}
+use Rattle.mp_tree.specs.Document.{Document, IsDocument, depth_limit}
 use Rattle.mp_merge.specs.Application.{mp, in_turn}
 use Rattle.mp_merge.specs.Headline.{Converge, IsPatch, ReplicasConverge}
 use Rattle.mp_merge.specs.Join.{IsJoin}
 use Rattle.mp_merge.specs.Laws.{HaveSameMembers}
 use Rattle.mp_merge.specs.Lists.{PairwiseCompatible}
 use Rattle.mp_merge.specs.Outcome.{IsOutcome}
-use Rattle.mp_merge.specs.Walks.{union}
 use Rattle.mp_merge.proofs.AnyOrder.{rewriting_runs}
 use Rattle.mp_merge.proofs.ApplicationLemmas.{IsDocument-mp}
 use Rattle.mp_merge.proofs.InTurn.{IsDocument-in_turn, applied_in_turn}
-use Rattle.mp_merge.proofs.Joins.{join_from_compatible, join_of_same}
+use Rattle.mp_merge.proofs.Joins.{join_from_compatible, join_of_same, union_is_within}
 use Rattle.mp_merge.proofs.Outcomes.{one_outcome, join_gives_outcome}
-use Rattle.mp_merge.proofs.Unions.{IsDocument-union, depth-union}
-
-IsPatch-union : (p j : Document) → IsPatch p → IsPatch j → IsPatch (union p j)
-IsPatch-union p j one two = (IsDocument-union p j one.0 two.0, omega (arith, depth-union p j, one.1, two.1))
 
 module _ (start : Document) (patches : List Document) (good : IsDocument start) (all : All IsPatch patches) (free : PairwiseCompatible patches) where
   -- what a replica received is patches too, and pairwise compatible
@@ -49,4 +44,4 @@ module _ (start : Document) (patches : List Document) (good : IsDocument start) 
 
 pub replicas_converge : ReplicasConverge
 replicas_converge start [] good some patches free = absurd (some refl)
-replicas_converge start (p ∷ patches) good some all free = converge start (p ∷ patches) good all free (join_from_compatible IsPatch IsPatch-union p patches all free)
+replicas_converge start (p ∷ patches) good some all free = converge start (p ∷ patches) good all free (join_from_compatible IsPatch (union_is_within depth_limit) p patches all free)

@@ -1,18 +1,18 @@
 -- The laws of join.
-use Rattle.std.proofs.Common.{◌≡◌, ◌≢◌, ◌⊎◌, inl, inr, ◌↔◌, List, [], ◌∷◌, refl, sym, ap, ◌∙◌}
-use Rattle.std.proofs.lemmas.List.Elements.{All-head, All-tail, Contains-append_cases, Contains-append_left, Contains-append_right}
+use Rattle.std.proofs.Common.{◌≡◌, ◌≢◌, ◌≤◌, ◌⊎◌, inl, inr, ◌↔◌, ℕ, List, [], ◌∷◌, refl, sym, ap, ◌∙◌, subst, arith}
+use Rattle.std.proofs.lemmas.List.Elements.{All-contains, All-contains_itself, All-head, All-tail, All-weaker, Contains-append_cases, Contains-append_left, Contains-append_right}
 use Rattle.std.specs.List.{All, Contains}
-use Rattle.mp_tree.specs.Document.{Document, IsDocument}
+use Rattle.mp_tree.specs.Document.{Document, IsDocument, depth}
 use Rattle.mp_tree.specs.Look.{Path, nothing, look}
 use Rattle.mp_tree.proofs.Facts.{equal_looks, is_here}
 use Rattle.mp_merge.specs.Clash.{Clash, Compatible}
 use Rattle.mp_merge.specs.Join.{IsJoin}
-use Rattle.mp_merge.specs.Laws.{ClashWithAJoin, ClashesWithAMember, JoinIsIdempotent, JoinIsCommutative, IsJoinFromLeft, IsJoinFromRight, JoinIsAssociative, HasOneJoin, EmptyHasNoJoin, JoinExists}
-use Rattle.mp_merge.specs.Lists.{PairwiseCompatible}
+use Rattle.mp_merge.specs.Laws.{ClashWithAJoin, ClashesWithAMember, JoinIsIdempotent, JoinIsCommutative, IsJoinFromLeft, IsJoinFromRight, JoinIsAssociative, HasOneJoin, EmptyHasNoJoin, JoinExists, JoinIsNoDeeper}
+use Rattle.mp_merge.specs.Lists.{PairwiseCompatible, AreWithin}
 use Rattle.mp_merge.specs.Walks.{union}
 use Rattle.mp_merge.proofs.Elements.{Contains-nil, Contains-head, Contains-tail, Contains-cases, Contains-one, some_or_all}
 use Rattle.mp_merge.proofs.Looks.{nothing_or}
-use Rattle.mp_merge.proofs.Unions.{IsDocument-union, join-one, union_is_join, union_joins_first}
+use Rattle.mp_merge.proofs.Unions.{IsDocument-union, depth-union, join-one, union_is_join, union_joins_first}
 
 -- some patch has something at the path, or none has
 abbrev Speaks : List Document → Path → Type 0
@@ -109,6 +109,22 @@ join_from_compatible P keeps p (q ∷ patches) good free =
 pub join_exists : JoinExists
 join_exists [] some good = absurd (some refl)
 join_exists (p ∷ patches) some good = (λ found. compatible_from_join (p ∷ patches) found.0 found.2, join_from_compatible IsDocument IsDocument-union p patches good)
+
+module _ (n : ℕ) where
+  abbrev pub IsWithin : Document → Type 0
+  IsWithin d = IsDocument d × (depth d ≤ n)
+
+  pub union_is_within : (p j : Document) → IsWithin p → IsWithin j → IsWithin (union p j)
+  union_is_within p j one two = (IsDocument-union p j one.0 two.0, omega (arith, depth-union p j, one.1, two.1))
+
+  are_within : (patches : List Document) → All IsDocument patches → AreWithin n patches → All IsWithin patches
+  are_within patches all within = All-weaker (Contains patches) IsWithin (λ p at. (All-contains IsDocument patches p all at, All-contains (λ d. depth d ≤ n) patches p within at)) patches (All-contains_itself patches)
+
+pub join_is_no_deeper : JoinIsNoDeeper
+join_is_no_deeper [] j n good all joined within = absurd (empty_has_no_join j joined)
+join_is_no_deeper (p ∷ patches) j n good all joined within =
+    let made = join_from_compatible (IsWithin n) (union_is_within n) p patches (are_within n (p ∷ patches) all within) (compatible_from_join (p ∷ patches) j joined) in
+    subst (λ d. depth d ≤ n) (one_join (p ∷ patches) made.0 j made.1.0 good made.2 joined) made.1.1
 
 -- ---- a join in place of the patches that were joined
 

@@ -2,11 +2,13 @@
 use Rattle.std.proofs.Common.{◌≡◌, ◌<◌, ◌≤◌, ◌+◌, ◌⊎◌, inl, inr, ℕ, zero, suc, List, [], ◌∷◌, ◌++◌, length, map, take, get_or, Some, option_map, slice_get, refl, sym, ap, ◌∙◌, subst, arith}
 use Rattle.std.proofs.lemmas.List.{take_more, get_or-take, length-take-le}
 use Rattle.std.proofs.lemmas.Option.{slice_get-map, slice_get_read, get_or_from_slice_get}
-use Rattle.std.specs.List.{Contains}
+use Rattle.std.proofs.lemmas.List.Elements.{All-contains_itself, All-map, All-weaker}
+use Rattle.std.specs.List.{All, Contains}
 use Rattle.mp_tree.specs.Document.{Document, IsDocument}
 use Rattle.mp_tree.specs.Look.{Path}
 use Rattle.mp_tree.specs.View.{document}
 use Rattle.mp_tree.specs.declared.doc.Doc.{Doc}
+use Rattle.mp_tree.proofs.Facts.{IsDocument-document}
 use Rattle.mp_merge.specs.Clash.{Compatible}
 use Rattle.mp_merge.specs.Join.{IsJoin}
 use Rattle.mp_merge.specs.Lists.{CompatibleBelow, IsFreeBelow, IsClashBelow, IsFirstConflict}
@@ -17,6 +19,9 @@ use Rattle.mp_merge.proofs.Unions.{union_grows_join}
 
 pub at_number : (ds : List Doc) (i : ℕ) (d : Doc) → i < length ds → d ≡ get_or ds i d → slice_get (map document ds) i ≡ Some (document d)
 at_number ds i d below is = slice_get-map document ds i ∙ ap (option_map document) (slice_get_read ds (length ds) i d refl below is)
+
+pub are_documents : (ds : List Doc) → All IsDocument (map document ds)
+are_documents ds = All-map IsDocument document ds (All-weaker (Contains ds) (λ d. IsDocument (document d)) (λ d at. IsDocument-document d) ds (All-contains_itself ds))
 
 pub same_at : (patches : List Document) (k : ℕ) (p q : Document) → slice_get patches k ≡ Some p → slice_get patches k ≡ Some q → p ≡ q
 same_at patches k p q one other = let same = sym one ∙ other in cc

@@ -1,5 +1,5 @@
 -- Laws of merge patches alone. Each is the contract of a function of the module `laws` that runs nothing.
-use Rattle.std.specs.Prelude.{◌≡◌, ◌≢◌, ◌≤◌, ◌↔◌, List, [], ◌∷◌, Some}
+use Rattle.std.specs.Prelude.{◌≡◌, ◌≢◌, ◌≤◌, ◌↔◌, ℕ, List, [], ◌∷◌, Some}
 use Rattle.std.specs.List.{All, Contains}
 use Rattle.mp_tree.specs.Document.{Document, IsDocument, depth, depth_limit}
 use Rattle.mp_tree.specs.Look.{Path}
@@ -8,7 +8,7 @@ use Rattle.mp_patch.specs.Run.{Runs}
 use Rattle.mp_merge.specs.Application.{mp, in_turn}
 use Rattle.mp_merge.specs.Clash.{Clash, Compatible, IsFirstClash}
 use Rattle.mp_merge.specs.Join.{IsJoin}
-use Rattle.mp_merge.specs.Lists.{PairwiseCompatible}
+use Rattle.mp_merge.specs.Lists.{PairwiseCompatible, AreWithin}
 use Rattle.mp_merge.specs.Outcome.{IsOutcome}
 use Rattle.mp_merge.specs.Rewriting.{IsRewriting, ListsEdits}
 
@@ -97,6 +97,10 @@ HasJoin patches = (j : Document) × IsDocument j × IsJoin patches j
 -- a collection that is not empty has a join exactly if its members are pairwise compatible
 abbrev pub JoinExists : Type 0
 JoinExists = (patches : List Document) → patches ≢ [] → All IsDocument patches → HasJoin patches ↔ PairwiseCompatible patches
+
+-- a join is no deeper than its deepest patch
+abbrev pub JoinIsNoDeeper : Type 0
+JoinIsNoDeeper = (patches : List Document) (j : Document) (n : ℕ) → IsDocument j → All IsDocument patches → IsJoin patches j → AreWithin n patches → depth j ≤ n
 
 -- one application of the join is the outcome of the patches
 abbrev pub JoinGivesOutcome : Type 0

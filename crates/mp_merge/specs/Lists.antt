@@ -1,11 +1,15 @@
--- Conflicts in a list of merge patches, numbered from 0.
-use Rattle.std.specs.Prelude.{◌≡◌, ◌<◌, ℕ, List, [], Some, slice_get, ⊤}
-use Rattle.std.specs.List.{Contains}
-use Rattle.mp_tree.specs.Document.{Document}
+-- Lists of merge patches, numbered from 0: how deep they are, and their conflicts.
+use Rattle.std.specs.Prelude.{◌≡◌, ◌<◌, ◌≤◌, ℕ, List, [], Some, slice_get, ⊤}
+use Rattle.std.specs.List.{All, Contains}
+use Rattle.mp_tree.specs.Document.{Document, depth}
 use Rattle.mp_tree.specs.Look.{Path}
 use Rattle.mp_merge.specs.Clash.{Compatible, IsFirstClash}
 use Rattle.mp_merge.specs.declared.fault.ListFault.{ListFault}
 use Rattle.mp_merge.specs.declared.fault.ListFault.TheVariants.{NoPatches, ConflictOf, OutOfMemory}
+
+-- no patch of the list is deeper than n
+abbrev pub AreWithin : ℕ → List Document → Type 0
+AreWithin n patches = All (λ p. depth p ≤ n) patches
 
 -- each two patches of the list are compatible
 abbrev pub PairwiseCompatible : List Document → Type 0

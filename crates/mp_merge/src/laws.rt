@@ -1,7 +1,7 @@
 //! Laws over documents and merge patches alone: each function runs nothing, and its contract is the law.
 ghost use Rattle.mp_merge.specs.Application.{AppliesAtEachName};
 ghost use Rattle.mp_merge.specs.Headline.{ReplicasConverge};
-ghost use Rattle.mp_merge.specs.Laws.{ApplicationIsOutcome, HasOneOutcome, AppliedInTurn, ReplicasAgree, Exchange, HasOneFirstClash, ClashWithAJoin, JoinIsIdempotent, JoinIsCommutative, JoinIsAssociative, HasOneJoin, EmptyHasNoJoin, JoinExists, JoinGivesOutcome, HasOneRewriting, EmptyRewriting, EditsInAnyOrder, RewritingRuns};
+ghost use Rattle.mp_merge.specs.Laws.{ApplicationIsOutcome, HasOneOutcome, AppliedInTurn, ReplicasAgree, Exchange, HasOneFirstClash, ClashWithAJoin, JoinIsIdempotent, JoinIsCommutative, JoinIsAssociative, HasOneJoin, EmptyHasNoJoin, JoinExists, JoinIsNoDeeper, JoinGivesOutcome, HasOneRewriting, EmptyRewriting, EditsInAnyOrder, RewritingRuns};
 
 /// Application at each name, in the words of RFC 7396 section 2: a name that the patch does not carry stays as it
 /// was, a null removes it, and any other value is merged with what stood there.
@@ -78,6 +78,11 @@ pub fn empty_has_no_join()
 /// Patches, at least one, have a join exactly if no two of them clash: so compatible patches can always be kept as one.
 pub fn join_exists()
     ensures { JoinExists }
+{}
+
+/// A join is no deeper than the deepest patch that was joined, so it can be written and read wherever they can.
+pub fn join_is_no_deeper()
+    ensures { JoinIsNoDeeper }
 {}
 
 /// One application of the join gives the outcome of all the patches that were joined: a replica may keep the join and

@@ -1,9 +1,10 @@
 //! Lists of merge patches: their join, and the document that they make of a start.
-ghost use Rattle.std.specs.Prelude.{◌≡◌, ◌<◌, ◌+◌, List, [], length, map, take, slice_get, Some, IfOk, MatchOption, MatchResult};
+ghost use Rattle.std.specs.Prelude.{◌≡◌, ◌<◌, ◌≤◌, ◌+◌, ℕ, List, [], length, map, take, slice_get, Some, IfOk, MatchOption, MatchResult};
+ghost use Rattle.mp_tree.specs.Document.{depth};
 ghost use Rattle.mp_tree.specs.View.{document};
 ghost use Rattle.mp_merge.specs.Clash.{IsFirstClash};
 ghost use Rattle.mp_merge.specs.Join.{IsJoin};
-ghost use Rattle.mp_merge.specs.Lists.{IsListFault, IsReplayFault, IsFreeBelow, IsClashBelow};
+ghost use Rattle.mp_merge.specs.Lists.{AreWithin, IsListFault, IsReplayFault, IsFreeBelow, IsClashBelow};
 ghost use Rattle.mp_merge.specs.Outcome.{IsOutcome};
 
 use crate::comparing::{compatible, conflict};
@@ -27,6 +28,7 @@ use std::alloc::{AllocError, Global};
 pub fn join_all(alloc: Global, patches: &[Doc]) -> Result<Doc, ListFault>
     ensures joined { MatchResult result (λ j. IsJoin (map document patches.now) (document j))
         (λ fault. IsListFault fault (map document patches.now)) }
+    ensures depth { IfOk result (λ j. (n : ℕ) → AreWithin n (map document patches.now) → depth (document j) ≤ n) }
 {
     let Some(first) = patches.first() else {
         return Err(ListFault::NoPatches);
@@ -89,6 +91,8 @@ fn clash_before(
 pub fn replay(alloc: Global, start: &Doc, patches: &[Doc]) -> Result<Doc, ListFault>
     ensures outcome { MatchResult result (λ e. IsOutcome (document start.now) (map document patches.now) (document e))
         (λ fault. IsReplayFault fault (map document patches.now)) }
+    ensures depth { IfOk result (λ e. (n : ℕ) → depth (document start.now) ≤ n → AreWithin n (map document patches.now)
+        → depth (document e) ≤ n) }
     ensures none { patches.now ≡ [] → IfOk result (λ e. document e ≡ document start.now) }
 {
     if patches.is_empty() {

@@ -1,4 +1,5 @@
-use Rattle.std.proofs.Common.{map, Some, sym, ap, ◌∙◌, subst}
+use Rattle.std.proofs.Common.{map, Some, sym, ap, ◌∙◌, subst, arith}
+use Rattle.mp_tree.specs.Document.{depth}
 use Rattle.mp_tree.specs.View.{document}
 use Rattle.mp_tree.proofs.Facts.{IsDocument-document}
 use Rattle.mp_merge.specs.Application.{mp}
@@ -13,3 +14,7 @@ returns-clause-outcome c =
     let j = document c.in_ok-joined.joined in
     let is = c.in_ok-merge_owned.ensures.merged ∙ ap (λ t. mp (Some t) j) c.in_ok-copy-2.ensures.equal in
     subst (λ e. IsOutcome d patches e) (sym is) (join_gives_outcome d patches j (IsDocument-document c.args.start.now) (IsDocument-document c.in_ok-joined.joined) c.in_ok-joined.ensures.joined)
+
+pub returns-clause-depth : goal.returns-clause-depth
+returns-clause-depth c n short within =
+    omega (arith, c.in_ok-merge_owned.ensures.depth, ap depth c.in_ok-copy-2.ensures.equal, short, c.in_ok-joined.ensures.depth n within)
