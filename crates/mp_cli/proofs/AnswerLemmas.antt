@@ -1,5 +1,5 @@
 -- What the commands over lists of patches answer.
-use Rattle.std.proofs.Common.{◌≡◌, List, [], ◌∷◌, length, map, Result, Ok, Err, IfOk, refl, sym, ap, subst}
+use Rattle.std.proofs.Common.{◌≡◌, ◌==◌, false, List, [], ◌∷◌, length, map, drop, get_or, Result, Ok, Err, IfOk, refl, sym, ap, ap₂, subst}
 use Rattle.mp_tree.specs.Document.{Document}
 use Rattle.mp_tree.specs.View.{document, items}
 use Rattle.mp_tree.specs.declared.doc.Doc.{Doc}
@@ -26,6 +26,11 @@ no_replay OutOfMemory start patches a memory none is = absurd (memory refl)
 pub if_both : {X Y : Type 0} (r : Result X Y) (P Q R : X → Type 0) → IfOk r P → IfOk r Q → ((x : X) → P x → Q x → R x) → IfOk r R
 if_both (Ok x) P Q R one other both = both x one other
 if_both (Err e) P Q R one other both = tt
+
+-- a list that is not empty is its first element and the rest
+pub first_and_rest : (docs ps : List Doc) (d : Doc) → false ≡ (length docs == 0) → d ≡ get_or docs 0 d → ps ≡ drop 1 docs → docs ≡ d ∷ ps
+first_and_rest [] ps d some first rest = absurd (let differ = some in cc)
+first_and_rest (e ∷ docs) ps d some first rest = ap₂ (λ x xs. x ∷ xs) (sym first) (sym rest)
 
 -- the input of `replay` is its start and the patches
 pub replay_answer : (docs ps : List Doc) (d : Doc) (a : Answered) → docs ≡ d ∷ ps → IsReplayAnswer (document d) (map document ps) a → IsReplayAnswerTo (items docs) a

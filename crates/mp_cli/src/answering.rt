@@ -7,8 +7,8 @@ ghost use Rattle.mp_cli.specs.Answered.{Gives, IsAnswered, IsJoinAnswer, IsPatch
 
 use crate::answers::Answer;
 use crate::command::Command;
-use mp_merge::{ListFault, join_all, merge_owned, replay as replayed, rewrite as rewriting};
-use mp_patch::{ApplyFault, Cause, FormCause, FormFault, JsonPatch, apply};
+use mp_merge::{ListFault, join_all, merge_owned, replay_owned, rewrite as rewriting};
+use mp_patch::{ApplyFault, Cause, FormCause, FormFault, JsonPatch, apply_owned};
 use mp_pointer::{Pointer, PointerFault, get as part_at};
 use mp_tree::{Doc, DocsFault, read_docs, write_doc, write_owned, write_text};
 use std::alloc::{AllocError, Global};
@@ -40,10 +40,10 @@ pub fn answer(alloc: Global, command: &Command, input: &[u8]) -> Result<Answer, 
     match read_docs(alloc, input) {
         Ok(docs) => match command {
             Command::Get(pointer) => get(alloc, pointer.as_str(), docs.as_slice()),
-            Command::Patch => patch(alloc, docs.as_slice()),
+            Command::Patch => patch(alloc, docs),
             Command::Merge => merge(alloc, docs),
             Command::Join => join(alloc, docs.as_slice()),
-            Command::Replay => replay(alloc, docs.as_slice()),
+            Command::Replay => replay(alloc, docs),
             Command::Rewrite => rewrite(alloc, docs.as_slice()),
         },
         Err(fault) => fault_answer(alloc, fault),
@@ -119,17 +119,19 @@ fn part(alloc: Global, found: Option<&Doc>) -> Result<Answer, AllocError>
     }
 }
 
-fn patch(alloc: Global, docs: &[Doc]) -> Result<Answer, AllocError>
-    ensures { IfOk result (λ a. IsPatchAnswerTo (items docs.now) (answered_by a)) }
+fn patch(alloc: Global, mut docs: Vec<Doc>) -> Result<Answer, AllocError>
+    ensures { IfOk result (λ a. IsPatchAnswerTo (items docs.items) (answered_by a)) }
 {
     if docs.len() != 2 {
         return wrong_shape(alloc);
     }
-    patched(alloc, &docs[0], &docs[1])
+    let patch = docs.remove(1);
+    let doc = docs.remove(0);
+    patched(alloc, doc, &patch)
 }
 
-fn patched(alloc: Global, doc: &Doc, patch: &Doc) -> Result<Answer, AllocError>
-    ensures { IfOk result (λ a. IsPatchAnswer (document doc.now) (document patch.now) (answered_by a)) }
+fn patched(alloc: Global, doc: Doc, patch: &Doc) -> Result<Answer, AllocError>
+    ensures { IfOk result (λ a. IsPatchAnswer (document doc) (document patch.now) (answered_by a)) }
 {
     match JsonPatch::from_doc(alloc, patch) {
         Ok(patch) => applied(alloc, doc, &patch),
@@ -137,10 +139,10 @@ fn patched(alloc: Global, doc: &Doc, patch: &Doc) -> Result<Answer, AllocError>
     }
 }
 
-fn applied(alloc: Global, doc: &Doc, patch: &JsonPatch) -> Result<Answer, AllocError>
-    ensures { IfOk result (λ a. IsRunAnswer (document doc.now) (operations_of patch.now) (answered_by a)) }
+fn applied(alloc: Global, doc: Doc, patch: &JsonPatch) -> Result<Answer, AllocError>
+    ensures { IfOk result (λ a. IsRunAnswer (document doc) (operations_of patch.now) (answered_by a)) }
 {
-    match apply(alloc, doc, patch) {
+    match apply_owned(alloc, doc, patch) {
         Ok(result) => printed(write_owned(alloc, result)?),
         Err(fault) => fault_in_run(alloc, fault),
     }
@@ -225,13 +227,14 @@ fn join(alloc: Global, patches: &[Doc]) -> Result<Answer, AllocError>
     }
 }
 
-fn replay(alloc: Global, docs: &[Doc]) -> Result<Answer, AllocError>
-    ensures { IfOk result (λ a. IsReplayAnswerTo (items docs.now) (answered_by a)) }
+fn replay(alloc: Global, mut docs: Vec<Doc>) -> Result<Answer, AllocError>
+    ensures { IfOk result (λ a. IsReplayAnswerTo (items docs.items) (answered_by a)) }
 {
-    let Some((start, patches)) = docs.split_first() else {
+    if docs.is_empty() {
         return wrong_shape(alloc);
-    };
-    match replayed(alloc, start, patches) {
+    }
+    let start = docs.remove(0);
+    match replay_owned(alloc, start, docs.as_slice()) {
         Ok(doc) => printed(write_owned(alloc, doc)?),
         Err(fault) => fault_in_list(alloc, fault),
     }

@@ -12,7 +12,7 @@ pub mod rewriting;
 pub use comparing::{compatible, conflict};
 pub use fault::{JoinFault, ListFault};
 pub use joining::join;
-pub use lists::{join_all, replay};
+pub use lists::{join_all, replay, replay_owned};
 pub use merging::{merge, merge_owned};
 pub use rewriting::rewrite;
 

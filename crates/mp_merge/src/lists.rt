@@ -95,9 +95,20 @@ pub fn replay(alloc: Global, start: &Doc, patches: &[Doc]) -> Result<Doc, ListFa
         → depth (document e) ≤ n) }
     ensures none { patches.now ≡ [] → IfOk result (λ e. document e ≡ document start.now) }
 {
+    replay_owned(alloc, start.copy(alloc)?, patches)
+}
+
+/// As `replay`, of a start that is owned: its parts are moved and not copied.
+pub fn replay_owned(alloc: Global, start: Doc, patches: &[Doc]) -> Result<Doc, ListFault>
+    ensures outcome { MatchResult result (λ e. IsOutcome (document start) (map document patches.now) (document e))
+        (λ fault. IsReplayFault fault (map document patches.now)) }
+    ensures depth { IfOk result (λ e. (n : ℕ) → depth (document start) ≤ n → AreWithin n (map document patches.now)
+        → depth (document e) ≤ n) }
+    ensures none { patches.now ≡ [] → IfOk result (λ e. document e ≡ document start) }
+{
     if patches.is_empty() {
-        return Ok(start.copy(alloc)?);
+        return Ok(start);
     }
     let joined = join_all(alloc, patches)?;
-    Ok(merge_owned(alloc, Some(start.copy(alloc)?), joined)?)
+    Ok(merge_owned(alloc, Some(start), joined)?)
 }

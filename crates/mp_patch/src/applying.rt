@@ -27,7 +27,18 @@ pub fn apply(alloc: Global, doc: &Doc, patch: &JsonPatch) -> Result<Doc, ApplyFa
     ensures depth { IfOk result (λ e. depth (document doc.now) ≤ depth_limit
         → depth (document e) ≤ depth_limit) }
 {
-    let mut result = doc.copy(alloc)?;
+    apply_owned(alloc, doc.copy(alloc)?, patch)
+}
+
+/// As `apply`, of a document that is owned: it is changed in place, and is dropped where an operation is refused.
+pub fn apply_owned(alloc: Global, doc: Doc, patch: &JsonPatch) -> Result<Doc, ApplyFault>
+    ensures runs { MatchResult result
+        (λ e. Runs (document doc) (operations_of patch.now) (document e))
+        (λ fault. IsFaultOf fault (document doc) (operations_of patch.now)) }
+    ensures depth { IfOk result (λ e. depth (document doc) ≤ depth_limit
+        → depth (document e) ≤ depth_limit) }
+{
+    let mut result = doc;
     for (number, op) in patch.ops().iter().enumerate() {
         if let Err(fault) = step(op, &mut result, alloc) {
             return Err(fault.at(number));

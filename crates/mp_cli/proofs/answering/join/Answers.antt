@@ -1,4 +1,4 @@
-use Rattle.std.proofs.Common.{◌≡◌, ◌∙◌, map, refl, ap}
+use Rattle.std.proofs.Common.{◌∙◌, map, ap}
 use Rattle.std.proofs.lemmas.Result.{IfOk-weaker}
 use Rattle.mp_tree.specs.View.{document}
 use Rattle.mp_tree.proofs.Facts.{IsDocument-document}

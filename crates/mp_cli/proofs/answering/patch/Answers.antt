@@ -3,5 +3,5 @@ use Rattle.std.proofs.lemmas.Result.{IfOk-weaker}
 use Rattle.mp_cli.proofs.AnswerLemmas.{not_two}
 use Rattle.mp_cli.proofs.answering.patch.Goals as goal
 
-pub returns-then-docs-ne2 : goal.returns-then-docs-ne2
-returns-then-docs-ne2 c = IfOk-weaker c.wrong_shape.result _ _ (λ a is. (not_two c.args.docs.now _ (λ two. omega (arith, c.if-docs-ne2.true)) is).0) c.wrong_shape.ensures
+pub returns-then-len-ne2 : goal.returns-then-len-ne2
+returns-then-len-ne2 c = IfOk-weaker c.wrong_shape.result _ _ (λ a is. (not_two c.args.docs.items _ (λ two. omega (arith, c.if-len-ne2.true)) is).0) c.wrong_shape.ensures

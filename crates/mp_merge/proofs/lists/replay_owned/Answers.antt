@@ -5,16 +5,15 @@ use Rattle.mp_tree.proofs.Facts.{IsDocument-document}
 use Rattle.mp_merge.specs.Application.{mp}
 use Rattle.mp_merge.specs.Outcome.{IsOutcome}
 use Rattle.mp_merge.proofs.Outcomes.{join_gives_outcome}
-use Rattle.mp_merge.proofs.lists.replay.Goals as goal
+use Rattle.mp_merge.proofs.lists.replay_owned.Goals as goal
 
 pub returns-clause-outcome : goal.returns-clause-outcome
 returns-clause-outcome c =
-    let d = document c.args.start.now in
+    let d = document c.args.start in
     let patches = map document c.args.patches.now in
     let j = document c.in_ok-joined.joined in
-    let is = c.in_ok-merge_owned.ensures.merged ∙ ap (λ t. mp (Some t) j) c.in_ok-copy-2.ensures.equal in
-    subst (λ e. IsOutcome d patches e) (sym is) (join_gives_outcome d patches j (IsDocument-document c.args.start.now) (IsDocument-document c.in_ok-joined.joined) c.in_ok-joined.ensures.joined)
+    subst (λ e. IsOutcome d patches e) (sym c.in_ok-merge_owned.ensures.merged) (join_gives_outcome d patches j (IsDocument-document c.args.start) (IsDocument-document c.in_ok-joined.joined) c.in_ok-joined.ensures.joined)
 
 pub returns-clause-depth : goal.returns-clause-depth
 returns-clause-depth c n short within =
-    omega (arith, c.in_ok-merge_owned.ensures.depth, ap depth c.in_ok-copy-2.ensures.equal, short, c.in_ok-joined.ensures.depth n within)
+    omega (arith, c.in_ok-merge_owned.ensures.depth, short, c.in_ok-joined.ensures.depth n within)

@@ -3,7 +3,7 @@ use Rattle.mp_tree.specs.Document.{depth, depth_limit}
 use Rattle.mp_tree.specs.View.{document}
 use Rattle.mp_patch.specs.Run.{Runs}
 use Rattle.mp_patch.specs.View.{operations_of}
-use Rattle.mp_patch.proofs.applying.apply.Given as goal
+use Rattle.mp_patch.proofs.applying.apply_owned.Given as goal
 
 -- the operations so far lead to the document as it is
 abbrev pub invariant-loop-number : goal.invariant-loop-number
