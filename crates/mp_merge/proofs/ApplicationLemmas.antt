@@ -1,22 +1,14 @@
 -- Application at each name, and one name after another.
-use Rattle.std.proofs.Common.{◌≡◌, ℕ, List, Bool, true, false, cond, Option, Some, None, IfSome, refl, sym, ap, ◌∙◌}
+use Rattle.std.proofs.Common.{◌≡◌, ℕ, List, cond, Option, Some, None, IfSome, refl, sym, ap, ◌∙◌}
 use Rattle.mp_tree.specs.Document.{Document, null, flag, whole, string, list, object, Members, no_members, member, is_name, find, put, IsDocument, IsMap}
 use Rattle.mp_merge.specs.Application.{target_members, changed, mp, mp_members, unless_null, after_patch, AppliesAtEachName}
-use Rattle.mp_tree.proofs.Facts.{find-put, find-without, find-below, IsMap-put, IsMap-without, members_same}
+use Rattle.mp_tree.proofs.Facts.{IsDocument-find, find-put, find-without, find-below, IsMap-put, IsMap-without, members_same}
 use Rattle.mp_tree.proofs.Facts.{cases_same, is_name-self}
 
 -- ---- the result is a document
 
 abbrev IsTarget : Option Document → Type 0
 IsTarget t = IfSome t IsDocument
-
-find_good : (n : List ℕ) (ms : Members) → IsMap ms → IsTarget (find n ms)
-find_good n no_members map = tt
-find_good n (member m d ms) map = picked (is_name n m) (find_good n ms map.2)
-  where
-    picked : (b : Bool) → IsTarget (find n ms) → IsTarget (cond b (Some d) (find n ms))
-    picked true later = map.0
-    picked false later = later
 
 pub IsMap-target_members : (t : Option Document) → IsTarget t → IsMap (target_members t)
 IsMap-target_members None good = tt
@@ -47,7 +39,7 @@ mutual
   pub IsMap-mp_members : (ts ps : Members) → IsMap ts → IsMap ps → IsMap (mp_members ts ps)
   IsMap-mp_members ts no_members targets good = targets
   IsMap-mp_members ts (member n p ps) targets good =
-      IsMap-changed n p (mp (find n ts) p) (mp_members ts ps) (IsDocument-mp (find n ts) p (find_good n ts targets) good.0) (IsMap-mp_members ts ps targets good.2)
+      IsMap-changed n p (mp (find n ts) p) (mp_members ts ps) (IsDocument-mp (find n ts) p (IsDocument-find n ts targets) good.0) (IsMap-mp_members ts ps targets good.2)
 
 -- ---- at each name
 
@@ -72,7 +64,7 @@ pub mp_members-step : (ts : Members) (n : List ℕ) (p : Document) (ps : Members
 mp_members-step ts n p ps targets good =
     let d = mp (find n ts) p in
     let now = changed n p d ts in
-    let now_map : IsMap now = IsMap-changed n p d ts (IsDocument-mp (find n ts) p (find_good n ts targets) good.0) targets in
+    let now_map : IsMap now = IsMap-changed n p d ts (IsDocument-mp (find n ts) p (IsDocument-find n ts targets) good.0) targets in
     let same : (q : List ℕ) → find q (mp_members ts (member n p ps)) ≡ find q (mp_members now ps) = λ q.
     find-mp_members ts (member n p ps) targets good q
     ∙ cases_same q n

@@ -7,17 +7,12 @@ use Rattle.mp_merge.specs.Application.{mp}
 use Rattle.mp_merge.specs.Clash.{Clash, Compatible}
 use Rattle.mp_merge.specs.Laws.{Exchange, mp_both}
 use Rattle.mp_merge.proofs.ApplicationLemmas.{IsDocument-mp}
+use Rattle.mp_merge.proofs.ClashesByName.{clash-sym}
 use Rattle.mp_merge.proofs.Outcomes.{says-below_plain}
 use Rattle.mp_merge.proofs.Says.{says, or_else, left_of, look-mp, says-has, IsBelowPlain, Reach, has, below, alone, reach}
 use Rattle.mp_merge.proofs.Unions.{same_where_both}
 
 -- ---- compatible patches do not disagree
-
-clash_back : (p q : Document) (w : Path) → Clash p q w → Clash q p w
-clash_back p q w clash = record { first = clash.second; second = clash.first; differ = λ alike. clash.differ (sym alike) }
-
-pub compatible_back : (p q : Document) → Compatible p q → Compatible q p
-compatible_back p q free w clash = free w (clash_back q p w clash)
 
 -- above something stands a map
 pub object_above : (u : Path) (n : List ℕ) (rest : Path) (p : Option Document) → look_of p (u ++ n ∷ rest) ≢ nothing → look_of p u ≡ an_object
@@ -52,7 +47,7 @@ says-agree p q free w = by (reach p w) (reach q w)
     by (below under) (alone quiet) = quiet_second quiet
     by (has here) (has there) = same (says-has p w here ∙ ap (λ l. Some (left_of l w)) (same_where_both p q free w here there) ∙ sym (says-has q w there))
     by (has here) (below under) = absurd (free under.above (clash_above p q w here under))
-    by (below under) (has there) = absurd (free under.above (clash_back q p under.above (clash_above q p w there under)))
+    by (below under) (has there) = absurd (free under.above (clash-sym q p under.above (clash_above q p w there under)))
     by (below under) (below over) = same (says-below_plain p w under ∙ sym (says-below_plain q w over))
 
 swap : (one two : Option Look) (l : Look) → Agree one two → or_else two (or_else one l) ≡ or_else one (or_else two l)

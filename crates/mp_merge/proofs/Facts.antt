@@ -1,5 +1,5 @@
 -- What the proofs of the crates above may cite: membership in a list of patches, and what a list has only one of.
-pub use Rattle.mp_merge.proofs.Clashes.{one_first_clash}
+pub use Rattle.mp_merge.proofs.OneFirstClash.{one_first_clash}
 pub use Rattle.mp_merge.proofs.Elements.{Contains-head, Contains-tail}
 pub use Rattle.mp_merge.proofs.Joins.{compatible_from_join, empty_has_no_join, one_join}
 pub use Rattle.mp_merge.proofs.Outcomes.{one_outcome}

@@ -1,5 +1,5 @@
 -- Compatible patches, applied one after another.
-use Rattle.std.proofs.Common.{◌≡◌, inl, inr, List, [], ◌∷◌, ◌++◌, Option, Some, None, refl, sym, ap, ◌∙◌, subst, append-nil, append_assoc}
+use Rattle.std.proofs.Common.{◌≡◌, inl, inr, List, [], ◌∷◌, ◌++◌, Some, refl, sym, ap, ◌∙◌, subst, append-nil, append_assoc}
 use Rattle.std.proofs.lemmas.List.Elements.{All-head, All-tail, Contains-append_cases, Contains-append_left, Contains-append_right}
 use Rattle.std.specs.List.{All, Contains}
 use Rattle.mp_tree.specs.Document.{Document, IsDocument}
@@ -12,7 +12,7 @@ use Rattle.mp_merge.specs.Outcome.{IsOutcome}
 use Rattle.mp_merge.proofs.ApplicationLemmas.{IsDocument-mp}
 use Rattle.mp_merge.proofs.Elements.{Contains-nil, Contains-head, Contains-one}
 use Rattle.mp_merge.proofs.Exchange.{Agree, quiet_first, quiet_second, same, says-agree}
-use Rattle.mp_merge.proofs.Outcomes.{Follows, follows_from_outcome, outcome_from_follows}
+use Rattle.mp_merge.proofs.Outcomes.{follows_from_outcome, outcome_from_follows}
 use Rattle.mp_merge.proofs.Says.{says, or_else, look-mp}
 
 -- what a patch told before stays where a compatible one comes after it

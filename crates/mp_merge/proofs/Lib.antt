@@ -1,7 +1,6 @@
 pub mod AnyOrder
 pub mod ApplicationLemmas
-pub mod ClashLemmas
-pub mod Clashes
+pub mod ClashesByName
 pub mod DepthLemmas
 pub mod EditPlaces
 pub mod EditSteps
@@ -16,6 +15,7 @@ pub mod Joins
 pub mod Listings
 pub mod Looks
 pub mod Numbered
+pub mod OneFirstClash
 pub mod Outcomes
 pub mod Places
 pub mod Rewritings

@@ -13,7 +13,7 @@ use Rattle.mp_patch.specs.Operation.{Operation}
 use Rattle.mp_merge.specs.Clash.{path_cmp}
 use Rattle.mp_merge.specs.EditWalk.{IsOneEdit, NotBothMaps, AreEdits, AreMemberEdits}
 use Rattle.mp_merge.specs.Rewriting.{part_left, leaving, edit, IsRewriting}
-use Rattle.mp_merge.proofs.ClashLemmas.{same_plain}
+use Rattle.mp_merge.proofs.ClashesByName.{same_plain}
 use Rattle.mp_merge.proofs.EditPlaces.{differs_at_edit, edit_where_differs, left_by-no_map}
 use Rattle.mp_merge.proofs.Elements.{Contains-nil, Contains-head, Contains-tail, Contains-cases, Contains-one}
 use Rattle.mp_merge.proofs.Places.{MapsAbove, at_path, part-at_path}

@@ -13,7 +13,7 @@ use Rattle.mp_merge.specs.Clash.{Compatible}
 use Rattle.mp_merge.specs.Join.{IsJoin}
 use Rattle.mp_merge.specs.Lists.{CompatibleBelow, IsFreeBelow, IsClashBelow, IsFirstConflict}
 use Rattle.mp_merge.specs.Walks.{union}
-use Rattle.mp_merge.proofs.ClashLemmas.{compatible-sym}
+use Rattle.mp_merge.proofs.ClashesByName.{compatible-sym}
 use Rattle.mp_merge.proofs.Joins.{compatible_from_join, compatible_with_join}
 use Rattle.mp_merge.proofs.Unions.{union_grows_join}
 

@@ -7,7 +7,7 @@ use Rattle.mp_tree.specs.Document.{Members, member, name_cmp, find, IsMap}
 use Rattle.mp_tree.specs.View.{document, members}
 use Rattle.mp_tree.specs.declared.doc.Doc.{Doc}
 use Rattle.mp_tree.proofs.Facts.{find-members, IsMap-members, members-cons}
-use Rattle.mp_merge.proofs.ClashLemmas.{SameClashes, NoClashUnder, pass_first}
+use Rattle.mp_merge.proofs.ClashesByName.{SameClashes, NoClashUnder, pass_first}
 
 -- the entry that comes next is the first member
 pub next_member : (es left : List (String Global × Doc)) (e : String Global × Doc) → es ≡ e ∷ left → IsStrictlySortedBy string_cmp (keys_of es) → members es ≡ member (string_bytes e.0) (document e.1) (members left)

@@ -5,7 +5,7 @@ use Rattle.mp_tree.specs.View.{document, members}
 use Rattle.mp_tree.specs.declared.doc.Doc.{Doc}
 use Rattle.mp_tree.proofs.Facts.{document-Members, IsMap-members}
 use Rattle.mp_merge.specs.Clash.{Compatible, IsFirstClash}
-use Rattle.mp_merge.proofs.ClashLemmas.{first_from_left, first_under, absent_under, compatible_under}
+use Rattle.mp_merge.proofs.ClashesByName.{first_from_left, first_under, absent_under, compatible_under}
 use Rattle.mp_merge.proofs.WalkLemmas.{next_member, rest_ascends, pass, looked_up}
 use Rattle.mp_merge.proofs.comparing.+first_clash.Goals as goal
 

@@ -6,18 +6,10 @@ use Rattle.mp_tree.specs.Look.{Path, nothing, an_object, plain, look, look_of, l
 use Rattle.mp_tree.specs.View.{document, document_step}
 use Rattle.mp_tree.specs.declared.doc.Doc.{Doc, Members as Map, ind-Doc, roll-Doc, fold-roll-Doc, the_lemmas}
 use Rattle.mp_tree.specs.declared.doc.Doc.TheOpen.{Doc-F}
-use Rattle.mp_tree.proofs.Facts.{find-below, IsBelow-trans, cases_name, cases_same, is_name-self, same_from_cmp}
+use Rattle.mp_tree.proofs.Facts.{is_here, find-below, IsBelow-trans, cases_name, cases_same, is_name-self, same_from_cmp}
 use Rattle.mp_merge.specs.Clash.{Clash, Compatible, path_cmp, IsFirstClash}
 
 -- ---- at the root
-
-pub is_here : (d : Document) → look_here d ≡ nothing → ⊥
-is_here null e = cc
-is_here (flag b) e = cc
-is_here (whole z) e = cc
-is_here (string s) e = cc
-is_here (list ds) e = cc
-is_here (object ms) e = cc
 
 abbrev pub IsNoMap : Document → Type 0
 IsNoMap d = look_here d ≡ plain d
@@ -60,8 +52,11 @@ clash_with_a_map ms q plain_q = clash_at_root (object ms) q (λ same. never (sam
 pub compatible-self : (p q : Document) → p ≡ q → Compatible p q
 compatible-self p q same w clash = clash.differ (ap (λ d. look d w) same)
 
+pub clash-sym : (p q : Document) (w : Path) → Clash p q w → Clash q p w
+clash-sym p q w clash = record { first = clash.second; second = clash.first; differ = λ same. clash.differ (sym same) }
+
 pub compatible-sym : (p q : Document) → Compatible p q → Compatible q p
-compatible-sym p q none w clash = none w (record { first = clash.second; second = clash.first; differ = λ same. clash.differ (sym same) })
+compatible-sym p q none w clash = none w (clash-sym q p w clash)
 
 nothing_is_below : (u : Path) → path_cmp u [] ≡ Less → ⊥
 nothing_is_below [] e = cc
