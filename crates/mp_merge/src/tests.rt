@@ -132,6 +132,28 @@ fn lists(rt: HostRuntime) -> Result<(), Fail> {
     }
 }
 
+/// A replica that keeps the join of what it received, and nothing else, shows what a replay of all shows.
+#[test]
+fn kept_join(rt: HostRuntime) -> Result<(), Fail> {
+    let start = read_doc(rt.alloc(), br#"{"k":0,"l":[1]}"#)?;
+    let received = read_docs(
+        rt.alloc(),
+        br#"[{"k":null},{"a":{"y":null},"l":[1,2]},{"k":null},{"a":{"x":1}}]"#,
+    )?;
+    let Some((first, rest)) = received.as_slice().split_first() else {
+        return Ok(());
+    };
+    let mut kept = first.copy(rt.alloc())?;
+    for patch in rest {
+        kept = join(rt.alloc(), &kept, patch)?;
+    }
+    is_text(&rt, &kept, r#"{"a":{"x":1,"y":null},"k":null,"l":[1,2]}"#)?;
+    let shown = merge(rt.alloc(), Some(&start), &kept)?;
+    is_text(&rt, &shown, r#"{"a":{"x":1},"l":[1,2]}"#)?;
+    let replayed = replay(rt.alloc(), &start, received.as_slice())?;
+    is_text(&rt, &replayed, r#"{"a":{"x":1},"l":[1,2]}"#)
+}
+
 #[test]
 fn texts(rt: HostRuntime) -> Result<(), Fail> {
     let root = Pointer::empty(rt.alloc());
