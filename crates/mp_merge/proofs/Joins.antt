@@ -1,5 +1,5 @@
 -- The laws of join.
-use Rattle.std.proofs.Common.{◌≡◌, ◌≢◌, ◌≤◌, ◌⊎◌, inl, inr, ◌↔◌, ℕ, List, [], ◌∷◌, refl, sym, ap, ◌∙◌, subst, arith}
+use Rattle.std.proofs.Common.{◌≡◌, ◌≢◌, ◌≤◌, ◌⊎◌, inl, inr, ◌↔◌, ℕ, List, [], ◌∷◌, ◌++◌, refl, sym, ap, ◌∙◌, subst, arith}
 use Rattle.std.proofs.lemmas.List.Elements.{All-contains, All-contains_itself, All-head, All-tail, All-weaker, Contains-append_cases, Contains-append_left, Contains-append_right}
 use Rattle.std.specs.List.{All, Contains}
 use Rattle.mp_tree.specs.Document.{Document, IsDocument, depth}
@@ -7,7 +7,7 @@ use Rattle.mp_tree.specs.Look.{Path, nothing, look}
 use Rattle.mp_tree.proofs.Facts.{equal_looks, is_here}
 use Rattle.mp_merge.specs.Clash.{Clash, Compatible}
 use Rattle.mp_merge.specs.Join.{IsJoin}
-use Rattle.mp_merge.specs.Laws.{ClashWithAJoin, ClashesWithAMember, JoinIsIdempotent, JoinIsCommutative, IsJoinFromLeft, IsJoinFromRight, JoinIsAssociative, HasOneJoin, EmptyHasNoJoin, JoinExists, JoinIsNoDeeper}
+use Rattle.mp_merge.specs.Laws.{ClashWithAJoin, ClashesWithAMember, JoinIsIdempotent, JoinIsCommutative, IsJoinFromLeft, IsJoinFromRight, JoinIsAssociative, JoinGrows, HasOneJoin, EmptyHasNoJoin, JoinExists, JoinIsNoDeeper}
 use Rattle.mp_merge.specs.Lists.{PairwiseCompatible, AreWithin}
 use Rattle.mp_merge.specs.Walks.{union}
 use Rattle.mp_merge.proofs.Elements.{Contains-nil, Contains-head, Contains-tail, Contains-cases, Contains-one, some_or_all}
@@ -169,6 +169,12 @@ module _ (patches rest all : List Document) (b : Document) (joined : IsJoin patc
 
       silent : (w : Path) → ((p : Document) → Contains all p → look p w ≡ nothing) → look j w ≡ nothing
       silent w none = whole.silent w (λ p at. silent_by w none p (Contains-cases b p rest at))
+
+pub join_grows : JoinGrows
+join_grows patches q kept j joined = (
+  join_in_parts patches (q ∷ []) (patches ++ q ∷ []) kept joined (λ p. Contains-append_cases patches (q ∷ []) p) (λ p. Contains-append_left patches (q ∷ []) p) (λ p. Contains-append_right patches (q ∷ []) p) j,
+  join_of_parts patches (q ∷ []) (patches ++ q ∷ []) kept joined (λ p. Contains-append_cases patches (q ∷ []) p) (λ p. Contains-append_left patches (q ∷ []) p) (λ p. Contains-append_right patches (q ∷ []) p) j,
+)
 
 -- ---- joining is associative
 

@@ -1,5 +1,5 @@
 -- Laws of merge patches alone. Each is the contract of a function of the module `laws` that runs nothing.
-use Rattle.std.specs.Prelude.{◌≡◌, ◌≢◌, ◌≤◌, ◌↔◌, ℕ, List, [], ◌∷◌, Some}
+use Rattle.std.specs.Prelude.{◌≡◌, ◌≢◌, ◌≤◌, ◌↔◌, ℕ, List, [], ◌∷◌, ◌++◌, Some}
 use Rattle.std.specs.List.{All, Contains}
 use Rattle.mp_tree.specs.Document.{Document, IsDocument, depth, depth_limit}
 use Rattle.mp_tree.specs.Look.{Path}
@@ -90,6 +90,10 @@ HasOneJoin = (patches : List Document) (i j : Document) → IsDocument i → IsD
 -- the empty collection has none, since `{}` changes 5: no patch leaves every document as it is
 abbrev pub EmptyHasNoJoin : Type 0
 EmptyHasNoJoin = (j : Document) → ¬ IsJoin [] j
+
+-- the join of a list and one more patch is that of (the join of the list) with the patch
+abbrev pub JoinGrows : Type 0
+JoinGrows = (patches : List Document) (q kept j : Document) → IsJoin patches kept → IsJoin (patches ++ q ∷ []) j ↔ IsJoin (kept ∷ q ∷ []) j
 
 abbrev pub HasJoin : List Document → Type 0
 HasJoin patches = (j : Document) × IsDocument j × IsJoin patches j

@@ -1,7 +1,7 @@
 //! Laws over documents and merge patches alone: each function runs nothing, and its contract is the law.
 ghost use Rattle.mp_merge.specs.Application.{AppliesAtEachName};
 ghost use Rattle.mp_merge.specs.Headline.{ReplicasConverge};
-ghost use Rattle.mp_merge.specs.Laws.{ApplicationIsOutcome, HasOneOutcome, AppliedInTurn, ReplicasAgree, Exchange, HasOneFirstClash, ClashWithAJoin, JoinIsIdempotent, JoinIsCommutative, JoinIsAssociative, HasOneJoin, EmptyHasNoJoin, JoinExists, JoinIsNoDeeper, JoinGivesOutcome, HasOneRewriting, EmptyRewriting, EditsInAnyOrder, RewritingRuns};
+ghost use Rattle.mp_merge.specs.Laws.{ApplicationIsOutcome, HasOneOutcome, AppliedInTurn, ReplicasAgree, Exchange, HasOneFirstClash, ClashWithAJoin, JoinIsIdempotent, JoinIsCommutative, JoinIsAssociative, JoinGrows, HasOneJoin, EmptyHasNoJoin, JoinExists, JoinIsNoDeeper, JoinGivesOutcome, HasOneRewriting, EmptyRewriting, EditsInAnyOrder, RewritingRuns};
 
 /// Application at each name, in the words of RFC 7396 section 2: a name that the patch does not carry stays as it
 /// was, a null removes it, and any other value is merged with what stood there.
@@ -63,6 +63,12 @@ pub fn join_is_commutative()
 /// are equal. So replicas may join what they received in groups.
 pub fn join_is_associative()
     ensures { JoinIsAssociative }
+{}
+
+/// The join of patches and one more is the join of their join with it, and exists exactly if that does: so a replica
+/// may keep the join of what it received, and join each patch to it as it comes.
+pub fn join_grows()
+    ensures { JoinGrows }
 {}
 
 /// A collection of patches has at most one join, so replicas that join the same patches hold the same patch.
