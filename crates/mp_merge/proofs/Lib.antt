@@ -1,5 +1,6 @@
 pub mod AnyOrder
 pub mod ApplicationLemmas
+pub mod ByNames
 pub mod ClashesByName
 pub mod DepthLemmas
 pub mod EditPlaces

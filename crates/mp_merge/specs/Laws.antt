@@ -1,8 +1,8 @@
 -- Laws of merge patches alone. Each is the contract of a function of the module `laws` that runs nothing.
-use Rattle.std.specs.Prelude.{◌≡◌, ◌≢◌, ◌≤◌, ◌↔◌, ℕ, List, [], ◌∷◌, ◌++◌, Some}
+use Rattle.std.specs.Prelude.{◌≡◌, ◌≢◌, ◌≤◌, ◌↔◌, ℕ, List, [], ◌∷◌, ◌++◌, Option, None, Some}
 use Rattle.std.specs.List.{All, Contains}
-use Rattle.mp_tree.specs.Document.{Document, IsDocument, depth, depth_limit}
-use Rattle.mp_tree.specs.Look.{Path}
+use Rattle.mp_tree.specs.Document.{Document, object, Members, find, IsDocument, IsMap, depth, depth_limit}
+use Rattle.mp_tree.specs.Look.{Path, plain, look}
 use Rattle.mp_patch.specs.Operation.{Operation}
 use Rattle.mp_patch.specs.Run.{Runs}
 use Rattle.mp_merge.specs.Application.{mp, in_turn}
@@ -55,7 +55,30 @@ ClashesWithAMember patches r w = (p : Document) × Contains patches p × Clash r
 abbrev pub ClashWithAJoin : Type 0
 ClashWithAJoin = (patches : List Document) (j r : Document) (w : Path) → IsJoin patches j → Clash r j w ↔ ClashesWithAMember patches r w
 
+-- two objects are compatible exactly if each name that both carry has compatible values
+abbrev pub CompatibleByNames : Type 0
+CompatibleByNames = (ps qs : Members) → Compatible (object ps) (object qs) ↔ ((n : List ℕ) (p q : Document) → find n ps ≡ Some p → find n qs ≡ Some q → Compatible p q)
+
+-- and what is no object is compatible with its equal alone
+abbrev pub CompatibleIfEqual : Type 0
+CompatibleIfEqual = (p q : Document) → look p [] ≡ plain p → Compatible p q ↔ (p ≡ q)
+
 -- ---- joins
+
+-- what a join has at a name: what one patch carries alone, or the join of the values of both
+abbrev pub IsJoinAt : Option Document → Option Document → Option Document → Type 0
+IsJoinAt None None j = j ≡ None
+IsJoinAt (Some p) None j = j ≡ Some p
+IsJoinAt None (Some q) j = j ≡ Some q
+IsJoinAt (Some p) (Some q) j = (d : Document) × (j ≡ Some d) × IsJoin (p ∷ q ∷ []) d
+
+-- the join of two objects is the object that has this at each name
+abbrev pub JoinByNames : Type 0
+JoinByNames = (ps qs js : Members) → IsMap ps → IsMap qs → IsMap js → IsJoin (object ps ∷ object qs ∷ []) (object js) ↔ ((n : List ℕ) → IsJoinAt (find n ps) (find n qs) (find n js))
+
+-- and where a patch is no object, the join is the one value that both are
+abbrev pub JoinOfEqual : Type 0
+JoinOfEqual = (p q j : Document) → look p [] ≡ plain p → IsJoin (p ∷ q ∷ []) j ↔ ((p ≡ q) × (j ≡ p))
 
 -- the join of p and p is p
 abbrev pub JoinIsIdempotent : Type 0

@@ -1,7 +1,7 @@
 //! Laws over documents and merge patches alone: each function runs nothing, and its contract is the law.
 ghost use Rattle.mp_merge.specs.Application.{AppliesAtEachName};
 ghost use Rattle.mp_merge.specs.Headline.{ReplicasConverge};
-ghost use Rattle.mp_merge.specs.Laws.{ApplicationIsOutcome, HasOneOutcome, AppliedInTurn, ReplicasAgree, Exchange, HasOneFirstClash, ClashWithAJoin, JoinIsIdempotent, JoinIsCommutative, JoinIsAssociative, JoinGrows, HasOneJoin, EmptyHasNoJoin, JoinExists, JoinIsNoDeeper, JoinGivesOutcome, HasOneRewriting, EmptyRewriting, EditsInAnyOrder, RewritingRuns};
+ghost use Rattle.mp_merge.specs.Laws.{ApplicationIsOutcome, HasOneOutcome, AppliedInTurn, ReplicasAgree, Exchange, HasOneFirstClash, ClashWithAJoin, CompatibleByNames, CompatibleIfEqual, JoinByNames, JoinOfEqual, JoinIsIdempotent, JoinIsCommutative, JoinIsAssociative, JoinGrows, HasOneJoin, EmptyHasNoJoin, JoinExists, JoinIsNoDeeper, JoinGivesOutcome, HasOneRewriting, EmptyRewriting, EditsInAnyOrder, RewritingRuns};
 
 /// Application at each name, in the words of RFC 7396 section 2: a name that the patch does not carry stays as it
 /// was, a null removes it, and any other value is merged with what stood there.
@@ -47,6 +47,20 @@ pub fn one_first_clash()
 /// keeps only the join of what it received still learns of every clash.
 pub fn clash_with_a_join()
     ensures { ClashWithAJoin }
+{}
+
+/// The rule of compatibility: two objects are compatible exactly if each name that both carry has compatible values,
+/// and what is no object is compatible with its equal alone.
+pub fn compatible_by_names()
+    ensures objects { CompatibleByNames }
+    ensures others { CompatibleIfEqual }
+{}
+
+/// The rule of joining: the join of two objects has at each name what one of them carries there alone, or the join of
+/// both values; where a patch is no object, the join is the one value that both are.
+pub fn join_by_names()
+    ensures objects { JoinByNames }
+    ensures others { JoinOfEqual }
 {}
 
 /// The join of a patch with itself is that patch: a patch that arrives twice changes nothing.
