@@ -2,7 +2,7 @@
 ghost use Rattle.std.specs.Prelude.{◌≡◌};
 ghost use Rattle.mp_cli.specs.Counted.{calls_of};
 
-use crate::{Command, CommandFault, Counted, INPUT_LIMIT, RunFault, command_of, run};
+use crate::{Command, CommandFault, Counted, INPUT_LIMIT, RunFault, command_of, fault_line, run};
 use std::alloc::{AllocError, Global};
 use std::io;
 use std::io::{Read, Write};
@@ -338,6 +338,20 @@ fn long_inputs_are_refused(rt: HostRuntime) -> Result<(), Fail> {
             expect_text(&rt, seen.out, text);
             expect_text(&rt, seen.err, "");
         }
+    }
+    Ok(())
+}
+
+#[test]
+fn lines_of_faults(rt: HostRuntime) -> Result<(), Fail> {
+    let lines = [
+        (RunFault::ReadFailed, "read failed", 3),
+        (RunFault::WriteFailed, "write failed", 3),
+        (RunFault::TooLong, "input: too long", 2),
+        (RunFault::OutOfMemory, "out of memory", 3),
+    ];
+    for (fault, line, status) in lines {
+        assert_eq!(rt; fault_line(&fault), (line, status));
     }
     Ok(())
 }

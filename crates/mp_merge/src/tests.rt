@@ -1,5 +1,8 @@
 //! Worked values of application, conflict, join and lists of patches, and the texts of the faults.
-use crate::{JoinFault, ListFault, compatible, conflict, join, join_all, merge, replay};
+use crate::{
+    JoinFault, ListFault, compatible, conflict, join, join_all, merge, merge_owned, replay,
+    replay_owned,
+};
 use mp_pointer::Pointer;
 use mp_tree::{Doc, read_doc, read_docs, write_doc};
 use std::process::Abort;
@@ -148,10 +151,13 @@ fn kept_join(rt: HostRuntime) -> Result<(), Fail> {
         kept = join(rt.alloc(), &kept, patch)?;
     }
     is_text(&rt, &kept, r#"{"a":{"x":1,"y":null},"k":null,"l":[1,2]}"#)?;
-    let shown = merge(rt.alloc(), Some(&start), &kept)?;
-    is_text(&rt, &shown, r#"{"a":{"x":1},"l":[1,2]}"#)?;
-    let replayed = replay(rt.alloc(), &start, received.as_slice())?;
-    is_text(&rt, &replayed, r#"{"a":{"x":1},"l":[1,2]}"#)
+    let wanted = r#"{"a":{"x":1},"l":[1,2]}"#;
+    is_text(&rt, &merge(rt.alloc(), Some(&start), &kept)?, wanted)?;
+    let received = received.as_slice();
+    is_text(&rt, &replay(rt.alloc(), &start, received)?, wanted)?;
+    let moved = start.copy(rt.alloc())?;
+    is_text(&rt, &replay_owned(rt.alloc(), moved, received)?, wanted)?;
+    is_text(&rt, &merge_owned(rt.alloc(), Some(start), kept)?, wanted)
 }
 
 #[test]

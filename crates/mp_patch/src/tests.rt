@@ -1,5 +1,5 @@
 //! Worked values: operations on documents, forms, and the texts of the faults.
-use crate::{ApplyFault, Cause, FormCause, FormFault, JsonPatch, Op, apply};
+use crate::{ApplyFault, Cause, FormCause, FormFault, JsonPatch, Op, apply, apply_owned};
 use mp_pointer::Pointer;
 use mp_tree::{Doc, read_doc, write_doc};
 use std::alloc::{AllocError, Global};
@@ -165,6 +165,7 @@ fn applied(rt: HostRuntime) -> Result<(), Fail> {
         let patch = JsonPatch::from_doc(rt.alloc(), &read_doc(rt.alloc(), form.as_bytes())?)?;
         check_text(&rt, &apply(rt.alloc(), &doc, &patch)?, wanted);
         check_text(&rt, &doc, start);
+        check_text(&rt, &apply_owned(rt.alloc(), doc, &patch)?, wanted);
     }
     Ok(())
 }

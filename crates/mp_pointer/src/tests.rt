@@ -112,6 +112,8 @@ fn tokens(rt: HostRuntime) -> Result<(), Fail> {
     check_print(&rt, &pointer, "/a~1b/~0");
     check_print(&rt, &pointer.copy(rt.alloc())?, "/a~1b/~0");
     check_print(&rt, &pointer.child(rt.alloc(), "x/")?, "/a~1b/~0/x~1");
+    let copy = pointer.copy(rt.alloc())?;
+    check_print(&rt, &copy.under(rt.alloc(), "x/")?, "/x~1/a~1b/~0");
     check_print(&rt, &pointer.front(rt.alloc(), 1)?, "/a~1b");
     check_print(&rt, &Pointer::empty(rt.alloc()), "");
     Ok(())
