@@ -1,7 +1,7 @@
 -- Compatibility and join, name by name.
-use Rattle.std.proofs.Common.{◌≡◌, ◌≢◌, ◌⊎◌, inl, inr, ℕ, List, [], ◌∷◌, Option, Some, None, IfSome, refl, sym, ap, ◌∙◌, subst}
+use Rattle.std.proofs.Common.{◌≡◌, ◌≢◌, ◌↔◌, ◌⊎◌, inl, inr, ℕ, List, [], ◌∷◌, Option, Some, None, IfSome, refl, sym, ap, ◌∙◌, subst}
 use Rattle.std.specs.List.{Contains}
-use Rattle.mp_tree.specs.Document.{Document, object, find, IsDocument}
+use Rattle.mp_tree.specs.Document.{Document, object, Members, find, IsDocument, IsMap}
 use Rattle.mp_tree.specs.Look.{Path, nothing, an_object, plain, look_of, look}
 use Rattle.mp_tree.proofs.Facts.{equal_looks, is_here, IsDocument-find}
 use Rattle.mp_merge.specs.Clash.{Compatible}
@@ -121,8 +121,8 @@ from_join_at (Some p) (Some q) c (d, is, joined) = record {
   ]);
 }
 
-pub join_by_names : JoinByNames
-join_by_names ps qs js one other good = (to, from)
+join_of_objects : (ps qs js : Members) → IsMap ps → IsMap qs → IsMap js → IsJoin (object ps ∷ object qs ∷ []) (object js) ↔ ((n : List ℕ) → IsJoinAt (find n ps) (find n qs) (find n js))
+join_of_objects ps qs js one other good = (to, from)
   where
     to : IsJoin (object ps ∷ object qs ∷ []) (object js) → (n : List ℕ) → IsJoinAt (find n ps) (find n qs) (find n js)
     to joined n = to_join_at (find n ps) (find n qs) (find n js) (IsDocument-find n ps one) (IsDocument-find n qs other) (IsDocument-find n js good) (record {
@@ -153,3 +153,11 @@ join_by_names ps qs js one other good = (to, from)
       said = λ r at. said_at each r (elim (Contains-cases (object ps) r (object qs ∷ []) at) [ inl same ↦ inl same | inr there ↦ inr (Contains-one (object qs) r there) ]);
       silent = silent_at each;
     }
+
+-- at the root a join has the look of an object, as the patches have
+no_other : (ps qs : Members) (j : Document) → look j [] ≢ an_object → IsJoin (object ps ∷ object qs ∷ []) j → ⊥
+no_other ps qs j other joined = other (joined.said (object ps) (Contains-head (object ps) (object qs ∷ [])) [] (is_here (object ps)))
+
+pub join_by_names : JoinByNames
+join_by_names ps qs (object js) one other good = join_of_objects ps qs js one other good
+join_by_names ps qs j one other good = (no_other ps qs j (λ same. cc), λ never. absurd never)

@@ -72,9 +72,14 @@ IsJoinAt (Some p) None j = j ≡ Some p
 IsJoinAt None (Some q) j = j ≡ Some q
 IsJoinAt (Some p) (Some q) j = (d : Document) × (j ≡ Some d) × IsJoin (p ∷ q ∷ []) d
 
--- the join of two objects is the object that has this at each name
+-- an object that has this at each name
+abbrev pub JoinsNames : Members → Members → Document → Type 0
+JoinsNames ps qs (object js) = (n : List ℕ) → IsJoinAt (find n ps) (find n qs) (find n js)
+JoinsNames ps qs j = ⊥
+
+-- is the join of two objects, and nothing else is
 abbrev pub JoinByNames : Type 0
-JoinByNames = (ps qs js : Members) → IsMap ps → IsMap qs → IsMap js → IsJoin (object ps ∷ object qs ∷ []) (object js) ↔ ((n : List ℕ) → IsJoinAt (find n ps) (find n qs) (find n js))
+JoinByNames = (ps qs : Members) (j : Document) → IsMap ps → IsMap qs → IsDocument j → IsJoin (object ps ∷ object qs ∷ []) j ↔ JoinsNames ps qs j
 
 -- and where a patch is no object, the join is the one value that both are
 abbrev pub JoinOfEqual : Type 0
