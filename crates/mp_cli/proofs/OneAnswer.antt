@@ -11,7 +11,7 @@ use Rattle.mp_patch.specs.Run.{Runs, IsFaultOf}
 use Rattle.mp_patch.specs.declared.fault.ApplyFault.{ApplyFault}
 use Rattle.mp_patch.specs.declared.fault.ApplyFault.TheVariants.{Refused, OutOfMemory}
 use Rattle.mp_patch.proofs.Facts.{forms_have_no_fault, has_one_reading, has_one_end, runs_unrefused, has_one_refusal}
-use Rattle.mp_merge.proofs.Facts.{empty_has_no_join, one_join, one_outcome, one_rewriting}
+use Rattle.mp_merge.proofs.Facts.{conflict_has_no_join, conflict_has_no_outcome, conflict_has_patches, empty_has_no_join, one_join, one_outcome, one_rewriting, one_told}
 use Rattle.mp_merge.specs.Join.{IsJoin}
 use Rattle.mp_merge.specs.Lists.{IsFirstConflict}
 use Rattle.mp_tree.specs.Look.{Path}
@@ -19,7 +19,6 @@ use Rattle.mp_cli.specs.Answered.{Answered, listed, result_line, conflict_line, 
 use Rattle.mp_cli.specs.Laws.{HasOneAnswer}
 use Rattle.mp_cli.specs.declared.command.Command.{Command}
 use Rattle.mp_cli.specs.declared.command.Command.TheVariants.{Get, Patch, Merge, Join, Replay, Rewrite}
-use Rattle.mp_cli.proofs.OneConflict.{one_first_conflict, conflict_has_patches, conflict_has_no_join, conflict_has_no_outcome}
 use Rattle.mp_cli.proofs.OneFormFault.{one_form_fault}
 
 -- ---- `patch`
@@ -81,7 +80,7 @@ one_patch_to (item d (item patch (item e ds))) a b good is was = is ∙ sym was
 one_conflict_line : (patches : List Document) (first second other_first other_second : ℕ) (place other_place : Path) (a b : Answered) → IsFirstConflict patches first second place
     → a ≡ conflict_line first second place → IsFirstConflict patches other_first other_second other_place → b ≡ conflict_line other_first other_second other_place → a ≡ b
 one_conflict_line patches first second other_first other_second place other_place a b one is two was =
-    is ∙ one_first_conflict conflict_line patches first second other_first other_second place other_place one two ∙ sym was
+    is ∙ one_told conflict_line patches first second other_first other_second place other_place one two ∙ sym was
 
 none_has_no_join : (patches : List Document) (j : Document) → patches ≡ [] → IsJoin patches j → ⊥
 none_has_no_join patches j none joins = empty_has_no_join j (subst (λ (ps : List Document). IsJoin ps j) none joins)

@@ -12,7 +12,7 @@ use Rattle.mp_pointer.specs.declared.fault.PointerFault.TheVariants.{NoSlash, Ba
 use Rattle.mp_merge.specs.declared.fault.ListFault.{ListFault}
 use Rattle.mp_merge.specs.declared.fault.ListFault.TheVariants.{NoPatches, ConflictOf, OutOfMemory as ListMemory}
 use Rattle.std.specs.declared.alloc.AllocError.{AllocError}
-use Rattle.mp_merge.specs.Application.{mp}
+use Rattle.mp_merge.specs.Application.{in_turn}
 use Rattle.mp_merge.specs.Join.{IsJoin}
 use Rattle.mp_merge.specs.Lists.{IsFirstConflict}
 use Rattle.mp_merge.specs.Outcome.{IsOutcome}
@@ -80,15 +80,15 @@ get_answer pointer no_items = wrong_shape
 get_answer pointer (item d no_items) = part_answer d (tokens_in pointer)
 get_answer pointer (item d (item e ds)) = wrong_shape
 
--- the document after each patch in turn, with no check of compatibility
-abbrev pub mp_each : Document → Items → Document
-mp_each d no_items = d
-mp_each d (item p ps) = mp_each (mp (Some d) p) ps
+-- the elements of the input array
+abbrev pub listed : Items → List Document
+listed no_items = []
+listed (item d ds) = d ∷ listed ds
 
--- `merge` wants `[document, patch, ..]`, also with no patch
+-- `merge` wants `[document, patch, ..]`, also with no patch: each patch is applied in turn, with no check of compatibility
 abbrev pub merge_answer : Items → Answered
 merge_answer no_items = wrong_shape
-merge_answer (item d ps) = result_line (mp_each d ps)
+merge_answer (item d ps) = result_line (in_turn d (listed ps))
 
 -- ---- `patch`
 
@@ -140,11 +140,6 @@ IsPatchAnswerTo (item d (item patch no_items)) a = IsPatchAnswer d patch a
 IsPatchAnswerTo inputs a = a ≡ wrong_shape
 
 -- ---- lists of merge patches
-
--- the elements of the input array
-abbrev pub listed : Items → List Document
-listed no_items = []
-listed (item d ds) = d ∷ listed ds
 
 -- the two patches by their numbers, and the pointer as a JSON string
 abbrev pub conflict_line : ℕ → ℕ → Path → Answered

@@ -18,8 +18,8 @@ pub record ReadsWhole {R : Type 0} (remaining : R → Option (List ℕ)) (old ne
   pub failures : failures_of new ≡ failures_of old
   pub short : length bytes ≤ INPUT_LIMIT
 
--- The writes took the whole text, and neither a write nor the flush failed. `contents` says which
--- bytes a writer holds, where it says so. There are at most as many writes as bytes, and one flush.
+-- The writes took the whole text, and neither a write nor a flush failed. `contents` says which
+-- bytes a writer holds, where it says so. There are at most as many calls as bytes, and one more.
 pub record WritesWhole {W : Type 0} (contents : W → Option (List ℕ)) (old new : Counted W) (text : List ℕ) : Type 0 where
   pub appended : Appends (contents (device_of old)) (contents (device_of new)) text
   pub counted : bytes_of new ≡ bytes_of old + length text

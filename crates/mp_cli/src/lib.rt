@@ -10,6 +10,7 @@ pub mod laws;
 mod running;
 
 pub use answering::answer;
+pub use answers::Answer;
 pub use command::{Command, CommandFault, command_of};
 pub use counted::Counted;
 pub use running::{INPUT_LIMIT, READ_LIMIT, RunFault, fault_line, run};

@@ -7,7 +7,7 @@ use Rattle.mp_pointer.specs.Only.{DifferOnlyAt}
 use Rattle.mp_pointer.specs.Part.{names}
 use Rattle.mp_pointer.specs.Spelling.{BeginsWith}
 use Rattle.mp_pointer.proofs.Facts.{child-object, DifferOnlyAt-child, DifferOnlyAt-root}
-use Rattle.mp_patch.proofs.EditLemmas.{names_of-put}
+use Rattle.mp_patch.proofs.Facts.{names_of-put}
 use Rattle.mp_merge.specs.Application.{target_members}
 use Rattle.mp_merge.proofs.ApplicationLemmas.{IsMap-target_members}
 use Rattle.mp_merge.proofs.Places.{MapsAbove, at_path, look-down, look-at_path}

@@ -14,6 +14,7 @@ use Rattle.mp_merge.proofs.ApplicationLemmas.{IsDocument-mp}
 use Rattle.mp_merge.proofs.InTurn.{IsDocument-in_turn, applied_in_turn}
 use Rattle.mp_merge.proofs.Joins.{join_from_compatible, join_of_same, union_is_within}
 use Rattle.mp_merge.proofs.Outcomes.{one_outcome, join_gives_outcome}
+use Rattle.mp_merge.proofs.SomeRewriting.{rewriting_exists}
 
 module _ (start : Document) (patches : List Document) (good : IsDocument start) (all : All IsPatch patches) (free : PairwiseCompatible patches) where
   -- what a replica received is patches too, and pairwise compatible
@@ -29,6 +30,7 @@ module _ (start : Document) (patches : List Document) (good : IsDocument start) 
       λ received same. join_gives_outcome start received j good patch.0 (join_of_same patches received j same joined) in
       let agree : (received : List Document) (e : Document) → HaveSameMembers patches received → IsDocument e → IsOutcome start received e → e ≡ mp (Some start) j =
       λ received e same document outcome. one_outcome start received e (mp (Some start) j) document (IsDocument-mp (Some start) j good patch.0) outcome (reached received same) in
+      let edits = rewriting_exists start j patch.0 in
       record {
         joined = j;
         is_document = patch.0;
@@ -39,7 +41,9 @@ module _ (start : Document) (patches : List Document) (good : IsDocument start) 
         each_in_turn = λ received same.
             let documents = received_documents received same in
             agree received (in_turn start received) same (IsDocument-in_turn start received good documents) (applied_in_turn start received good documents (received_compatible received same));
-        runs = λ operations is. rewriting_runs start j operations good patch.0 patch.1 is;
+        operations = edits.0;
+        rewritten = edits.1;
+        runs = rewriting_runs start j edits.0 good patch.0 patch.1 edits.1;
       }
 
 pub replicas_converge : ReplicasConverge

@@ -7,7 +7,7 @@ use Rattle.mp_tree.specs.Look.{Path, nothing, look}
 use Rattle.mp_tree.proofs.Facts.{equal_looks, is_here}
 use Rattle.mp_merge.specs.Clash.{Clash, Compatible}
 use Rattle.mp_merge.specs.Join.{IsJoin}
-use Rattle.mp_merge.specs.Laws.{ClashWithAJoin, ClashesWithAMember, JoinIsIdempotent, JoinIsCommutative, IsJoinFromLeft, IsJoinFromRight, JoinIsAssociative, JoinGrows, HasOneJoin, EmptyHasNoJoin, JoinExists, JoinIsNoDeeper}
+use Rattle.mp_merge.specs.Laws.{ClashWithAJoin, ClashesWithAMember, JoinIsIdempotent, JoinIsCommutative, IsJoinFromLeft, IsJoinFromRight, JoinIsAssociative, JoinGrows, HasOneJoin, EmptyHasNoJoin, JoinExists, PairHasJoin, JoinIsNoDeeper}
 use Rattle.mp_merge.specs.Lists.{PairwiseCompatible, AreWithin}
 use Rattle.mp_merge.specs.Walks.{union}
 use Rattle.mp_merge.proofs.Elements.{Contains-nil, Contains-head, Contains-tail, Contains-cases, Contains-one, some_or_all}
@@ -109,6 +109,12 @@ join_from_compatible P keeps p (q ∷ patches) good free =
 pub join_exists : JoinExists
 join_exists [] some good = absurd (some refl)
 join_exists (p ∷ patches) some good = (λ found. compatible_from_join (p ∷ patches) found.0 found.2, join_from_compatible IsDocument IsDocument-union p patches good)
+
+pub pair_has_join : PairHasJoin
+pair_has_join p q first second = (
+  λ found. compatible_from_join (p ∷ q ∷ []) found.0 found.2 p q (Contains-head p (q ∷ [])) (Contains-tail p q (q ∷ []) (Contains-head q [])),
+  λ free. (union p q, IsDocument-union p q first second, union_is_join p q first second free),
+)
 
 module _ (n : ℕ) where
   abbrev pub IsWithin : Document → Type 0

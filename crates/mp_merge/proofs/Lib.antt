@@ -16,10 +16,12 @@ pub mod Joins
 pub mod Listings
 pub mod Looks
 pub mod Numbered
+pub mod OneConflict
 pub mod OneFirstClash
 pub mod Outcomes
 pub mod Places
 pub mod Rewritings
 pub mod Says
+pub mod SomeRewriting
 pub mod Unions
 pub mod WalkLemmas

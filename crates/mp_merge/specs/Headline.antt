@@ -24,7 +24,9 @@ pub record Converge (start : Document) (patches : List Document) : Type 0 where
   -- and a replica that applies each patch as it comes ends with it too
   pub each_in_turn : (received : List Document) → HaveSameMembers patches received → in_turn start received ≡ mp (Some start) joined
   -- the join, rewritten against the start, is a JSON Patch that runs from the start to it
-  pub runs : (operations : List Operation) → IsRewriting start joined operations → Runs start operations (mp (Some start) joined)
+  pub operations : List Operation
+  pub rewritten : IsRewriting start joined operations
+  pub runs : Runs start operations (mp (Some start) joined)
 
 -- a merge patch that is no deeper than a document that is read
 abbrev pub IsPatch : Document → Type 0

@@ -8,7 +8,7 @@ use Rattle.mp_patch.specs.Run.{Runs}
 use Rattle.mp_merge.specs.Application.{mp, in_turn}
 use Rattle.mp_merge.specs.Clash.{Clash, Compatible, IsFirstClash}
 use Rattle.mp_merge.specs.Join.{IsJoin}
-use Rattle.mp_merge.specs.Lists.{PairwiseCompatible, AreWithin}
+use Rattle.mp_merge.specs.Lists.{PairwiseCompatible, AreWithin, IsFirstConflict}
 use Rattle.mp_merge.specs.Outcome.{IsOutcome}
 use Rattle.mp_merge.specs.Rewriting.{IsRewriting, ListsEdits}
 
@@ -25,6 +25,14 @@ HasOneOutcome = (d : Document) (patches : List Document) (e f : Document) → Is
 -- pairwise compatible patches that are applied in turn make their outcome of the start
 abbrev pub AppliedInTurn : Type 0
 AppliedInTurn = (d : Document) (patches : List Document) → IsDocument d → All IsDocument patches → PairwiseCompatible patches → IsOutcome d patches (in_turn d patches)
+
+-- e is a document, and the outcome of d and the patches
+abbrev pub HasOutcome : Document → List Document → Type 0
+HasOutcome d patches = (e : Document) × IsDocument e × IsOutcome d patches e
+
+-- patches have an outcome exactly if they are pairwise compatible, and then on every document
+abbrev pub OutcomeExists : Type 0
+OutcomeExists = (d : Document) (patches : List Document) → IsDocument d → All IsDocument patches → HasOutcome d patches ↔ PairwiseCompatible patches
 
 -- the lists have the same members, in any order and with any repeats
 abbrev pub HaveSameMembers : List Document → List Document → Type 0
@@ -47,6 +55,15 @@ Exchange = (d p q : Document) → IsDocument d → IsDocument p → IsDocument q
 
 abbrev pub HasOneFirstClash : Type 0
 HasOneFirstClash = (p q : Document) (u w : Path) → IsFirstClash p q u → IsFirstClash p q w → u ≡ w
+
+-- a list of patches has one first conflict
+abbrev pub HasOneFirstConflict : Type 0
+HasOneFirstConflict = (patches : List Document) (first second other_first other_second : ℕ) (place other_place : Path) → IsFirstConflict patches first second place → IsFirstConflict patches other_first other_second other_place
+    → (first ≡ other_first) × (second ≡ other_second) × (place ≡ other_place)
+
+-- and none where they are pairwise compatible
+abbrev pub CompatibleHaveNoConflict : Type 0
+CompatibleHaveNoConflict = (patches : List Document) (first second : ℕ) (place : Path) → IsFirstConflict patches first second place → ¬ PairwiseCompatible patches
 
 -- a patch clashes with a join exactly where it clashes with one of the patches that were joined
 abbrev pub ClashesWithAMember : List Document → Document → Path → Type 0
@@ -130,6 +147,10 @@ HasJoin patches = (j : Document) × IsDocument j × IsJoin patches j
 abbrev pub JoinExists : Type 0
 JoinExists = (patches : List Document) → patches ≢ [] → All IsDocument patches → HasJoin patches ↔ PairwiseCompatible patches
 
+-- so two patches have a join exactly if they are compatible
+abbrev pub PairHasJoin : Type 0
+PairHasJoin = (p q : Document) → IsDocument p → IsDocument q → HasJoin (p ∷ q ∷ []) ↔ Compatible p q
+
 -- a join is no deeper than its deepest patch
 abbrev pub JoinIsNoDeeper : Type 0
 JoinIsNoDeeper = (patches : List Document) (j : Document) (n : ℕ) → IsDocument j → All IsDocument patches → IsJoin patches j → AreWithin n patches → depth j ≤ n
@@ -140,7 +161,11 @@ JoinGivesOutcome = (d : Document) (patches : List Document) (j : Document) → I
 
 -- ---- rewriting a patch as a JSON Patch
 
--- a document and a patch have one rewriting
+-- a document and a patch have a rewriting
+abbrev pub RewritingExists : Type 0
+RewritingExists = (d p : Document) → IsDocument p → (operations : List Operation) × IsRewriting d p operations
+
+-- and one alone
 abbrev pub HasOneRewriting : Type 0
 HasOneRewriting = (d p : Document) (operations others : List Operation) → IsRewriting d p operations → IsRewriting d p others → operations ≡ others
 

@@ -1,7 +1,7 @@
 //! Laws over documents and merge patches alone: each function runs nothing, and its contract is the law.
 ghost use Rattle.mp_merge.specs.Application.{AppliesAtEachName};
 ghost use Rattle.mp_merge.specs.Headline.{ReplicasConverge};
-ghost use Rattle.mp_merge.specs.Laws.{ApplicationIsOutcome, HasOneOutcome, AppliedInTurn, ReplicasAgree, Exchange, HasOneFirstClash, ClashWithAJoin, CompatibleByNames, CompatibleIfEqual, JoinByNames, JoinOfEqual, JoinIsIdempotent, JoinIsCommutative, JoinIsAssociative, JoinGrows, HasOneJoin, EmptyHasNoJoin, JoinExists, JoinIsNoDeeper, JoinGivesOutcome, HasOneRewriting, EmptyRewriting, EditsInAnyOrder, RewritingRuns};
+ghost use Rattle.mp_merge.specs.Laws.{ApplicationIsOutcome, HasOneOutcome, AppliedInTurn, OutcomeExists, ReplicasAgree, Exchange, HasOneFirstClash, HasOneFirstConflict, CompatibleHaveNoConflict, ClashWithAJoin, CompatibleByNames, CompatibleIfEqual, JoinByNames, JoinOfEqual, JoinIsIdempotent, JoinIsCommutative, JoinIsAssociative, JoinGrows, HasOneJoin, EmptyHasNoJoin, JoinExists, PairHasJoin, JoinIsNoDeeper, JoinGivesOutcome, RewritingExists, HasOneRewriting, EmptyRewriting, EditsInAnyOrder, RewritingRuns};
 
 /// Application at each name, in the words of RFC 7396 section 2: a name that the patch does not carry stays as it
 /// was, a null removes it, and any other value is merged with what stood there.
@@ -26,6 +26,11 @@ pub fn applied_in_turn()
     ensures { AppliedInTurn }
 {}
 
+/// Patches have an outcome exactly if no two of them clash, and then on every document.
+pub fn outcome_exists()
+    ensures { OutcomeExists }
+{}
+
 /// Replicas that start from one document and receive the same patches, in any orders and with any repeats, end with
 /// the same document, if each ends with the outcome.
 pub fn replicas_agree()
@@ -41,6 +46,13 @@ pub fn exchange()
 /// Two patches have at most one first clash, so every replica that compares them names the same path.
 pub fn one_first_clash()
     ensures { HasOneFirstClash }
+{}
+
+/// A list of patches has at most one first conflict, and none where no two of them clash: so each replica that holds
+/// the list in this order is told the same pair and place.
+pub fn one_first_conflict()
+    ensures one { HasOneFirstConflict }
+    ensures none { CompatibleHaveNoConflict }
 {}
 
 /// A patch clashes with a join exactly where it clashes with one of the patches that were joined: so a replica that
@@ -111,6 +123,11 @@ pub fn join_gives_outcome()
     ensures { JoinGivesOutcome }
 {}
 
+/// A document and a patch have a rewriting.
+pub fn rewriting_exists()
+    ensures { RewritingExists }
+{}
+
 /// A document and a patch have at most one rewriting, so replicas that rewrite the same send the same JSON Patch.
 pub fn one_rewriting()
     ensures { HasOneRewriting }
@@ -136,6 +153,12 @@ pub fn rewriting_runs()
 /// orders and with any repeats, end with the same document, whether they apply each patch as it comes or all at once:
 /// one application of the patches' join to the start. The join, rewritten against the start, is a JSON Patch that runs
 /// from the start to that document.
+///
+/// Join is commutative, associative and idempotent, and two patches have one exactly if they are compatible.
 pub fn replicas_converge()
-    ensures { ReplicasConverge }
+    ensures replicas { ReplicasConverge }
+    ensures commutative { JoinIsCommutative }
+    ensures associative { JoinIsAssociative }
+    ensures idempotent { JoinIsIdempotent }
+    ensures refuses { PairHasJoin }
 {}

@@ -10,9 +10,7 @@ use Rattle.mp_tree.specs.Document.{Document, null, flag, whole, string, list, ob
 use Rattle.mp_tree.specs.View.{document, items, members}
 use Rattle.mp_tree.specs.declared.doc.Doc
 use Rattle.mp_tree.specs.declared.doc.Doc.{Doc}
-use Rattle.mp_tree.proofs.Facts.{cases_same, is_name-self, find-put, find-below, IsMap-members, document-Items, document-Members}
-use Rattle.mp_tree.proofs.Maps.{IsBelow-trans}
-use Rattle.mp_tree.proofs.Names.{same_from_cmp}
+use Rattle.mp_tree.proofs.Facts.{cases_same, is_name-self, same_from_cmp, find-put, find-below, IsBelow-trans, IsMap-members, document-Items, document-Members}
 use Rattle.mp_pointer.specs.Only.{DifferOnlyAt}
 use Rattle.mp_pointer.specs.Part.{part, child, element_from, numeral, kind_here, names, elements, names_of, count_of}
 use Rattle.mp_pointer.specs.Spelling.{Tokens}

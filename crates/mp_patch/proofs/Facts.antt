@@ -7,6 +7,7 @@ use Rattle.mp_patch.specs.declared.op.Op.{Op}
 use Rattle.mp_patch.specs.declared.op.Op.TheVariants as op
 pub use Rattle.mp_patch.proofs.DepthLemmas.{part-depth, Step-depth}
 pub use Rattle.mp_patch.proofs.DocumentLemmas.{part-document, document-changed, Adds-document, Removes-document, Removes-once}
+pub use Rattle.mp_patch.proofs.EditLemmas.{names_of-put}
 pub use Rattle.mp_patch.proofs.FaultLaws.{forms_have_no_fault}
 pub use Rattle.mp_patch.proofs.FormLaws.{has_one_reading, shapes_are_forms}
 pub use Rattle.mp_patch.proofs.FormLemmas.{shapes-depth}

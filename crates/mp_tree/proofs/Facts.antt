@@ -3,5 +3,5 @@ pub use Rattle.mp_tree.proofs.EqualLooks.{equal_looks, is_here, IsDocument-find}
 pub use Rattle.mp_tree.proofs.MapEdits.{IsMap-members, members-cons, find-members, members-inserted, members-removed}
 pub use Rattle.mp_tree.proofs.Maps.{find-put, find-without, find-below, IsBelow-trans, IsMap-put, IsMap-without, members_same}
 pub use Rattle.mp_tree.proofs.Meaning.{IsDocument-document, HasTexts-document, IsInRange-document, document-Null, document-Flag, document-Whole, document-Text, document-Items, document-Members}
-pub use Rattle.mp_tree.proofs.Names.{cases_name, cases_same, is_name-self, same_from_cmp}
+pub use Rattle.mp_tree.proofs.Names.{cases_name, cases_same, is_name-self, name_cmp-self, same_from_cmp}
 pub use Rattle.mp_tree.proofs.ReadDocuments.{AreDocuments-documents_in}

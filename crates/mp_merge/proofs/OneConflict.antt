@@ -1,13 +1,19 @@
--- A list of patches has one first conflict, and no outcome and no join where it has one.
+-- A list of patches has one first conflict, and none where it has a join or an outcome.
 use Rattle.std.proofs.Common.{◌≡◌, ◌<◌, ◌⊎◌, inl, inr, ℕ, zero, suc, List, [], ◌∷◌, Option, Some, slice_get, refl, sym, ap, ◌∙◌, subst, arith}
 use Rattle.std.specs.List.{Contains}
 use Rattle.mp_tree.specs.Document.{Document, null, flag, whole, string, list, object}
 use Rattle.mp_tree.specs.Look.{Path, Look, nothing, an_object, plain, look}
+use Rattle.mp_merge.specs.Application.{in_turn}
 use Rattle.mp_merge.specs.Clash.{Clash, IsFirstClash}
 use Rattle.mp_merge.specs.Join.{IsJoin}
 use Rattle.mp_merge.specs.Lists.{IsClashBelow, IsFirstConflict}
 use Rattle.mp_merge.specs.Outcome.{IsOutcome, left_by}
-use Rattle.mp_merge.proofs.Facts.{Contains-head, Contains-tail, compatible_from_join, one_first_clash}
+use Rattle.mp_merge.specs.Laws.{OutcomeExists, HasOneFirstConflict, CompatibleHaveNoConflict}
+use Rattle.mp_merge.specs.Lists.{PairwiseCompatible}
+use Rattle.mp_merge.proofs.Elements.{Contains-head, Contains-tail}
+use Rattle.mp_merge.proofs.InTurn.{IsDocument-in_turn, applied_in_turn}
+use Rattle.mp_merge.proofs.Joins.{compatible_from_join}
+use Rattle.mp_merge.proofs.OneFirstClash.{one_first_clash}
 
 -- ---- the numbers and the place are one
 
@@ -46,15 +52,21 @@ same_second patches first second other_first other_second place other_place one 
     neither_less second other_second (λ less. no_earlier patches other_first other_second first second other_place place two one.clash less)
     (λ less. no_earlier patches first second other_first other_second place other_place one two.clash less)
 
-pub one_first_conflict : {X : Type 0} (tell : ℕ → ℕ → Path → X) (patches : List Document) (first second other_first other_second : ℕ) (place other_place : Path)
-    → IsFirstConflict patches first second place → IsFirstConflict patches other_first other_second other_place → tell first second place ≡ tell other_first other_second other_place
-one_first_conflict tell patches first second other_first other_second place other_place one two =
+pub one_first_conflict : HasOneFirstConflict
+one_first_conflict patches first second other_first other_second place other_place one two =
     let at_second = same_second patches first second other_first other_second place other_place one two in
     let clash : IsClashBelow patches first other_second place = subst (λ (k : ℕ). IsClashBelow patches first k place) at_second one.clash in
     let at_first = same_first patches other_second first other_first place other_place clash two.clash in
     let there : IsClashBelow patches other_first other_second place = subst (λ (k : ℕ). IsClashBelow patches k other_second place) at_first clash in
     let at_place = same_place patches other_second other_first place other_place there two.clash in
-    ap (λ k. tell first k place) at_second ∙ ap (λ k. tell k other_second place) at_first ∙ ap (λ w. tell other_first other_second w) at_place
+    (at_first, at_second, at_place)
+
+-- what is told of a first conflict is told of one alone
+pub one_told : {X : Type 0} (tell : ℕ → ℕ → Path → X) (patches : List Document) (first second other_first other_second : ℕ) (place other_place : Path)
+    → IsFirstConflict patches first second place → IsFirstConflict patches other_first other_second other_place → tell first second place ≡ tell other_first other_second other_place
+one_told tell patches first second other_first other_second place other_place one two =
+    let same = one_first_conflict patches first second other_first other_second place other_place one two in
+    ap (λ k. tell k second place) same.0 ∙ ap (λ k. tell other_first k place) same.1 ∙ ap (λ w. tell other_first other_second w) same.2
 
 -- ---- where there is a conflict
 
@@ -66,10 +78,13 @@ Contains-numbered (q ∷ patches) (suc k) p at = Contains-tail q p patches (Cont
 pub conflict_has_patches : (first second : ℕ) (place : Path) → IsFirstConflict [] first second place → ⊥
 conflict_has_patches first second place conflict = let at = conflict.clash.at_first in absurd (cc)
 
-pub conflict_has_no_join : (patches : List Document) (j : Document) (first second : ℕ) (place : Path) → IsJoin patches j → IsFirstConflict patches first second place → ⊥
-conflict_has_no_join patches j first second place joined conflict =
+pub compatible_have_none : CompatibleHaveNoConflict
+compatible_have_none patches first second place conflict free =
     let clash = conflict.clash in
-    compatible_from_join patches j joined clash.one clash.other (Contains-numbered patches first clash.one clash.at_first) (Contains-numbered patches second clash.other clash.at_second) place clash.conflict.here
+    free clash.one clash.other (Contains-numbered patches first clash.one clash.at_first) (Contains-numbered patches second clash.other clash.at_second) place clash.conflict.here
+
+pub conflict_has_no_join : (patches : List Document) (j : Document) (first second : ℕ) (place : Path) → IsJoin patches j → IsFirstConflict patches first second place → ⊥
+conflict_has_no_join patches j first second place joined conflict = compatible_have_none patches first second place conflict (compatible_from_join patches j joined)
 
 -- below the root a null leaves nothing, and any other value itself
 left_below : (v : Document) (n : List ℕ) (w : Path) → ((v ≡ null) × (left_by v (n ∷ w) ≡ nothing)) ⊎ (left_by v (n ∷ w) ≡ plain v)
@@ -121,10 +136,18 @@ module _ (d e p q : Document) (patches : List Document) (w : Path) (outcome : Is
   by_looks an_object (plain u) here there = left_is_no_map u w (sym (outcome.set q two w u there) ∙ outcome.entered p one w here)
   by_looks (plain v) (plain u) here there = clash.differ (here ∙ ap plain (left_once v u w (sym (outcome.set p one w v here) ∙ outcome.set q two w u there)) ∙ sym there)
 
-  pub outcome_of_compatible : ⊥
-  outcome_of_compatible = by_looks (look p w) (look q w) refl refl
+  no_clash : ⊥
+  no_clash = by_looks (look p w) (look q w) refl refl
+
+-- patches that have an outcome are pairwise compatible
+compatible_from_outcome : (d : Document) (patches : List Document) (e : Document) → IsOutcome d patches e → PairwiseCompatible patches
+compatible_from_outcome d patches e outcome p q one two w clash = no_clash d e p q patches w outcome one two clash
+
+pub outcome_exists : OutcomeExists
+outcome_exists d patches good all = (
+  λ found. compatible_from_outcome d patches found.0 found.2,
+  λ free. (in_turn d patches, IsDocument-in_turn d patches good all, applied_in_turn d patches good all free),
+)
 
 pub conflict_has_no_outcome : (d e : Document) (patches : List Document) (first second : ℕ) (place : Path) → IsOutcome d patches e → IsFirstConflict patches first second place → ⊥
-conflict_has_no_outcome d e patches first second place outcome conflict =
-    let clash = conflict.clash in
-    outcome_of_compatible d e clash.one clash.other patches place outcome (Contains-numbered patches first clash.one clash.at_first) (Contains-numbered patches second clash.other clash.at_second) clash.conflict.here
+conflict_has_no_outcome d e patches first second place outcome conflict = compatible_have_none patches first second place conflict (compatible_from_outcome d patches e outcome)

@@ -1,0 +1,5 @@
+use Rattle.mp_merge.proofs.SomeRewriting.{rewriting_exists}
+use Rattle.mp_merge.proofs.laws.rewriting_exists.Goals as goal
+
+pub returns : goal.returns
+returns c = rewriting_exists
