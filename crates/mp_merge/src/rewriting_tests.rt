@@ -16,6 +16,7 @@ const REWRITTEN: &[(&str, &str, &str)] = &[
         "null",
         r#"[{"op":"replace","path":"","value":null}]"#,
     ),
+    ("5", "5", "[]"),
 ];
 
 #[test]
