@@ -3,9 +3,9 @@ use Rattle.std.proofs.Common.{◌≡◌, ◌≢◌, ℕ, List, [], ◌∷◌, �
 use Rattle.mp_tree.specs.Document.{Document, null, object, find, IsDocument}
 use Rattle.mp_tree.specs.Look.{Path, Look, nothing, an_object, plain, look_of, look}
 use Rattle.mp_tree.proofs.Facts.{equal_looks}
-use Rattle.mp_merge.specs.Application.{mp}
+use Rattle.mp_merge.specs.Application.{mp, in_turn}
 use Rattle.mp_merge.specs.Clash.{Clash, Compatible}
-use Rattle.mp_merge.specs.Laws.{Exchange, mp_both}
+use Rattle.mp_merge.specs.Laws.{Exchange}
 use Rattle.mp_merge.proofs.ApplicationLemmas.{IsDocument-mp}
 use Rattle.mp_merge.proofs.ClashesByName.{clash-sym}
 use Rattle.mp_merge.proofs.Outcomes.{says-below_plain}
@@ -57,6 +57,9 @@ swap one two l (same is) = rw is
 
 -- ---- one after the other
 
+abbrev mp_both : Document → Document → Document → Document
+mp_both d p q = in_turn d (p ∷ q ∷ [])
+
 look-mp_both : (d p q : Document) → IsDocument d → IsDocument p → IsDocument q → (w : Path) → look (mp_both d p q) w ≡ or_else (says q w) (or_else (says p w) (look d w))
 look-mp_both d p q good first second w =
     look-mp (Some (mp (Some d) p)) q w (IsDocument-mp (Some d) p good first) second ∙ ap (or_else (says q w)) (look-mp (Some d) p w good first)
@@ -91,11 +94,15 @@ restored-left_of [] (plain v) here = refl
 restored-left_of (n ∷ w) (plain null) here = refl
 restored-left_of (n ∷ w) (plain v) here = refl
 
+-- so what two looks leave is the same only of one
+pub left_of-once : (w : Path) (l m : Look) → l ≢ nothing → m ≢ nothing → left_of l w ≡ left_of m w → l ≡ m
+left_of-once w l m here there alike = sym (restored-left_of w l here) ∙ ap (restored w) alike ∙ restored-left_of w m there
+
 compatible_if_same : (d p q : Document) → IsDocument d → IsDocument p → IsDocument q → mp_both d p q ≡ mp_both d q p → Compatible p q
 compatible_if_same d p q good first second equal w clash =
     let left : left_of (look p w) w ≡ left_of (look q w) w =
     sym (second_wins d q p good second first w clash.first) ∙ ap (λ e. look e w) (sym equal) ∙ second_wins d p q good first second w clash.second in
-    clash.differ (sym (restored-left_of w (look p w) clash.first) ∙ ap (restored w) left ∙ restored-left_of w (look q w) clash.second)
+    clash.differ (left_of-once w (look p w) (look q w) clash.first clash.second left)
 
 pub exchange : Exchange
 exchange d p q good first second = (compatible_if_same d p q good first second, same_if_compatible d p q good first second)

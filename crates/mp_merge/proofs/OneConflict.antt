@@ -1,27 +1,27 @@
 -- A list of patches has one first conflict, and none where it has a join or an outcome.
-use Rattle.std.proofs.Common.{◌≡◌, ◌<◌, ◌⊎◌, inl, inr, ℕ, zero, suc, List, [], ◌∷◌, Option, Some, slice_get, refl, sym, ap, ◌∙◌, subst, arith}
+use Rattle.std.proofs.Common.{◌≡◌, ◌<◌, ℕ, zero, suc, List, [], ◌∷◌, Some, slice_get, sym, ap, ◌∙◌, subst, arith}
 use Rattle.std.specs.List.{Contains}
-use Rattle.mp_tree.specs.Document.{Document, null, flag, whole, string, list, object}
-use Rattle.mp_tree.specs.Look.{Path, Look, nothing, an_object, plain, look}
+use Rattle.mp_tree.specs.Document.{Document}
+use Rattle.mp_tree.specs.Look.{Path, look}
 use Rattle.mp_merge.specs.Application.{in_turn}
 use Rattle.mp_merge.specs.Clash.{Clash, IsFirstClash}
 use Rattle.mp_merge.specs.Join.{IsJoin}
-use Rattle.mp_merge.specs.Lists.{IsClashBelow, IsFirstConflict}
-use Rattle.mp_merge.specs.Outcome.{IsOutcome, left_by}
 use Rattle.mp_merge.specs.Laws.{OutcomeExists, HasOneFirstConflict, CompatibleHaveNoConflict}
-use Rattle.mp_merge.specs.Lists.{PairwiseCompatible}
+use Rattle.mp_merge.specs.Lists.{PairwiseCompatible, IsClashBelow, IsFirstConflict}
+use Rattle.mp_merge.specs.Outcome.{IsOutcome}
 use Rattle.mp_merge.proofs.Elements.{Contains-head, Contains-tail}
+use Rattle.mp_merge.proofs.Exchange.{left_of-once}
 use Rattle.mp_merge.proofs.InTurn.{IsDocument-in_turn, applied_in_turn}
 use Rattle.mp_merge.proofs.Joins.{compatible_from_join}
+use Rattle.mp_merge.proofs.Numbered.{same_at}
 use Rattle.mp_merge.proofs.OneFirstClash.{one_first_clash}
+use Rattle.mp_merge.proofs.Outcomes.{follows_from_outcome}
+use Rattle.mp_merge.proofs.Says.{left_of, says-has}
 
 -- ---- the numbers and the place are one
 
 neither_less : (i k : ℕ) → (i < k → ⊥) → (k < i → ⊥) → i ≡ k
 neither_less i k one other = omega arith
-
-same_some : {X : Type 0} (o : Option X) (x y : X) → o ≡ Some x → o ≡ Some y → x ≡ y
-same_some o x y here there = cc
 
 -- the pair is at the first conflict, or after it
 no_earlier : (patches : List Document) (first second other_first other_second : ℕ) (place other_place : Path) → IsFirstConflict patches first second place
@@ -32,7 +32,7 @@ no_earlier patches first second other_first other_second place other_place confl
 module _ (patches : List Document) (second : ℕ) where
   no_less : (first other_first : ℕ) (place other_place : Path) → IsClashBelow patches first second place → IsClashBelow patches other_first second other_place → other_first < first → ⊥
   no_less first other_first place other_place one two less =
-      let same = same_some (slice_get patches second) two.other one.other two.at_second one.at_second in
+      let same = same_at patches second two.other one.other two.at_second one.at_second in
       one.least_first other_first two.one less two.at_first other_place (subst (λ (q : Document). Clash two.one q other_place) same two.conflict.here)
 
   same_first : (first other_first : ℕ) (place other_place : Path) → IsClashBelow patches first second place → IsClashBelow patches other_first second other_place → first ≡ other_first
@@ -41,8 +41,8 @@ module _ (patches : List Document) (second : ℕ) where
 
   same_place : (first : ℕ) (place other_place : Path) → IsClashBelow patches first second place → IsClashBelow patches first second other_place → place ≡ other_place
   same_place first place other_place one two =
-      let at_one = same_some (slice_get patches first) two.one one.one two.at_first one.at_first in
-      let at_other = same_some (slice_get patches second) two.other one.other two.at_second one.at_second in
+      let at_one = same_at patches first two.one one.one two.at_first one.at_first in
+      let at_other = same_at patches second two.other one.other two.at_second one.at_second in
       one_first_clash one.one one.other place other_place one.conflict
       (subst (λ (q : Document). IsFirstClash one.one q other_place) at_other (subst (λ (p : Document). IsFirstClash p two.other other_place) at_one two.conflict))
 
@@ -86,62 +86,12 @@ compatible_have_none patches first second place conflict free =
 pub conflict_has_no_join : (patches : List Document) (j : Document) (first second : ℕ) (place : Path) → IsJoin patches j → IsFirstConflict patches first second place → ⊥
 conflict_has_no_join patches j first second place joined conflict = compatible_have_none patches first second place conflict (compatible_from_join patches j joined)
 
--- below the root a null leaves nothing, and any other value itself
-left_below : (v : Document) (n : List ℕ) (w : Path) → ((v ≡ null) × (left_by v (n ∷ w) ≡ nothing)) ⊎ (left_by v (n ∷ w) ≡ plain v)
-left_below null n w = inl (refl, refl)
-left_below (flag b) n w = inr refl
-left_below (whole z) n w = inr refl
-left_below (string s) n w = inr refl
-left_below (list ds) n w = inr refl
-left_below (object ms) n w = inr refl
-
-same_plain : (v u : Document) → plain v ≡ plain u → v ≡ u
-same_plain v u same = cc
-
-plain_is_there : (v : Document) → plain v ≡ nothing → ⊥
-plain_is_there v same = absurd (cc)
-
--- what two values leave is the same only of one value
-left_once : (v u : Document) (w : Path) → left_by v w ≡ left_by u w → v ≡ u
-left_once v u [] same = same_plain v u same
-left_once v u (n ∷ w) same = by (left_below v n w) (left_below u n w)
-  where
-    by : ((v ≡ null) × (left_by v (n ∷ w) ≡ nothing)) ⊎ (left_by v (n ∷ w) ≡ plain v) → ((u ≡ null) × (left_by u (n ∷ w) ≡ nothing)) ⊎ (left_by u (n ∷ w) ≡ plain u) → v ≡ u
-    by (inl one) (inl two) = one.0 ∙ sym two.0
-    by (inl one) (inr two) = absurd (plain_is_there u (sym two ∙ sym same ∙ one.1))
-    by (inr one) (inl two) = absurd (plain_is_there v (sym one ∙ same ∙ two.1))
-    by (inr one) (inr two) = same_plain v u (sym one ∙ same ∙ two)
-
-left_is_no_map : (v : Document) (w : Path) → left_by v w ≡ an_object → ⊥
-left_is_no_map v [] same = absurd (cc)
-left_is_no_map v (n ∷ w) same = by (left_below v n w)
-  where
-    apart : (l : Look) → nothing ≡ l → l ≡ an_object → ⊥
-    apart l one two = absurd (cc)
-
-    plain_apart : (l : Look) → plain v ≡ l → l ≡ an_object → ⊥
-    plain_apart l one two = absurd (cc)
-
-    by : ((v ≡ null) × (left_by v (n ∷ w) ≡ nothing)) ⊎ (left_by v (n ∷ w) ≡ plain v) → ⊥
-    by (inl one) = apart (left_by v (n ∷ w)) (sym one.1) same
-    by (inr one) = plain_apart (left_by v (n ∷ w)) (sym one) same
-
-module _ (d e p q : Document) (patches : List Document) (w : Path) (outcome : IsOutcome d patches e) (one : Contains patches p) (two : Contains patches q) (clash : Clash p q w) where
-  by_looks : (l m : Look) → look p w ≡ l → look q w ≡ m → ⊥
-  by_looks nothing m here there = clash.first here
-  by_looks an_object nothing here there = clash.second there
-  by_looks (plain v) nothing here there = clash.second there
-  by_looks an_object an_object here there = clash.differ (here ∙ sym there)
-  by_looks (plain v) an_object here there = left_is_no_map v w (sym (outcome.set p one w v here) ∙ outcome.entered q two w there)
-  by_looks an_object (plain u) here there = left_is_no_map u w (sym (outcome.set q two w u there) ∙ outcome.entered p one w here)
-  by_looks (plain v) (plain u) here there = clash.differ (here ∙ ap plain (left_once v u w (sym (outcome.set p one w v here) ∙ outcome.set q two w u there)) ∙ sym there)
-
-  no_clash : ⊥
-  no_clash = by_looks (look p w) (look q w) refl refl
-
 -- patches that have an outcome are pairwise compatible
 compatible_from_outcome : (d : Document) (patches : List Document) (e : Document) → IsOutcome d patches e → PairwiseCompatible patches
-compatible_from_outcome d patches e outcome p q one two w clash = no_clash d e p q patches w outcome one two clash
+compatible_from_outcome d patches e outcome p q one two w clash =
+    let follows = follows_from_outcome d patches e outcome in
+    clash.differ (left_of-once w (look p w) (look q w) clash.first clash.second
+    (sym (follows.told p one w (left_of (look p w) w) (says-has p w clash.first)) ∙ follows.told q two w (left_of (look q w) w) (says-has q w clash.second)))
 
 pub outcome_exists : OutcomeExists
 outcome_exists d patches good all = (

@@ -18,7 +18,7 @@ use Rattle.mp_merge.specs.Rewriting.{IsRewriting, ListsEdits}
 abbrev pub ApplicationIsOutcome : Type 0
 ApplicationIsOutcome = (d p : Document) → IsDocument d → IsDocument p → IsOutcome d (p ∷ []) (mp (Some d) p)
 
--- a start and a collection have one outcome
+-- a start and a collection have at most one outcome
 abbrev pub HasOneOutcome : Type 0
 HasOneOutcome = (d : Document) (patches : List Document) (e f : Document) → IsDocument e → IsDocument f → IsOutcome d patches e → IsOutcome d patches f → e ≡ f
 
@@ -44,19 +44,16 @@ ReplicasAgree = (d : Document) (ps qs : List Document) (e f : Document) → Have
 
 -- ---- two patches, one after the other
 
-abbrev pub mp_both : Document → Document → Document → Document
-mp_both d p q = mp (Some (mp (Some d) p)) q
-
 -- two patches can be exchanged on a document exactly if they are compatible: so compatible ones on every document, and others on none
 abbrev pub Exchange : Type 0
-Exchange = (d p q : Document) → IsDocument d → IsDocument p → IsDocument q → (mp_both d p q ≡ mp_both d q p) ↔ Compatible p q
+Exchange = (d p q : Document) → IsDocument d → IsDocument p → IsDocument q → (in_turn d (p ∷ q ∷ []) ≡ in_turn d (q ∷ p ∷ [])) ↔ Compatible p q
 
 -- ---- clashes
 
 abbrev pub HasOneFirstClash : Type 0
 HasOneFirstClash = (p q : Document) (u w : Path) → IsFirstClash p q u → IsFirstClash p q w → u ≡ w
 
--- a list of patches has one first conflict
+-- a list of patches has at most one first conflict
 abbrev pub HasOneFirstConflict : Type 0
 HasOneFirstConflict = (patches : List Document) (first second other_first other_second : ℕ) (place other_place : Path) → IsFirstConflict patches first second place → IsFirstConflict patches other_first other_second other_place
     → (first ≡ other_first) × (second ≡ other_second) × (place ≡ other_place)
@@ -128,7 +125,7 @@ pub record IsJoinFromRight (p q r j : Document) : Type 0 where
 abbrev pub JoinIsAssociative : Type 0
 JoinIsAssociative = (p q r j : Document) → IsDocument p → IsDocument q → IsDocument r → IsJoinFromLeft p q r j ↔ IsJoinFromRight p q r j
 
--- a collection has one join
+-- a collection has at most one join
 abbrev pub HasOneJoin : Type 0
 HasOneJoin = (patches : List Document) (i j : Document) → IsDocument i → IsDocument j → IsJoin patches i → IsJoin patches j → i ≡ j
 
