@@ -1,6 +1,7 @@
 pub mod Application
 pub mod Clash
 pub mod ClashWalk
+pub mod Converging
 pub mod EditPlace
 pub mod EditWalk
 pub mod Headline

@@ -2,6 +2,7 @@
 #![tactic(auto)]
 
 pub mod comparing;
+pub mod converging;
 pub mod fault;
 pub mod joining;
 pub mod laws;
@@ -10,7 +11,8 @@ pub mod merging;
 pub mod rewriting;
 
 pub use comparing::{compatible, conflict};
-pub use fault::{JoinFault, ListFault};
+pub use converging::{Converged, converge};
+pub use fault::{ConvergeFault, JoinFault, ListFault};
 pub use joining::join;
 pub use lists::{join_all, replay, replay_owned};
 pub use merging::{merge, merge_owned};
