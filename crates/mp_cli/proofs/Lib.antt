@@ -3,5 +3,4 @@ pub mod CommandLineLemmas
 pub mod GetWord
 pub mod GivenWords
 pub mod OneAnswer
-pub mod OneFormFault
 pub mod RunLemmas
