@@ -10,8 +10,10 @@ use Rattle.mp_patch.specs.Operation.{Operation, add, remove, replace}
 use Rattle.mp_patch.specs.View.{operation_of, operations_of}
 use Rattle.mp_patch.specs.declared.op.Op.{Op}
 use Rattle.mp_merge.specs.Application.{mp, unless_null}
-use Rattle.mp_merge.specs.EditWalk.{Grew, IsOneEdit, NotBothMaps, AreEdits, AreMemberEdits}
+use Rattle.mp_merge.specs.EditWalk.{IsOneEdit, NotBothMaps, AreEdits, AreMemberEdits}
 use Rattle.mp_merge.specs.Rewriting.{part_left, leaving}
+use Rattle.mp_merge.specs.Walks.{Grew}
+use Rattle.mp_merge.proofs.Grown.{IsRestOf, rest_after_one}
 
 -- ---- a list that has grown
 
@@ -89,17 +91,14 @@ both_maps old new s place p t ps ds patch target there grew = rw (patch, target,
 -- ---- name by name
 
 -- what is still to be added, added to what is there, gives all that is added
-abbrev pub IsRestOf : List Operation → List Operation → Path → Members → Members → Members → Type 0
-IsRestOf before now s all left ds = (rest : List Operation) → AreMemberEdits s left ds rest → Grew before (now ++ rest) (AreMemberEdits s all ds)
+abbrev pub IsEditsRest : List Operation → List Operation → Path → Members → Members → Members → Type 0
+IsEditsRest before now s all left ds = IsRestOf before now (AreMemberEdits s left ds) (AreMemberEdits s all ds)
 
-pub rest_after_one : (before now later : List Operation) (s : Path) (all left ds : Members) (n : List ℕ) (p : Document) → IsRestOf before now s all (member n p left) ds → Grew now later (AreEdits (s ++ n ∷ []) p (find n ds))
-    → IsRestOf before later s all left ds
-rest_after_one before now later s all left ds n p whole_rest (first, is, edits) rest others =
-    let added = whole_rest (first ++ rest) (first, rest, refl, edits, others) in
-    (added.0, ap (λ os. os ++ rest) is ∙ append_assoc now first rest ∙ added.1, added.2)
-
-pub grew_by_all : (before now : List Operation) (s : Path) (all left ds : Members) → IsRestOf before now s all left ds → AreMemberEdits s left ds [] → Grew before now (AreMemberEdits s all ds)
-grew_by_all before now s all left ds rest none = let added = rest [] none in (added.0, sym (append-nil now) ∙ added.1, added.2)
+pub edits_after_one : (before now later : List Operation) (s : Path) (all left ds : Members) (n : List ℕ) (p : Document) → IsEditsRest before now s all (member n p left) ds → Grew now later (AreEdits (s ++ n ∷ []) p (find n ds))
+    → IsEditsRest before later s all left ds
+edits_after_one before now later s all left ds n p =
+    rest_after_one before now later (AreEdits (s ++ n ∷ []) p (find n ds)) (AreMemberEdits s left ds) (AreMemberEdits s (member n p left) ds) (AreMemberEdits s all ds)
+    (λ first rest here others. (first, rest, refl, here, others))
 
 -- a borrowed part of the document, as it is found
 pub lent_part : (o : Option (Bor Doc)) → option_map (λ (v : Bor Doc). document v.now) o ≡ option_map document (option_copied o)

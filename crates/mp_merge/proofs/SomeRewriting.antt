@@ -1,12 +1,17 @@
--- A document and a patch have a rewriting.
-use Rattle.std.proofs.Common.{◌≡◌, inl, inr, List, [], ◌∷◌, ◌++◌, Option, None, Some, refl, ap}
+-- A document and a patch have a rewriting, and its values are documents.
+use Rattle.std.proofs.Common.{◌≡◌, inl, inr, List, [], ◌∷◌, ◌++◌, Option, None, Some, IfSome, map, refl, sym, ap, subst}
 use Rattle.std.proofs.Math.Decide.{map_dec}
-use Rattle.mp_tree.specs.Document.{Document, object, Members, no_members, member, find}
-use Rattle.mp_tree.specs.Look.{Path, look_of}
+use Rattle.mp_tree.specs.Document.{Document, null, flag, whole, string, list, object, Members, no_members, member, find, IsDocument}
+use Rattle.mp_tree.specs.Look.{Path, Look, nothing, an_object, plain, look, look_of}
+use Rattle.mp_pointer.specs.Part.{part}
+use Rattle.mp_patch.specs.Laws.{HasDocument, HaveDocuments}
+use Rattle.mp_patch.proofs.Facts.{part-document}
 use Rattle.mp_patch.specs.Operation.{Operation}
 use Rattle.mp_merge.specs.EditWalk.{IsOneEdit, AreEdits, AreMemberEdits}
-use Rattle.mp_merge.specs.Laws.{RewritingExists}
-use Rattle.mp_merge.specs.Rewriting.{part_left, leaving}
+use Rattle.mp_merge.specs.Laws.{RewritingExists, RewritingHasDocuments}
+use Rattle.mp_merge.specs.Rewriting.{part_left, leaving, edit}
+use Rattle.mp_merge.specs.Application.{mp, unless_null}
+use Rattle.mp_merge.proofs.ApplicationLemmas.{IsDocument-mp}
 use Rattle.mp_merge.proofs.Listings.{walk_is_rewriting}
 use Rattle.mp_merge.proofs.Looks.{decide_document}
 
@@ -36,3 +41,38 @@ mutual
 
 pub rewriting_exists : RewritingExists
 rewriting_exists d p good = let edits = some_edits p [] (Some d) in (edits.0, walk_is_rewriting d p edits.0 good edits.1)
+
+-- ---- its values
+
+HasDocument-leaving : (w : Path) (l : Look) (v : Option Document) → IfSome v IsDocument → HasDocument (leaving w l v)
+HasDocument-leaving w l None good = tt
+HasDocument-leaving w nothing (Some v) good = good
+HasDocument-leaving w an_object (Some v) good = good
+HasDocument-leaving w (plain x) (Some v) good = good
+
+IsDocument-unless_null : (q : Document) → IsDocument q → IfSome (unless_null q (mp None q)) IsDocument
+IsDocument-unless_null null good = tt
+IsDocument-unless_null (flag b) good = tt
+IsDocument-unless_null (whole z) good = tt
+IsDocument-unless_null (string s) good = tt
+IsDocument-unless_null (list ds) good = good
+IsDocument-unless_null (object ms) good = IsDocument-mp None (object ms) tt good
+
+IsDocument-part_left : (w : Path) (q : Option Document) → IfSome q IsDocument → IfSome (part_left w q) IsDocument
+IsDocument-part_left w None good = tt
+IsDocument-part_left [] (Some q) good = IsDocument-mp None q tt good
+IsDocument-part_left (n ∷ w) (Some q) good = IsDocument-unless_null q good
+
+IsDocument-part : (p : Document) (w : Path) → IsDocument p → (q : Option Document) → part p w ≡ q → IfSome q IsDocument
+IsDocument-part p w good None is = tt
+IsDocument-part p w good (Some q) is = part-document w p q good is
+
+have_documents : (d p : Document) → IsDocument p → (places : List Path) → HaveDocuments (map (edit d p) places)
+have_documents d p good [] = tt
+have_documents d p good (w ∷ places) = (
+  HasDocument-leaving w (look d w) (part_left w (part p w)) (IsDocument-part_left w (part p w) (IsDocument-part p w good (part p w) refl)),
+  have_documents d p good places,
+)
+
+pub rewriting_has_documents : RewritingHasDocuments
+rewriting_has_documents d p operations good patch is = subst HaveDocuments (sym is.edits) (have_documents d p patch is.places)

@@ -5,10 +5,6 @@ use Rattle.mp_tree.specs.Look.{Path, an_object, look, look_of}
 use Rattle.mp_patch.specs.Operation.{Operation}
 use Rattle.mp_merge.specs.Rewriting.{part_left, leaving}
 
--- the list has grown at its end by operations of which that holds
-abbrev pub Grew : List Operation → List Operation → (List Operation → Type 0) → Type 0
-Grew old new Holds = (added : List Operation) × (new ≡ old ++ added) × Holds added
-
 -- at the path s: no operation where what the patch leaves stands there, else the one that leaves it
 abbrev pub IsOneEdit : Path → Document → Option Document → List Operation → Type 0
 IsOneEdit s p t operations =

@@ -1,5 +1,6 @@
 pub mod Application
 pub mod Clash
+pub mod ClashWalk
 pub mod EditPlace
 pub mod EditWalk
 pub mod Headline

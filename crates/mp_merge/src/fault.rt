@@ -8,9 +8,9 @@ use thiserror::Error;
 /// Why two patches have no join.
 #[derive(Debug, Drop, Error)]
 pub enum JoinFault {
-    /// The patches clash; the pointer leads to their first conflict.
+    /// The patches clash; the pointers lead to all their conflicts, in the order of paths.
     #[error("conflict")]
-    Conflict(Pointer),
+    Conflict(Vec<Pointer>),
     /// Memory ran out.
     #[error("out of memory")]
     OutOfMemory,
@@ -33,12 +33,12 @@ pub enum ListFault {
     #[error("no patches")]
     NoPatches,
     /// `second` is the least number of a patch that clashes with an earlier one, `first` the least number of a patch
-    /// that clashes with it, and `place` leads to the first conflict of the two.
+    /// that clashes with it, and `places` lead to all conflicts of the two, in the order of paths.
     #[error("conflict of patches {first} and {second}")]
     ConflictOf {
         first: usize,
         second: usize,
-        place: Pointer,
+        places: Vec<Pointer>,
     },
     /// Memory ran out.
     #[error("out of memory")]

@@ -5,8 +5,9 @@ ghost use Rattle.mp_tree.specs.View.{document, members};
 ghost use Rattle.mp_patch.specs.Run.{Runs};
 ghost use Rattle.mp_patch.specs.View.{operations_of};
 ghost use Rattle.mp_merge.specs.Application.{mp};
-ghost use Rattle.mp_merge.specs.EditWalk.{Grew, IsOneEdit, NotBothMaps, AreEdits, AreMemberEdits};
+ghost use Rattle.mp_merge.specs.EditWalk.{IsOneEdit, NotBothMaps, AreEdits, AreMemberEdits};
 ghost use Rattle.mp_merge.specs.Rewriting.{IsRewriting};
+ghost use Rattle.mp_merge.specs.Walks.{Grew};
 
 use crate::merging::{is_null, merge};
 use mp_patch::{JsonPatch, Op};

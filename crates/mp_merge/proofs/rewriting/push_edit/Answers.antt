@@ -5,7 +5,8 @@ use Rattle.mp_tree.specs.View.{document}
 use Rattle.mp_tree.specs.declared.doc.Doc.{Doc}
 use Rattle.mp_patch.specs.View.{operations_of}
 use Rattle.mp_merge.proofs.EditWalks.{grew_by_one, leaves_value, edit_removes, edit_adds, edit_replaces}
-use Rattle.mp_merge.specs.EditWalk.{Grew, IsOneEdit, NotBothMaps}
+use Rattle.mp_merge.specs.EditWalk.{IsOneEdit, NotBothMaps}
+use Rattle.mp_merge.specs.Walks.{Grew}
 use Rattle.mp_merge.proofs.rewriting.push_edit.Goals as goal
 
 pub returns-then-is_null : goal.returns-then-is_null
