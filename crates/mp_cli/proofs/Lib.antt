@@ -4,3 +4,4 @@ pub mod GetWord
 pub mod GivenWords
 pub mod OneAnswer
 pub mod RunLemmas
+pub mod SomeAnswer
