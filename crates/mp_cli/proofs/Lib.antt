@@ -3,5 +3,5 @@ pub mod CommandLineLemmas
 pub mod GetWord
 pub mod GivenWords
 pub mod OneAnswer
-pub mod OneFormFault
 pub mod RunLemmas
+pub mod SomeAnswer

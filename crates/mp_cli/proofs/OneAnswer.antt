@@ -1,16 +1,16 @@
 -- The program has one answer to a command and its input bytes.
-use Rattle.std.proofs.Common.{◌≡◌, ◌≢◌, ℕ, List, [], ◌∷◌, Result, Ok, Err, Option, Some, IfSome, refl, sym, ap, ◌∙◌, subst, codes}
-use Rattle.mp_tree.specs.Document.{Document, Items, no_items, item, Members, find, IsDocument, AreDocuments, IsMap}
+use Rattle.std.proofs.Common.{◌≡◌, ◌≢◌, ℕ, List, [], Result, Ok, Err, refl, sym, ap, ◌∙◌, subst}
+use Rattle.mp_tree.specs.Document.{Document, Items, no_items, item, IsDocument, AreDocuments}
 use Rattle.mp_tree.specs.Text.{documents_in}
 use Rattle.mp_tree.specs.declared.read.DocsFault.{DocsFault}
-use Rattle.mp_tree.proofs.Facts.{AreDocuments-documents_in, IsDocument-find}
-use Rattle.mp_patch.specs.Form.{AreForms, EachForm, Carries, needed, shapes}
-use Rattle.mp_patch.specs.Laws.{HasDocument, HaveDocuments}
-use Rattle.mp_patch.specs.Operation.{Operation, add, remove, replace, move, copy, test}
+use Rattle.mp_tree.proofs.Facts.{AreDocuments-documents_in}
+use Rattle.mp_patch.specs.Form.{shapes}
+use Rattle.mp_patch.specs.Laws.{HaveDocuments}
+use Rattle.mp_patch.specs.Operation.{Operation}
 use Rattle.mp_patch.specs.Run.{Runs, IsFaultOf}
 use Rattle.mp_patch.specs.declared.fault.ApplyFault.{ApplyFault}
 use Rattle.mp_patch.specs.declared.fault.ApplyFault.TheVariants.{Refused, OutOfMemory}
-use Rattle.mp_patch.proofs.Facts.{forms_have_no_fault, has_one_reading, has_one_end, runs_unrefused, has_one_refusal}
+use Rattle.mp_patch.proofs.Facts.{forms_have_documents, forms_have_no_fault, has_one_fault, has_one_reading, has_one_end, runs_unrefused, has_one_refusal}
 use Rattle.mp_merge.proofs.Facts.{told_has_no_join, told_has_no_outcome, told_has_patches, empty_has_no_join, one_join, one_outcome, one_rewriting, one_told}
 use Rattle.mp_merge.specs.Join.{IsJoin}
 use Rattle.mp_merge.specs.Lists.{IsToldPair}
@@ -19,29 +19,8 @@ use Rattle.mp_cli.specs.Answered.{Answered, listed, result_line, conflict_line, 
 use Rattle.mp_cli.specs.Laws.{HasOneAnswer}
 use Rattle.mp_cli.specs.declared.command.Command.{Command}
 use Rattle.mp_cli.specs.declared.command.Command.TheVariants.{Get, Patch, Merge, Join, Replay, Rewrite}
-use Rattle.mp_cli.proofs.OneFormFault.{one_form_fault}
 
 -- ---- `patch`
-
-value_is_document : (ms : Members) (v : Document) → IsMap ms → find (codes "value") ms ≡ Some v → IsDocument v
-value_is_document ms v good at = subst (λ (o : Option Document). IfSome o IsDocument) at (IsDocument-find (codes "value") ms good)
-
-carried_document : (ms : Members) (o : Operation) → IsMap ms → Carries ms (needed o) → HasDocument o
-carried_document ms (add t v) good carries = value_is_document ms v good carries.1.1.0
-carried_document ms (remove t) good carries = tt
-carried_document ms (replace t v) good carries = value_is_document ms v good carries.1.1.0
-carried_document ms (move f t) good carries = tt
-carried_document ms (copy f t) good carries = tt
-carried_document ms (test t v) good carries = value_is_document ms v good carries.1.1.0
-
-each_document : (ds : Items) (operations : List Operation) → AreDocuments ds → EachForm ds operations → HaveDocuments operations
-each_document no_items [] good forms = tt
-each_document no_items (o ∷ operations) good forms = absurd forms
-each_document (item d ds) [] good forms = absurd forms
-each_document (item d ds) (o ∷ operations) good ((ms, is, carries), forms) = (carried_document ms o (subst IsDocument is good.0) carries, each_document ds operations good.1 forms)
-
-forms_of_documents : (patch : Document) (operations : List Operation) → IsDocument patch → AreForms patch operations → HaveDocuments operations
-forms_of_documents patch operations good (ds, is, forms) = each_document ds operations (subst IsDocument is good) forms
 
 module _ (d : Document) (operations : List Operation) (a b : Answered) (good : IsDocument d) (values : HaveDocuments operations) where
   not_both : (e : Document) (fault : ApplyFault) → Runs d operations e → fault ≢ OutOfMemory → IsFaultOf fault d operations → ⊥
@@ -62,12 +41,12 @@ module _ (d : Document) (operations : List Operation) (a b : Answered) (good : I
   one_run (halted fault memory refused is) (halted other also again was) = is ∙ one_fault fault other memory also refused again ∙ sym was
 
 one_patch : (d patch : Document) (a b : Answered) → IsDocument d → IsDocument patch → IsPatchAnswer d patch a → IsPatchAnswer d patch b → a ≡ b
-one_patch d patch a b good fine (malformed fault memory one is) (malformed other also two was) = is ∙ ap form_fault (one_form_fault fault other patch memory also one two) ∙ sym was
+one_patch d patch a b good fine (malformed fault memory one is) (malformed other also two was) = is ∙ ap form_fault (has_one_fault patch fault other memory also one two) ∙ sym was
 one_patch d patch a b good fine (malformed fault memory one is) (formed operations forms runs) = absurd (memory (forms_have_no_fault patch operations fault forms one))
 one_patch d patch a b good fine (formed operations forms runs) (malformed fault memory one is) = absurd (memory (forms_have_no_fault patch operations fault forms one))
 one_patch d patch a b good fine (formed operations forms runs) (formed others also more) =
     let same = has_one_reading patch others operations also forms in
-    one_run d operations a b good (forms_of_documents patch operations fine forms) runs (subst (λ (os : List Operation). IsRunAnswer d os b) same more)
+    one_run d operations a b good (forms_have_documents patch operations fine forms) runs (subst (λ (os : List Operation). IsRunAnswer d os b) same more)
 
 one_patch_to : (ds : Items) (a b : Answered) → AreDocuments ds → IsPatchAnswerTo ds a → IsPatchAnswerTo ds b → a ≡ b
 one_patch_to no_items a b good is was = is ∙ sym was

@@ -1,4 +1,5 @@
 pub mod Edit
+pub mod First
 pub mod Form
 pub mod Laws
 pub mod Operation
