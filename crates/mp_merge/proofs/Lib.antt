@@ -13,6 +13,7 @@ pub mod Exchange
 pub mod Facts
 pub mod Grown
 pub mod Headline
+pub mod InPlace
 pub mod InTurn
 pub mod Joins
 pub mod Listings

@@ -1,7 +1,7 @@
 -- Laws of merge patches alone. Each is the contract of a function of the module `laws` that runs nothing.
 use Rattle.std.specs.Prelude.{◌≡◌, ◌≢◌, ◌≤◌, ◌↔◌, ◌⊎◌, ℕ, List, [], ◌∷◌, ◌++◌, Option, None, Some, IfSome}
 use Rattle.std.specs.List.{All, Contains}
-use Rattle.mp_tree.specs.Document.{Document, object, Members, find, IsDocument, IsMap, depth, depth_limit}
+use Rattle.mp_tree.specs.Document.{Document, null, object, Members, find, IsDocument, IsMap, depth, depth_limit}
 use Rattle.mp_tree.specs.Look.{Path, plain, look}
 use Rattle.mp_patch.specs.Laws.{HaveDocuments}
 use Rattle.mp_patch.specs.Operation.{Operation}
@@ -11,6 +11,7 @@ use Rattle.mp_merge.specs.Clash.{Clash, Compatible, AreAllClashes}
 use Rattle.mp_merge.specs.Join.{IsJoin}
 use Rattle.mp_merge.specs.Lists.{PairwiseCompatible, AreWithin, IsToldPair}
 use Rattle.mp_merge.specs.Outcome.{IsOutcome}
+use Rattle.mp_merge.specs.Resumption.{AreTries, last_of}
 use Rattle.mp_merge.specs.Rewriting.{IsRewriting, ListsEdits}
 
 -- ---- application (RFC 7396 section 2)
@@ -24,6 +25,18 @@ AppliesAtEachName =
 -- and any other patch is the result
 abbrev pub OthersReplace : Type 0
 OthersReplace = (t : Option Document) (p : Document) → look p [] ≡ plain p → mp t p ≡ p
+
+-- merging into null gives what merging into nothing gives
+abbrev pub MergesIntoNull : Type 0
+MergesIntoNull = (p : Document) → mp (Some null) p ≡ mp None p
+
+-- applying a patch twice is applying it once
+abbrev pub AppliedOnce : Type 0
+AppliedOnce = (d p : Document) → IsDocument d → IsDocument p → mp (Some (mp (Some d) p)) p ≡ mp (Some d) p
+
+-- after any number of tries that were refused, one that succeeds leaves one application to the first target
+abbrev pub TriesResume : Type 0
+TriesResume = (d p : Document) (tries : List Document) → AreTries p d tries → mp (Some (last_of d tries)) p ≡ mp (Some d) p
 
 -- ---- outcomes
 

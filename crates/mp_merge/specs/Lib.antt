@@ -8,6 +8,8 @@ pub mod Headline
 pub mod Join
 pub mod Laws
 pub mod Lists
+pub mod MergeWalk
 pub mod Outcome
+pub mod Resumption
 pub mod Rewriting
 pub mod Walks

@@ -1,6 +1,6 @@
 //! Laws over documents and merge patches alone: each function runs nothing, and its contract is the law.
 ghost use Rattle.mp_merge.specs.Headline.{ReplicasConverge};
-ghost use Rattle.mp_merge.specs.Laws.{AppliesAtEachName, OthersReplace, ApplicationIsOutcome, HasOneOutcome, AppliedInTurn, OutcomeExists, ReplicasAgree, Exchange, ClashesExist, HaveOneList, EmptyIfCompatible, CompatibleOrTold, CompatibleHaveNone, HasOneToldPair, ClashWithAJoin, CompatibleByNames, CompatibleIfEqual, JoinByNames, JoinOfEqual, JoinIsIdempotent, JoinIsCommutative, JoinIsAssociative, JoinGrows, HasOneJoin, EmptyHasNoJoin, JoinExists, PairHasJoin, JoinIsNoDeeper, JoinGivesOutcome, RewritingExists, HasOneRewriting, RewritingHasDocuments, EmptyRewriting, EditsInAnyOrder, RewritingRuns};
+ghost use Rattle.mp_merge.specs.Laws.{AppliesAtEachName, OthersReplace, MergesIntoNull, AppliedOnce, TriesResume, ApplicationIsOutcome, HasOneOutcome, AppliedInTurn, OutcomeExists, ReplicasAgree, Exchange, ClashesExist, HaveOneList, EmptyIfCompatible, CompatibleOrTold, CompatibleHaveNone, HasOneToldPair, ClashWithAJoin, CompatibleByNames, CompatibleIfEqual, JoinByNames, JoinOfEqual, JoinIsIdempotent, JoinIsCommutative, JoinIsAssociative, JoinGrows, HasOneJoin, EmptyHasNoJoin, JoinExists, PairHasJoin, JoinIsNoDeeper, JoinGivesOutcome, RewritingExists, HasOneRewriting, RewritingHasDocuments, EmptyRewriting, EditsInAnyOrder, RewritingRuns};
 
 /// Application in the words of RFC 7396 section 2: a patch that is no object is the result. An object makes an object of
 /// every target, in which a name that the patch does not carry stays as it was, a null removes it, and any other value
@@ -8,6 +8,14 @@ ghost use Rattle.mp_merge.specs.Laws.{AppliesAtEachName, OthersReplace, Applicat
 pub fn applies_at_each_name()
     ensures objects { AppliesAtEachName }
     ensures others { OthersReplace }
+{}
+
+/// Merging a patch into null gives what merging it into nothing gives, and applying it twice is applying it once. So a
+/// merge in place that was refused for want of memory, however often, is made whole by one that succeeds.
+pub fn merging_again()
+    ensures into_null { MergesIntoNull }
+    ensures twice { AppliedOnce }
+    ensures tries { TriesResume }
 {}
 
 /// One application of a patch is what the outcome of that patch alone asks for at every path: its values are set, its

@@ -4,6 +4,7 @@
 pub mod comparing;
 pub mod converging;
 pub mod fault;
+pub mod in_place;
 pub mod joining;
 pub mod laws;
 pub mod lists;
@@ -13,11 +14,14 @@ pub mod rewriting;
 pub use comparing::{compatible, conflict};
 pub use converging::{Converged, converge};
 pub use fault::{ConvergeFault, JoinFault, ListFault};
+pub use in_place::merge_into;
 pub use joining::join;
 pub use lists::{join_all, replay, replay_owned};
 pub use merging::{merge, merge_owned};
 pub use rewriting::rewrite;
 
+#[cfg(test)]
+mod in_place_tests;
 #[cfg(test)]
 mod rewriting_tests;
 #[cfg(test)]
