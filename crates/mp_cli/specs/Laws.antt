@@ -1,6 +1,7 @@
 -- Laws of the program. Each is the contract of a function of the module `laws` that runs nothing.
 use Rattle.std.specs.Prelude.{◌≡◌, ℕ, List, [], ◌∷◌, Some, true, codes}
 use Rattle.clap.specs.Words.{Text, takes}
+use Rattle.mp_pointer.specs.Spelling.{Tokens, spell}
 use Rattle.mp_cli.specs.Answered.{Answered, IsAnswered}
 use Rattle.mp_cli.specs.CommandLine.{asked_for, command_line, pointer_given}
 use Rattle.mp_cli.specs.declared.command.Command.{Command}
@@ -23,11 +24,11 @@ TakesPointer pointer =
     let words = codes "mergejoin" ∷ codes "get" ∷ pointer ∷ [] in
     Takes words (codes "get") × (pointer_given words ≡ Some pointer)
 
--- the words of each of the six commands are taken: so `command_of` is not refused them, but for want of memory
+-- the words of each of the six commands are taken, and `get` with the spelling of every pointer: so `command_of`
+-- gives the command, but for want of memory
 abbrev pub TakesEachCommand : Type 0
 TakesEachCommand =
-    TakesPointer []
-    × TakesPointer (codes "/a")
+    ((t : Tokens) → TakesPointer (spell t))
     × Takes (codes "mergejoin" ∷ codes "patch" ∷ []) (codes "patch")
     × Takes (codes "mergejoin" ∷ codes "merge" ∷ []) (codes "merge")
     × Takes (codes "mergejoin" ∷ codes "join" ∷ []) (codes "join")

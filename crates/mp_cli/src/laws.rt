@@ -12,8 +12,8 @@ pub fn one_answer()
     ensures { HasOneAnswer }
 {}
 
-/// The command line takes the words of each of the six commands, with the program's name first: so on them
-/// `command_of` gives the command, where memory does not run out.
+/// The command line takes the words of each of the six commands, with the program's name first, and for `get` the
+/// spelling of every pointer: so on them `command_of` gives the command, where memory does not run out.
 pub fn takes_each_command()
     ensures { TakesEachCommand }
 {}
