@@ -5,3 +5,4 @@ pub mod GivenWords
 pub mod OneAnswer
 pub mod RunLemmas
 pub mod SomeAnswer
+pub mod TakenWords
