@@ -12,6 +12,7 @@ pub mod Elements
 pub mod Exchange
 pub mod Facts
 pub mod Grown
+pub mod Guards
 pub mod Headline
 pub mod InPlace
 pub mod InTurn
