@@ -108,7 +108,7 @@ bytes_differ xs ys b is differ same = true≢false (sym ((bytes_eq-Decides xs ys
 here : (token : List ℕ) (i : ℕ) → token ≡ numeral i → bytes_eq token (numeral i) ≡ true
 here token i is = (bytes_eq-Decides token (numeral i)).1 is
 
-elsewhere : (token : List ℕ) (i : ℕ) → token ≢ numeral i → bytes_eq token (numeral i) ≡ false
+pub elsewhere : (token : List ℕ) (i : ℕ) → token ≢ numeral i → bytes_eq token (numeral i) ≡ false
 elsewhere token i other = split (bytes_eq token (numeral i)) refl
   where
     split : (b : Bool) → bytes_eq token (numeral i) ≡ b → b ≡ false

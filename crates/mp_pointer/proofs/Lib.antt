@@ -1,6 +1,9 @@
+pub mod ChildLemmas
 pub mod Facts
+pub mod Following
 pub mod IndexLemmas
 pub mod KindLemmas
 pub mod PartLemmas
 pub mod SpellingLemmas
 pub mod TokenLemmas
+pub mod WalkLemmas

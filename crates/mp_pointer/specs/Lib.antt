@@ -1,4 +1,5 @@
 pub mod Laws
+pub mod Lent
 pub mod Only
 pub mod Part
 pub mod Spelling

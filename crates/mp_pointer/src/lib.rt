@@ -3,6 +3,7 @@
 
 pub mod fault;
 pub mod laws;
+mod lent;
 pub mod pointer;
 mod spelling;
 #[cfg(test)]
@@ -11,4 +12,4 @@ pub mod walk;
 
 pub use fault::PointerFault;
 pub use pointer::Pointer;
-pub use walk::{get, index_of};
+pub use walk::{get, get_mut, index_of};

@@ -1,6 +1,6 @@
 //! Worked values: spellings, indices, and the example document of RFC 6901 section 5.
-use crate::{Pointer, PointerFault, get, index_of};
-use mp_tree::{read_docs, write_doc};
+use crate::{Pointer, PointerFault, get, get_mut, index_of};
+use mp_tree::{read_doc, read_docs, write_doc};
 use std::process::Abort;
 use std::test::Fail;
 
@@ -36,6 +36,29 @@ const PARTS: &[(&str, &str, Option<&str>)] = &[
     (r#"[{"foo":["bar","baz"]}]"#, "/foo/2", None),
     (r#"[{"foo":["bar","baz"]}]"#, "/foo/01", None),
     (r#"[{"foo":["bar","baz"]}]"#, "/foo/-", None),
+];
+
+/// A document and a value in an array, a pointer, and what the document is once the value was written there, where
+/// there is such a part.
+const WRITES: &[(&str, &str, Option<&str>)] = &[
+    (r#"[{"a":[1,2]},9]"#, "/a/1", Some(r#"{"a":[1,9]}"#)),
+    (r#"[{"a":[1,2]},9]"#, "/a/2", None),
+    (r#"[{"a":[1,2]},9]"#, "/a/01", None),
+    (r#"[{"a":[1,2]},9]"#, "/a/-", None),
+    (r#"[{"a":[1,2]},9]"#, "/b", None),
+    (r#"[{"a":[1,2]},9]"#, "/a/1/0", None),
+    (
+        r#"[{"a":[1,{"b":2}]},{"c":[{"d":{}}]}]"#,
+        "/a/1/b",
+        Some(r#"{"a":[1,{"b":{"c":[{"d":{}}]}}]}"#),
+    ),
+    (
+        r#"[{"a":{"b":{"c":1}},"d":2},null]"#,
+        "/a/b",
+        Some(r#"{"a":{"b":null},"d":2}"#),
+    ),
+    (r#"[{"a":[1,2]},[3]]"#, "", Some("[3]")),
+    ("[5,6]", "", Some("6")),
 ];
 
 /// Texts that are no pointer.
@@ -85,6 +108,52 @@ fn parts(rt: HostRuntime) -> Result<(), Fail> {
             Some(part) => {
                 let found = write_doc(rt.alloc(), part)?;
                 assert_eq!(rt; Some(found.as_str()), *wanted, "at {text} in {input}");
+            }
+            None => assert_eq!(rt; None, *wanted, "at {text} in {input}"),
+        }
+    }
+    Ok(())
+}
+
+#[test]
+fn writes(rt: HostRuntime) -> Result<(), Fail> {
+    for (input, text, wanted) in WRITES {
+        let mut docs = read_docs(rt.alloc(), input.as_bytes())?;
+        let pointer = Pointer::parse(rt.alloc(), text)?;
+        let (Some(value), Some(mut doc)) = (docs.pop(), docs.pop()) else {
+            panic!(rt; "no document and value in {input}")
+        };
+        let before = write_doc(rt.alloc(), &doc)?;
+        match get_mut(&mut doc, &pointer) {
+            Some(part) => *part = value,
+            None => assert_eq!(rt; None, *wanted, "at {text} in {input}"),
+        }
+        let after = write_doc(rt.alloc(), &doc)?;
+        assert_eq!(rt;
+            after.as_str(),
+            wanted.unwrap_or(before.as_str()),
+            "at {text} in {input}"
+        );
+    }
+    Ok(())
+}
+
+#[test]
+fn written_parts(rt: HostRuntime) -> Result<(), Fail> {
+    for (input, text, wanted) in PARTS {
+        let mut docs = read_docs(rt.alloc(), input.as_bytes())?;
+        let pointer = Pointer::parse(rt.alloc(), text)?;
+        let Some(mut doc) = docs.pop() else {
+            panic!(rt; "no document in {input}")
+        };
+        match get_mut(&mut doc, &pointer) {
+            Some(part) => *part = read_doc(rt.alloc(), br#"["new"]"#)?,
+            None => assert_eq!(rt; None, *wanted, "at {text} in {input}"),
+        }
+        match get(&doc, &pointer) {
+            Some(part) => {
+                let found = write_doc(rt.alloc(), part)?;
+                assert_eq!(rt; found.as_str(), r#"["new"]"#, "at {text} in {input}");
             }
             None => assert_eq!(rt; None, *wanted, "at {text} in {input}"),
         }

@@ -1,7 +1,10 @@
 ghost use Rattle.std.specs.Prelude.{◌≡◌, ◌≢◌, ◌^◌, ◌≤◌, ◌↔◌, ℕ, IsTrue, slice_index, option_map, MatchOption, string_bytes};
+ghost use Rattle.std.specs.Borrow.{sem};
 ghost use Rattle.mp_tree.specs.View.{document};
+ghost use Rattle.mp_pointer.specs.Lent.{LendsPart};
 ghost use Rattle.mp_pointer.specs.Part.{child, numeral, part};
 
+use crate::lent::child_mut;
 use crate::pointer::Pointer;
 use mp_tree::Doc;
 
@@ -46,6 +49,31 @@ pub fn get<'a>(doc: &'a Doc, pointer: &Pointer) -> Option<&'a Doc>
     let mut target = doc;
     for token in pointer.tokens() {
         target = child_of(target, token.as_str())?;
+    }
+    Some(target)
+}
+
+/// The part of the document that the pointer names, lent for writing (RFC 6901 section 4). None exactly where `get`
+/// answers None, and then nothing has changed. Once the borrow ends, the document differs from the old one at that
+/// place alone, and has there what was left in the borrow. Takes no memory.
+///
+/// ```text
+/// // {"a":[1,2]} becomes {"a":[1,null]}, where pointer is /a/1
+/// if let Some(part) = get_mut(&mut doc, &pointer) {
+///     *part = Doc::Null;
+/// }
+/// ```
+// proofs/walk/get_mut/Proof.antt follows this body statement by statement.
+pub fn get_mut<'a>(doc: &'a mut Doc, pointer: &Pointer) -> Option<&'a mut Doc>
+    ensures* writes_back { sem 𝓛 (LendsPart pointer.now doc.entry result) }
+    ensures value { option_map (λ d. document d.now) result ≡ part (document doc.old) pointer.now }
+{
+    let mut target = doc;
+    for place in 0..pointer.len() {
+        match child_mut(target, pointer, place) {
+            Some(child) => target = child,
+            None => return None,
+        }
     }
     Some(target)
 }

@@ -1,12 +1,11 @@
 -- What a change to a map does to the members that it means.
-use Rattle.std.proofs.Common.{◌≡◌, ℕ, List, [], ◌∷◌, map, Bool, true, false, cond, Option, Some, None, option_map, String, BTreeMap, Global, is_eq, bytes_eq, string_bytes, string_cmp, Less, refl, sym, ap, ap₂, ◌∙◌}
+use Rattle.std.proofs.Common.{◌≡◌, ℕ, List, [], ◌∷◌, Bool, true, false, cond, Option, Some, None, option_map, String, BTreeMap, Global, bytes_eq, string_bytes, string_cmp, refl, sym, ap, ◌∙◌}
 use Rattle.std.proofs.lemmas.Cmp.{nat_list_cmp_total, eq_by_cmp_equiv}
 use Rattle.std.proofs.lemmas.Map.Text.{is_eq-slice_cmp, btree_map_updates_text}
-use Rattle.std.specs.BTreeMap.{UpdatesBy, IsUnchanged, get_by_text, is_at}
-use Rattle.std.specs.List.{AllByRecursion}
+use Rattle.std.specs.BTreeMap.{UpdatesBy, get_by_text, is_at}
 use Rattle.std.specs.List.Sorted.{IsStrictlySortedBy}
-use Rattle.std.specs.Map.{keys_of, lookup, update}
-use Rattle.mp_tree.specs.Document.{Document, Members, no_members, member, name_cmp, is_name, find, put, without, IsMap, IsDocument}
+use Rattle.std.specs.Map.{keys_of, lookup}
+use Rattle.mp_tree.specs.Document.{Document, member, name_cmp, is_name, find, put, without, IsMap}
 use Rattle.mp_tree.specs.View.{document, members}
 use Rattle.mp_tree.specs.declared.doc.Doc.{Doc}
 use Rattle.mp_tree.proofs.IntoData.{put-below, IsBelow-members}

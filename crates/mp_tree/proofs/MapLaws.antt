@@ -1,6 +1,6 @@
 -- What is found in a map after one name is set or removed.
-use Rattle.std.proofs.Common.{◌≡◌, ℕ, List, None, Some, refl, ap, ◌∙◌, subst, true}
-use Rattle.mp_tree.specs.Document.{Document, Members, is_name, find, put, without}
+use Rattle.std.proofs.Common.{◌≡◌, refl, ap, subst, true}
+use Rattle.mp_tree.specs.Document.{is_name, find}
 use Rattle.mp_tree.specs.Laws.{EqualMaps, RemovesOneName, SameNames, SetsOneName}
 use Rattle.mp_tree.proofs.Maps.{find-put, find-without, IsMap-put, IsMap-without, members_same}
 use Rattle.mp_tree.proofs.Names.{is_name-other, is_name-self, same_name}

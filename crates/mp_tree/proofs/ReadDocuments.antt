@@ -2,7 +2,7 @@
 use Rattle.std.proofs.Common.{◌≡◌, ℕ, List, Option, None, Some, IfSome, option_map, option_and_then, Ok, refl, subst}
 use Rattle.serde_json.specs.Data as json
 use Rattle.serde_json.specs.Data.{Data}
-use Rattle.mp_tree.specs.Document.{Document, null, flag, whole, string, list, object, Items, item, Members, put, IsDocument, AreDocuments, IsMap}
+use Rattle.mp_tree.specs.Document.{Document, null, flag, whole, string, list, object, Items, item, put, IsDocument, AreDocuments, IsMap}
 use Rattle.mp_tree.specs.Text.{document_from, items_from, members_from, whole_number, reading, elements, documents_in}
 use Rattle.mp_tree.proofs.Maps.{IsMap-put}
 

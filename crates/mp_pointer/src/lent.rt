@@ -1,0 +1,98 @@
+// The child that one token names, lent for writing.
+ghost use Rattle.std.specs.Prelude.{◌≡◌, ◌≢◌, ◌↔◌, ◌<◌, length, option_map, IsTrue, MatchOption};
+ghost use Rattle.std.specs.Borrow.{sem, Lends, LendsIf};
+ghost use Rattle.mp_tree.specs.Document.{object};
+ghost use Rattle.mp_tree.specs.View.{document};
+ghost use Rattle.mp_tree.specs.declared.doc.Doc.TheVariants.{Items, Members};
+ghost use Rattle.mp_pointer.specs.Lent.{IsList, LendsPart, LendsPartOf, one_token};
+ghost use Rattle.mp_pointer.specs.Part.{part};
+ghost use Rattle.mp_tree.specs.Rows.{doc_row, items_row, members_row};
+
+use crate::pointer::Pointer;
+use crate::walk::index_of;
+use mp_tree::Doc;
+use std::collections::BTreeMap;
+
+// What the document is has to be asked first: a `&mut` that one path returns is lent on each.
+// proofs/lent/child_mut/Proof.antt follows this body statement by statement.
+pub(crate) fn child_mut<'a>(
+    doc: &'a mut Doc,
+    pointer: &Pointer,
+    place: usize,
+) -> Option<&'a mut Doc>
+    requires { place < length pointer.now }
+    ensures* writes_back { sem 𝓛 (LendsPart (one_token pointer.now place) doc.entry result) }
+    ensures value { option_map (λ d. document d.now) result
+        ≡ part (document doc.old) (one_token pointer.now place) }
+{
+    if is_list(doc) {
+        return element_mut(items_mut(doc), pointer, place);
+    }
+    match members_mut(doc) {
+        Some(entries) => value_mut(entries, pointer, place),
+        None => None,
+    }
+}
+
+fn is_list(doc: &Doc) -> bool
+    ensures { IsTrue result ↔ IsList (document doc.now) }
+{
+    match doc {
+        Doc::Items(_) => true,
+        _ => false,
+    }
+}
+
+fn items_mut(doc: &mut Doc) -> &mut Vec<Doc>
+    requires { IsList (document doc.old) }
+    ensures* writes_back { sem 𝓛 (Lends doc_row items_row doc.entry result Items) }
+    ensures value { doc.old ≡ Items result.now }
+{
+    match doc {
+        Doc::Items(elements) => elements,
+        _ => unreachable!(),
+    }
+}
+
+fn members_mut(doc: &mut Doc) -> Option<&mut BTreeMap<String, Doc>>
+    ensures* writes_back { sem 𝓛 (LendsIf doc_row members_row doc.entry result Members doc.old) }
+    ensures value { MatchOption result ((ms : _) → document doc.old ≢ object ms)
+        (λ m. doc.old ≡ Members m.now) }
+{
+    if let Doc::Members(entries) = doc {
+        Some(entries)
+    } else {
+        None
+    }
+}
+
+fn element_mut<'a>(
+    elements: &'a mut Vec<Doc>,
+    pointer: &Pointer,
+    place: usize,
+) -> Option<&'a mut Doc>
+    requires { place < length pointer.now }
+    ensures* writes_back { sem 𝓛 (LendsPartOf items_row Items (one_token pointer.now place)
+        elements.entry result) }
+    ensures value { option_map (λ d. document d.now) result
+        ≡ part (document (Items elements.old)) (one_token pointer.now place) }
+{
+    let token = pointer.token(place)?;
+    let index = index_of(token)?;
+    elements.get_mut(index)
+}
+
+fn value_mut<'a>(
+    entries: &'a mut BTreeMap<String, Doc>,
+    pointer: &Pointer,
+    place: usize,
+) -> Option<&'a mut Doc>
+    requires { place < length pointer.now }
+    ensures* writes_back { sem 𝓛 (LendsPartOf members_row Members (one_token pointer.now place)
+        entries.entry result) }
+    ensures value { option_map (λ d. document d.now) result
+        ≡ part (document (Members entries.old)) (one_token pointer.now place) }
+{
+    let token = pointer.token(place)?;
+    entries.get_mut(token)
+}
