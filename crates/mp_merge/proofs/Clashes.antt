@@ -14,7 +14,7 @@ use Rattle.mp_merge.proofs.ClashesByName.{ClashOf, at_first, clash_of, clash_fro
 use Rattle.mp_merge.proofs.Elements.{Contains-nil, no_member}
 use Rattle.mp_merge.proofs.Exchange.{object_above}
 use Rattle.mp_merge.proofs.Grown.{IsRestOf, rest_after_one}
-use Rattle.mp_merge.proofs.Looks.{decide_document}
+use Rattle.mp_tree.proofs.Facts.{decide_document}
 use Rattle.mp_merge.proofs.RisingPlaces.{BeginsAbove, Lists, lists_none, lists_root, lists_both, name_above, same_rising, under_all}
 
 -- ---- one path alone

@@ -14,7 +14,7 @@ use Rattle.mp_merge.specs.Rewriting.{guard_of, guards, part_left, leaving, edit}
 use Rattle.mp_merge.specs.Application.{mp, unless_null}
 use Rattle.mp_merge.proofs.ApplicationLemmas.{IsDocument-mp}
 use Rattle.mp_merge.proofs.Listings.{walk_is_rewriting}
-use Rattle.mp_merge.proofs.Looks.{decide_document}
+use Rattle.mp_tree.proofs.Facts.{decide_document}
 
 decide_part : (a b : Option Document) → Dec (a ≡ b)
 decide_part None None = yes refl

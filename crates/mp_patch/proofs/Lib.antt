@@ -1,5 +1,4 @@
 pub mod ChildLemmas
-pub mod Decisions
 pub mod DepthLemmas
 pub mod DocumentLemmas
 pub mod EditLemmas

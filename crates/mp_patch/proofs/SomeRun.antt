@@ -11,7 +11,7 @@ use Rattle.mp_patch.specs.Refusal.{IsTooDeep}
 use Rattle.mp_patch.specs.Run.{IsRefused}
 use Rattle.mp_patch.specs.declared.fault.Cause.TheVariants.{IntoItself, RemoveRoot, Missing, NoPlace, TooDeep, TestFailed}
 use Rattle.mp_patch.specs.declared.steps.StepFault.TheVariants.{Refused}
-use Rattle.mp_patch.proofs.Decisions.{decide_name, decide_tokens, decide_document}
+use Rattle.mp_tree.proofs.Facts.{decide_name, decide_path, decide_document}
 use Rattle.mp_patch.proofs.DocumentLemmas.{Removes-document, some_same}
 use Rattle.mp_patch.proofs.FirstLemmas.{unrefused}
 use Rattle.mp_patch.proofs.MoveLemmas.{stays, moved, copied, root_is_prefix}
@@ -102,9 +102,9 @@ judge_copy d f t (Some x) good there =
 
 judge : (d : Document) (o : Operation) → IsDocument d → Judged d o
 judge d (add t v) good = judge_add d good t v
-judge d (remove t) good = judge_remove d good t (part d t) refl (decide_tokens t [])
+judge d (remove t) good = judge_remove d good t (part d t) refl (decide_path t [])
 judge d (replace t v) good = judge_replace d good t v (part d t) refl
-judge d (move f t) good = judge_move d f t (part d f) good refl (decide_prefix f t) (decide_tokens f t)
+judge d (move f t) good = judge_move d f t (part d f) good refl (decide_prefix f t) (decide_path f t)
 judge d (copy f t) good = judge_copy d f t (part d f) good refl
 judge d (test t v) good = judge_test d good t v (part d t) refl
 

@@ -1,4 +1,5 @@
 -- What the proofs of the crates above may cite: facts about names, about members as finite maps, about looks, about what is read, and about what a `Doc` and a change to its map mean.
+pub use Rattle.mp_tree.proofs.Decisions.{decide_name, decide_path, decide_document}
 pub use Rattle.mp_tree.proofs.EqualLooks.{equal_looks, is_here, IsDocument-find}
 pub use Rattle.mp_tree.proofs.MapEdits.{IsMap-members, members-cons, find-members, members-inserted, members-removed}
 pub use Rattle.mp_tree.proofs.Maps.{find-put, find-without, find-below, IsBelow-trans, IsMap-put, IsMap-without, members_same}

@@ -1,5 +1,6 @@
 pub mod Ascending
 pub mod BuiltMaps
+pub mod Decisions
 pub mod Depths
 pub mod EqualLooks
 pub mod Facts

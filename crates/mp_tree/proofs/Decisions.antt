@@ -1,11 +1,11 @@
--- Whether two names, two lists of tokens, and two documents are the same.
+-- Whether two names, two lists of names, and two documents are the same.
 use Rattle.std.proofs.Common.{◌≡◌, ap, ap₂, sym, ◌∙◌, ℕ, List, [], ◌∷◌, true, refl}
 use Rattle.std.proofs.Math.Bool.{Bool-discrete}
 use Rattle.std.proofs.Math.Decide.{map_dec}
 use Rattle.std.proofs.Math.IntN.{ℤ_discrete}
 use Rattle.mp_tree.specs.Document.{Document, null, flag, whole, string, list, object, Items, no_items, item, Members, no_members, member, is_name}
-use Rattle.mp_tree.proofs.Facts.{cases_same, is_name-self}
-use Rattle.mp_pointer.specs.Spelling.{Tokens}
+use Rattle.mp_tree.specs.Look.{Path}
+use Rattle.mp_tree.proofs.Names.{cases_same, is_name-self}
 
 pub decide_name : (n m : List ℕ) → Dec (n ≡ m)
 decide_name n m = cases_same n m (λ same. yes same) (λ other. no (λ same. let here : is_name n m ≡ true = ap (is_name n) (sym same) ∙ is_name-self n in cc))
@@ -15,11 +15,11 @@ both (yes a) (yes b) = yes (a, b)
 both (yes a) (no never) = no (λ h. never h.1)
 both (no never) d = no (λ h. never h.0)
 
-pub decide_tokens : (s t : Tokens) → Dec (s ≡ t)
-decide_tokens [] [] = yes refl
-decide_tokens [] (n ∷ t) = no (λ same. cc)
-decide_tokens (n ∷ s) [] = no (λ same. cc)
-decide_tokens (n ∷ s) (m ∷ t) = map_dec (λ h. ap₂ (λ x xs. x ∷ xs) h.0 h.1) (λ same. (cc, cc)) (both (decide_name n m) (decide_tokens s t))
+pub decide_path : (s t : Path) → Dec (s ≡ t)
+decide_path [] [] = yes refl
+decide_path [] (n ∷ t) = no (λ same. cc)
+decide_path (n ∷ s) [] = no (λ same. cc)
+decide_path (n ∷ s) (m ∷ t) = map_dec (λ h. ap₂ (λ x xs. x ∷ xs) h.0 h.1) (λ same. (cc, cc)) (both (decide_name n m) (decide_path s t))
 
 same_member : {n m : List ℕ} {d e : Document} {ms es : Members} → (n ≡ m) × (d ≡ e) × (ms ≡ es) → member n d ms ≡ member m e es
 same_member same = let name = same.0 in let value = same.1 in let rest = same.2 in cc
