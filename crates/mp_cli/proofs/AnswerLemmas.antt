@@ -14,12 +14,12 @@ listed-items (d ∷ docs) = ap (λ ds. document d ∷ ds) (listed-items docs)
 
 pub no_join : (fault : ListFault) (patches : List Document) (a : Answered) → (fault ≡ OutOfMemory → ⊥) → IsListFault fault patches → a ≡ list_fault fault → IsJoinAnswer patches a
 no_join NoPatches patches a memory none is = none_joined none is
-no_join (ConflictOf first second place) patches a memory clash is = join_refused first second place clash is
+no_join (ConflictOf first second places) patches a memory clash is = join_refused first second places.items clash is
 no_join OutOfMemory patches a memory none is = absurd (memory refl)
 
 pub no_replay : (fault : ListFault) (start : Document) (patches : List Document) (a : Answered) → (fault ≡ OutOfMemory → ⊥) → IsReplayFault fault patches → a ≡ list_fault fault → IsReplayAnswer start patches a
 no_replay NoPatches start patches a memory never is = absurd never
-no_replay (ConflictOf first second place) start patches a memory clash is = replay_refused first second place clash is
+no_replay (ConflictOf first second places) start patches a memory clash is = replay_refused first second places.items clash is
 no_replay OutOfMemory start patches a memory none is = absurd (memory refl)
 
 -- two facts of a result, together

@@ -3,5 +3,6 @@ pub mod CommandLineLemmas
 pub mod GetWord
 pub mod GivenWords
 pub mod OneAnswer
-pub mod OneFormFault
 pub mod RunLemmas
+pub mod SomeAnswer
+pub mod TakenWords

@@ -1,47 +1,26 @@
 -- The program has one answer to a command and its input bytes.
-use Rattle.std.proofs.Common.{◌≡◌, ◌≢◌, ℕ, List, [], ◌∷◌, Result, Ok, Err, Option, Some, IfSome, refl, sym, ap, ◌∙◌, subst, codes}
-use Rattle.mp_tree.specs.Document.{Document, Items, no_items, item, Members, find, IsDocument, AreDocuments, IsMap}
+use Rattle.std.proofs.Common.{◌≡◌, ◌≢◌, ℕ, List, [], Result, Ok, Err, refl, sym, ap, ◌∙◌, subst}
+use Rattle.mp_tree.specs.Document.{Document, Items, no_items, item, IsDocument, AreDocuments}
 use Rattle.mp_tree.specs.Text.{documents_in}
 use Rattle.mp_tree.specs.declared.read.DocsFault.{DocsFault}
-use Rattle.mp_tree.proofs.Facts.{AreDocuments-documents_in, IsDocument-find}
-use Rattle.mp_patch.specs.Form.{AreForms, EachForm, Carries, needed, shapes}
-use Rattle.mp_patch.specs.Laws.{HasDocument, HaveDocuments}
-use Rattle.mp_patch.specs.Operation.{Operation, add, remove, replace, move, copy, test}
+use Rattle.mp_tree.proofs.Facts.{AreDocuments-documents_in}
+use Rattle.mp_patch.specs.Form.{shapes}
+use Rattle.mp_patch.specs.Laws.{HaveDocuments}
+use Rattle.mp_patch.specs.Operation.{Operation}
 use Rattle.mp_patch.specs.Run.{Runs, IsFaultOf}
 use Rattle.mp_patch.specs.declared.fault.ApplyFault.{ApplyFault}
 use Rattle.mp_patch.specs.declared.fault.ApplyFault.TheVariants.{Refused, OutOfMemory}
-use Rattle.mp_patch.proofs.Facts.{forms_have_no_fault, has_one_reading, has_one_end, runs_unrefused, has_one_refusal}
-use Rattle.mp_merge.proofs.Facts.{conflict_has_no_join, conflict_has_no_outcome, conflict_has_patches, empty_has_no_join, one_join, one_outcome, one_rewriting, one_told}
+use Rattle.mp_patch.proofs.Facts.{forms_have_documents, forms_have_no_fault, has_one_fault, has_one_reading, has_one_end, runs_unrefused, has_one_refusal}
+use Rattle.mp_merge.proofs.Facts.{told_has_no_join, told_has_no_outcome, told_has_patches, empty_has_no_join, one_join, one_outcome, one_rewriting, one_told}
 use Rattle.mp_merge.specs.Join.{IsJoin}
-use Rattle.mp_merge.specs.Lists.{IsFirstConflict}
+use Rattle.mp_merge.specs.Lists.{IsToldPair}
 use Rattle.mp_tree.specs.Look.{Path}
 use Rattle.mp_cli.specs.Answered.{Answered, listed, result_line, conflict_line, form_fault, run_fault, IsRunAnswer, ran, halted, IsPatchAnswer, malformed, formed, IsJoinAnswer, joined, none_joined, join_refused, IsReplayAnswer, replayed, replay_refused, IsRewriteAnswer, rewritten, IsPatchAnswerTo, IsReplayAnswerTo, IsRewriteAnswerTo, IsAnswerTo, IsChecked, IsAnswered}
 use Rattle.mp_cli.specs.Laws.{HasOneAnswer}
 use Rattle.mp_cli.specs.declared.command.Command.{Command}
 use Rattle.mp_cli.specs.declared.command.Command.TheVariants.{Get, Patch, Merge, Join, Replay, Rewrite}
-use Rattle.mp_cli.proofs.OneFormFault.{one_form_fault}
 
 -- ---- `patch`
-
-value_is_document : (ms : Members) (v : Document) → IsMap ms → find (codes "value") ms ≡ Some v → IsDocument v
-value_is_document ms v good at = subst (λ (o : Option Document). IfSome o IsDocument) at (IsDocument-find (codes "value") ms good)
-
-carried_document : (ms : Members) (o : Operation) → IsMap ms → Carries ms (needed o) → HasDocument o
-carried_document ms (add t v) good carries = value_is_document ms v good carries.1.1.0
-carried_document ms (remove t) good carries = tt
-carried_document ms (replace t v) good carries = value_is_document ms v good carries.1.1.0
-carried_document ms (move f t) good carries = tt
-carried_document ms (copy f t) good carries = tt
-carried_document ms (test t v) good carries = value_is_document ms v good carries.1.1.0
-
-each_document : (ds : Items) (operations : List Operation) → AreDocuments ds → EachForm ds operations → HaveDocuments operations
-each_document no_items [] good forms = tt
-each_document no_items (o ∷ operations) good forms = absurd forms
-each_document (item d ds) [] good forms = absurd forms
-each_document (item d ds) (o ∷ operations) good ((ms, is, carries), forms) = (carried_document ms o (subst IsDocument is good.0) carries, each_document ds operations good.1 forms)
-
-forms_of_documents : (patch : Document) (operations : List Operation) → IsDocument patch → AreForms patch operations → HaveDocuments operations
-forms_of_documents patch operations good (ds, is, forms) = each_document ds operations (subst IsDocument is good) forms
 
 module _ (d : Document) (operations : List Operation) (a b : Answered) (good : IsDocument d) (values : HaveDocuments operations) where
   not_both : (e : Document) (fault : ApplyFault) → Runs d operations e → fault ≢ OutOfMemory → IsFaultOf fault d operations → ⊥
@@ -62,12 +41,12 @@ module _ (d : Document) (operations : List Operation) (a b : Answered) (good : I
   one_run (halted fault memory refused is) (halted other also again was) = is ∙ one_fault fault other memory also refused again ∙ sym was
 
 one_patch : (d patch : Document) (a b : Answered) → IsDocument d → IsDocument patch → IsPatchAnswer d patch a → IsPatchAnswer d patch b → a ≡ b
-one_patch d patch a b good fine (malformed fault memory one is) (malformed other also two was) = is ∙ ap form_fault (one_form_fault fault other patch memory also one two) ∙ sym was
+one_patch d patch a b good fine (malformed fault memory one is) (malformed other also two was) = is ∙ ap form_fault (has_one_fault patch fault other memory also one two) ∙ sym was
 one_patch d patch a b good fine (malformed fault memory one is) (formed operations forms runs) = absurd (memory (forms_have_no_fault patch operations fault forms one))
 one_patch d patch a b good fine (formed operations forms runs) (malformed fault memory one is) = absurd (memory (forms_have_no_fault patch operations fault forms one))
 one_patch d patch a b good fine (formed operations forms runs) (formed others also more) =
     let same = has_one_reading patch others operations also forms in
-    one_run d operations a b good (forms_of_documents patch operations fine forms) runs (subst (λ (os : List Operation). IsRunAnswer d os b) same more)
+    one_run d operations a b good (forms_have_documents patch operations fine forms) runs (subst (λ (os : List Operation). IsRunAnswer d os b) same more)
 
 one_patch_to : (ds : Items) (a b : Answered) → AreDocuments ds → IsPatchAnswerTo ds a → IsPatchAnswerTo ds b → a ≡ b
 one_patch_to no_items a b good is was = is ∙ sym was
@@ -77,35 +56,35 @@ one_patch_to (item d (item patch (item e ds))) a b good is was = is ∙ sym was
 
 -- ---- lists of merge patches
 
-one_conflict_line : (patches : List Document) (first second other_first other_second : ℕ) (place other_place : Path) (a b : Answered) → IsFirstConflict patches first second place
-    → a ≡ conflict_line first second place → IsFirstConflict patches other_first other_second other_place → b ≡ conflict_line other_first other_second other_place → a ≡ b
-one_conflict_line patches first second other_first other_second place other_place a b one is two was =
-    is ∙ one_told conflict_line patches first second other_first other_second place other_place one two ∙ sym was
+one_conflict_line : (patches : List Document) (first second other_first other_second : ℕ) (places others : List Path) (a b : Answered) → IsToldPair patches first second places
+    → a ≡ conflict_line first second places → IsToldPair patches other_first other_second others → b ≡ conflict_line other_first other_second others → a ≡ b
+one_conflict_line patches first second other_first other_second places others a b one is two was =
+    is ∙ one_told conflict_line patches first second other_first other_second places others one two ∙ sym was
 
 none_has_no_join : (patches : List Document) (j : Document) → patches ≡ [] → IsJoin patches j → ⊥
 none_has_no_join patches j none joins = empty_has_no_join j (subst (λ (ps : List Document). IsJoin ps j) none joins)
 
-none_has_no_conflict : (patches : List Document) (first second : ℕ) (place : Path) → patches ≡ [] → IsFirstConflict patches first second place → ⊥
-none_has_no_conflict patches first second place none conflict = conflict_has_patches first second place (subst (λ (ps : List Document). IsFirstConflict ps first second place) none conflict)
+none_is_told : (patches : List Document) (first second : ℕ) (places : List Path) → patches ≡ [] → IsToldPair patches first second places → ⊥
+none_is_told patches first second places none told = told_has_patches first second places (subst (λ (ps : List Document). IsToldPair ps first second places) none told)
 
 one_join_answer : (patches : List Document) (a b : Answered) → IsJoinAnswer patches a → IsJoinAnswer patches b → a ≡ b
 one_join_answer patches a b (joined i good one is) (joined j other two was) = is ∙ ap result_line (one_join patches i j good other one two) ∙ sym was
 one_join_answer patches a b (joined i good one is) (none_joined none was) = absurd (none_has_no_join patches i none one)
-one_join_answer patches a b (joined i good one is) (join_refused first second place two was) = absurd (conflict_has_no_join patches i first second place one two)
+one_join_answer patches a b (joined i good one is) (join_refused first second places two was) = absurd (told_has_no_join patches i first second places one two)
 one_join_answer patches a b (none_joined none is) (joined j other two was) = absurd (none_has_no_join patches j none two)
 one_join_answer patches a b (none_joined none is) (none_joined also was) = is ∙ sym was
-one_join_answer patches a b (none_joined none is) (join_refused first second place two was) = absurd (none_has_no_conflict patches first second place none two)
-one_join_answer patches a b (join_refused first second place one is) (joined j other two was) = absurd (conflict_has_no_join patches j first second place two one)
-one_join_answer patches a b (join_refused first second place one is) (none_joined none was) = absurd (none_has_no_conflict patches first second place none one)
-one_join_answer patches a b (join_refused first second place one is) (join_refused least most where_else two was) =
-    one_conflict_line patches first second least most place where_else a b one is two was
+one_join_answer patches a b (none_joined none is) (join_refused first second places two was) = absurd (none_is_told patches first second places none two)
+one_join_answer patches a b (join_refused first second places one is) (joined j other two was) = absurd (told_has_no_join patches j first second places two one)
+one_join_answer patches a b (join_refused first second places one is) (none_joined none was) = absurd (none_is_told patches first second places none one)
+one_join_answer patches a b (join_refused first second places one is) (join_refused least most others two was) =
+    one_conflict_line patches first second least most places others a b one is two was
 
 one_replay : (d : Document) (patches : List Document) (a b : Answered) → IsReplayAnswer d patches a → IsReplayAnswer d patches b → a ≡ b
 one_replay d patches a b (replayed e good one is) (replayed f other two was) = is ∙ ap result_line (one_outcome d patches e f good other one two) ∙ sym was
-one_replay d patches a b (replayed e good one is) (replay_refused first second place two was) = absurd (conflict_has_no_outcome d e patches first second place one two)
-one_replay d patches a b (replay_refused first second place one is) (replayed f other two was) = absurd (conflict_has_no_outcome d f patches first second place two one)
-one_replay d patches a b (replay_refused first second place one is) (replay_refused least most where_else two was) =
-    one_conflict_line patches first second least most place where_else a b one is two was
+one_replay d patches a b (replayed e good one is) (replay_refused first second places two was) = absurd (told_has_no_outcome d e patches first second places one two)
+one_replay d patches a b (replay_refused first second places one is) (replayed f other two was) = absurd (told_has_no_outcome d f patches first second places two one)
+one_replay d patches a b (replay_refused first second places one is) (replay_refused least most others two was) =
+    one_conflict_line patches first second least most places others a b one is two was
 
 one_replay_to : (ds : Items) (a b : Answered) → IsReplayAnswerTo ds a → IsReplayAnswerTo ds b → a ≡ b
 one_replay_to no_items a b is was = is ∙ sym was

@@ -1,13 +1,12 @@
 -- What the two loops of a run keep.
-use Rattle.std.proofs.Common.{◌≡◌, ◌<◌, ◌≤◌, ◌++◌, ℕ, List, Option, length, take, drop, ap, sym, ◌∙◌, arith}
-use Rattle.std.proofs.KnownBytes.{Appends-trans, Consumes-trans}
+use Rattle.std.proofs.Common.{◌≡◌, ◌<◌, ◌≤◌, ◌++◌, ℕ, List, Option, None, Some, length, take, drop, ap, sym, ◌∙◌, arith, append-nil}
+use Rattle.std.proofs.KnownBytes.{Appends-kept, Appends-trans, Consumes-trans}
 use Rattle.std.proofs.Math.Seq.{take-add}
-use Rattle.std.proofs.lemmas.List.{drop-drop, length-append, length-drop}
-use Rattle.std.specs.Io.KnownBytes.{Appends, Consumes}
-use Rattle.mp_cli.specs.declared.running.TheConstants.{INPUT_LIMIT}
+use Rattle.std.proofs.lemmas.List.{drop-drop, length-append, length-drop, length-take-le, take-append-drop}
+use Rattle.std.specs.Io.KnownBytes.{Appends, Consumes, Keeps}
 use Rattle.mp_cli.specs.declared.counted.Counted.{Counted}
-use Rattle.mp_cli.specs.Counted.{device_of, calls_of, failures_of, bytes_of, CountsBytes}
-use Rattle.mp_cli.specs.Run.{ReadsBytes}
+use Rattle.mp_cli.specs.Counted.{device_of, calls_of, failures_of, bytes_of, CountsBytes, CountsFailure}
+use Rattle.mp_cli.specs.Run.{ReadsBytes, WritesPart}
 
 -- after `reads` reads, each of which gave a byte, these bytes were read
 pub record ReadSoFar {R : Type 0} (remaining : R → Option (List ℕ)) (old new : Counted R) (reads : ℕ) (bytes : List ℕ) : Type 0 where
@@ -16,7 +15,7 @@ pub record ReadSoFar {R : Type 0} (remaining : R → Option (List ℕ)) (old new
   pub failures : failures_of new ≡ 0
   pub counted : bytes_of new ≡ length bytes
   pub each_gave : reads ≤ length bytes
-  pub short : length bytes ≤ INPUT_LIMIT
+  pub short : length bytes ≤ 1_048_576
 
 -- the bytes of one more read follow those so far
 pub ReadSoFar-read : {R : Type 0} (remaining : R → Option (List ℕ)) (old mid new : Counted R) (reads count : ℕ) (bytes more : List ℕ)
@@ -50,4 +49,31 @@ WrittenSoFar-write contents old mid new text rest left count before counts some 
       within = omega (arith, length-drop (bytes_of mid) text);
       calls = omega arith;
       failures = counts.failures ∙ before.failures;
+    }
+
+-- ---- a call that failed
+
+-- a write that took none leaves what the writer holds as it was
+pub Keeps-none : (b c : Option (List ℕ)) (bs : List ℕ) (count : ℕ) → count ≡ 0 → Appends b c (take count bs) → Keeps b c
+Keeps-none None c bs count none grew = tt
+Keeps-none (Some ys) None bs count none grew = absurd grew
+Keeps-none (Some ys) (Some zs) bs count none grew = grew ∙ ap (λ n. ys ++ take n bs) none ∙ append-nil ys
+
+pub WritesPart-failed : {W : Type 0} (contents : W → Option (List ℕ)) (old mid new : Counted W) (text rest : List ℕ)
+    → calls_of old ≡ 0 → WrittenSoFar contents old mid text rest → Keeps (contents (device_of mid)) (contents (device_of new)) → CountsFailure mid new
+    → WritesPart contents old new text
+WritesPart-failed contents old mid new text rest fresh before kept counts =
+    let front : length (take (bytes_of mid) text) ≡ bytes_of mid = length-take-le (bytes_of mid) text before.within in
+    let none = old.no_bytes_before_calls fresh in
+    let unfailed : failures_of old ≡ 0 = omega (arith, old.failures_within_calls) in
+    record {
+      front = take (bytes_of mid) text;
+      back = drop (bytes_of mid) text;
+      is = sym (take-append-drop (bytes_of mid) text);
+      written = record {
+        appended = Appends-kept _ _ _ _ before.appended kept;
+        counted = omega (arith, counts.bytes, front, none);
+        calls = omega (arith, counts.calls, before.calls, front);
+      };
+      failures = omega (arith, counts.failures, before.failures, unfailed);
     }

@@ -1,5 +1,6 @@
 -- What the program answers to its command and its input bytes.
 use Rattle.std.specs.Prelude.{◌≡◌, ◌≢◌, ℕ, IfOk, string_bytes, List, [], ◌∷◌, ◌++◌, codes, Result, Ok, Err, Option, None, Some}
+use Rattle.std.specs.List.{flat_map}
 use Rattle.mp_tree.specs.Document.{Document, string, Items, no_items, item, IsDocument}
 use Rattle.mp_tree.specs.Look.{Path}
 use Rattle.mp_tree.specs.Text.{documents_in, text as compact}
@@ -14,7 +15,7 @@ use Rattle.mp_merge.specs.declared.fault.ListFault.TheVariants.{NoPatches, Confl
 use Rattle.std.specs.declared.alloc.AllocError.{AllocError}
 use Rattle.mp_merge.specs.Application.{in_turn}
 use Rattle.mp_merge.specs.Join.{IsJoin}
-use Rattle.mp_merge.specs.Lists.{IsFirstConflict}
+use Rattle.mp_merge.specs.Lists.{IsToldPair}
 use Rattle.mp_merge.specs.Outcome.{IsOutcome}
 use Rattle.mp_merge.specs.Rewriting.{IsRewriting}
 use Rattle.mp_patch.specs.Form.{AreForms, IsFormFault, shapes}
@@ -141,10 +142,19 @@ IsPatchAnswerTo inputs a = a ≡ wrong_shape
 
 -- ---- lists of merge patches
 
--- the two patches by their numbers, and the pointer as a JSON string
-abbrev pub conflict_line : ℕ → ℕ → Path → Answered
-conflict_line first second place =
-    line (codes "conflict: patches " ++ numeral first ++ codes " and " ++ numeral second ++ codes " at " ++ compact (string (spell place))) 1
+-- a pointer as a JSON string
+abbrev pub pointer_text : Path → List ℕ
+pointer_text w = compact (string (spell w))
+
+-- pointers in their order, with a comma and one space between two
+abbrev pub pointers_text : List Path → List ℕ
+pointers_text [] = []
+pointers_text (w ∷ ws) = pointer_text w ++ flat_map (λ u. codes ", " ++ pointer_text u) ws
+
+-- the two patches by their numbers, and the pointers to all their conflicts
+abbrev pub conflict_line : ℕ → ℕ → List Path → Answered
+conflict_line first second places =
+    line (codes "conflict: patches " ++ numeral first ++ codes " and " ++ numeral second ++ codes " at " ++ pointers_text places) 1
 
 abbrev pub no_patches : Answered
 no_patches = line (codes "no patches") 1
@@ -152,19 +162,19 @@ no_patches = line (codes "no patches") 1
 -- why a list has no join, or can't be replayed
 abbrev pub list_fault : ListFault → Answered
 list_fault NoPatches = no_patches
-list_fault (ConflictOf first second place) = conflict_line first second place
+list_fault (ConflictOf first second places) = conflict_line first second places.items
 list_fault ListMemory = line (codes "out of memory") 3
 
 -- `join` wants `[patch, ..]`: its join, or why there is none
 pub data IsJoinAnswer (patches : List Document) (a : Answered) : Type 0 where
   joined : (j : Document) → IsDocument j → IsJoin patches j → a ≡ result_line j → IsJoinAnswer patches a
   none_joined : patches ≡ [] → a ≡ no_patches → IsJoinAnswer patches a
-  join_refused : (first second : ℕ) (place : Path) → IsFirstConflict patches first second place → a ≡ conflict_line first second place → IsJoinAnswer patches a
+  join_refused : (first second : ℕ) (places : List Path) → IsToldPair patches first second places → a ≡ conflict_line first second places → IsJoinAnswer patches a
 
 -- `replay` wants `[document, patch, ..]`, also with no patch: the outcome, or why there is none
 pub data IsReplayAnswer (start : Document) (patches : List Document) (a : Answered) : Type 0 where
   replayed : (e : Document) → IsDocument e → IsOutcome start patches e → a ≡ result_line e → IsReplayAnswer start patches a
-  replay_refused : (first second : ℕ) (place : Path) → IsFirstConflict patches first second place → a ≡ conflict_line first second place → IsReplayAnswer start patches a
+  replay_refused : (first second : ℕ) (places : List Path) → IsToldPair patches first second places → a ≡ conflict_line first second places → IsReplayAnswer start patches a
 
 abbrev pub IsReplayAnswerTo : Items → Answered → Type 0
 IsReplayAnswerTo no_items a = a ≡ wrong_shape

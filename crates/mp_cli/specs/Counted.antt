@@ -1,5 +1,5 @@
 -- What a counted reader or writer holds, and what a call of its device counts.
-use Rattle.std.specs.Prelude.{◌≡◌, ℕ, ◌+◌}
+use Rattle.std.specs.Prelude.{◌≡◌, ℕ, ◌+◌, IsTrue}
 use Rattle.mp_cli.specs.declared.counted.Counted.{Counted}
 
 module _ {T : Type 0} where
@@ -18,6 +18,10 @@ module _ {T : Type 0} where
   -- how many bytes those calls gave or took
   abbrev pub bytes_of : Counted T → ℕ
   bytes_of c = c.bytes
+
+  -- the last of those calls was a flush, and did not fail
+  abbrev pub IsFlushed : Counted T → Type 0
+  IsFlushed c = IsTrue c.flushed
 
   -- one more call was made: it did not fail, and gave or took `count` bytes
   pub record CountsBytes (old new : Counted T) (count : ℕ) : Type 0 where

@@ -3,7 +3,7 @@ ghost use Rattle.std.specs.Prelude.{◌≡◌, ◌≢◌, ◌++◌, ◌∷◌, [
 ghost use Rattle.mp_tree.specs.View.{document, items};
 ghost use Rattle.mp_patch.specs.View.{operations_of};
 ghost use Rattle.mp_pointer.specs.Part.{numeral};
-ghost use Rattle.mp_cli.specs.Answered.{Gives, IsAnswered, IsJoinAnswer, IsPatchAnswer, IsPatchAnswerTo, IsReplayAnswerTo, IsRewriteAnswer, IsRewriteAnswerTo, IsRunAnswer, answered_by, bad_tilde_line, cause_words, conflict_line, form_fault, form_words, get_answer, input_fault, line as line_with, list_fault, merge_answer, operation_line, part_line, run_fault, spelling_fault, wrong_shape as shape_fault};
+ghost use Rattle.mp_cli.specs.Answered.{Gives, IsAnswered, IsJoinAnswer, IsPatchAnswer, IsPatchAnswerTo, IsReplayAnswerTo, IsRewriteAnswer, IsRewriteAnswerTo, IsRunAnswer, answered_by, bad_tilde_line, cause_words, conflict_line, form_fault, form_words, get_answer, input_fault, line as line_with, list_fault, merge_answer, operation_line, part_line, pointer_text, pointers_text, run_fault, spelling_fault, wrong_shape as shape_fault};
 
 use crate::answers::Answer;
 use crate::command::Command;
@@ -249,8 +249,8 @@ fn fault_in_list(alloc: Global, fault: ListFault) -> Result<Answer, AllocError>
         ListFault::ConflictOf {
             first,
             second,
-            place,
-        } => conflict(alloc, first, second, &place),
+            places,
+        } => conflict(alloc, first, second, places.as_slice()),
         ListFault::OutOfMemory => Err(AllocError),
     }
 }
@@ -259,15 +259,36 @@ fn conflict(
     alloc: Global,
     first: usize,
     second: usize,
-    place: &Pointer,
+    places: &[Pointer],
 ) -> Result<Answer, AllocError>
-    ensures { Gives result (conflict_line first second place.now) }
+    ensures { Gives result (conflict_line first second places.now) }
 {
     let mut text = numbered(alloc, "conflict: patches ", first)?;
     text.push_str(numbered(alloc, " and ", second)?.as_str())?;
     text.push_str(" at ")?;
-    text.push_str(write_text(alloc, place.print(alloc)?.as_str())?.as_str())?;
+    text.push_str(pointers(alloc, places)?.as_str())?;
     line(alloc, text.as_str(), NO_RESULT)
+}
+
+// With a comma and one space between two.
+fn pointers(alloc: Global, places: &[Pointer]) -> Result<String, AllocError>
+    ensures { IfOk result (λ text. string_bytes text ≡ pointers_text places.now) }
+{
+    let Some((first, rest)) = places.split_first() else {
+        return Ok(String::new(alloc));
+    };
+    let mut text = pointer(alloc, first)?;
+    for place in rest {
+        text.push_str(", ")?;
+        text.push_str(pointer(alloc, place)?.as_str())?;
+    }
+    Ok(text)
+}
+
+fn pointer(alloc: Global, place: &Pointer) -> Result<String, AllocError>
+    ensures { IfOk result (λ text. string_bytes text ≡ pointer_text place.now) }
+{
+    write_text(alloc, place.print(alloc)?.as_str())
 }
 
 // The text before a number, and the number in plain decimals.

@@ -4,7 +4,8 @@ ghost use Rattle.std.specs.Prelude.{◌≡◌, ◌≤◌};
 mod device;
 
 /// A reader or a writer, the device, with three counts: the calls that were made of it, how many
-/// of them failed, and how many bytes they gave or took.
+/// of them failed, and how many bytes they gave or took. It also knows whether the last call was a
+/// flush that did not fail.
 ///
 /// The calls are made by `run` alone. A call counts as failed where the device answered an error,
 /// also that it was interrupted, and where a write of at least one byte took none. No count goes
@@ -21,6 +22,7 @@ pub struct Counted<T> {
     calls: u64,
     failures: u64,
     bytes: u64,
+    flushed: bool,
     ghost failures_within_calls: { failures ≤ calls },
     ghost no_bytes_before_calls: { calls ≡ 0 → bytes ≡ 0 },
 }
@@ -40,6 +42,7 @@ impl<T> Counted<T> {
             calls: 0,
             failures: 0,
             bytes: 0,
+            flushed: false,
         }
     }
 
@@ -75,6 +78,7 @@ impl<T> Counted<T> {
             calls: _,
             failures: _,
             bytes: _,
+            flushed: _,
         } = self;
         device
     }

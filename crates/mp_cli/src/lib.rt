@@ -16,4 +16,6 @@ pub use counted::Counted;
 pub use running::{INPUT_LIMIT, READ_LIMIT, RunFault, fault_line, run};
 
 #[cfg(test)]
+mod run_tests;
+#[cfg(test)]
 mod tests;

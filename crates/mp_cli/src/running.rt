@@ -1,9 +1,9 @@
 //! The run of the program: its input is read, answered and written.
-ghost use Rattle.std.specs.Prelude.{◌≡◌, ◌≢◌, ◌↔◌, ◌+◌, ◌<◌, ◌≤◌, ℕ, List, IsErrOf, IfOk, IfErr, IfSome, OnOk, OnErr};
+ghost use Rattle.std.specs.Prelude.{◌≡◌, ◌≢◌, ◌↔◌, ◌<◌, ◌≤◌, ℕ, List, IsErrOf, IfOk, IfErr, OnOk, OnErr};
 ghost use Rattle.mp_cli.specs.Answered.{Answered, IsAnswered};
 ghost use Rattle.mp_cli.specs.Counted.{device_of, calls_of, failures_of, bytes_of};
 ghost use Rattle.mp_cli.specs.FaultLine.{line_of, status_of};
-ghost use Rattle.mp_cli.specs.Run.{ReadsBytes, ReadsWhole, WritesWhole, Delivers, TouchesOne};
+ghost use Rattle.mp_cli.specs.Run.{ReadsBytes, ReadsWhole, WritesPart, WritesWhole, BreaksOff, Delivers};
 ghost use Rattle.mp_cli.specs.declared.running.RunFault.TheVariants.{OutOfMemory};
 
 use crate::answering::answer;
@@ -73,8 +73,8 @@ pub fn fault_line(fault: &RunFault) -> (&'static str, u8)
 /// - `ReadFailed`: a read failed. Nothing was written.
 /// - `TooLong`: the input has more than `INPUT_LIMIT` bytes. Nothing was written.
 /// - `OutOfMemory`: memory ran out. Nothing was written.
-/// - `WriteFailed`: a write or the flush failed. How much of the text went out is left open; the
-///   other writer got nothing.
+/// - `WriteFailed`: a write or the flush failed, and was the last call of that writer. It got some
+///   first part of the text, which may be all of it; the other writer got nothing.
 ///
 /// ```text
 /// let mut input = Counted::new(b"[5]".as_slice());
@@ -92,30 +92,23 @@ pub fn run<R: Read, W: Write, E: Write>(
     requires fresh_out { calls_of out.old ≡ 0 }
     requires fresh_err { calls_of err.old ≡ 0 }
 
-    // When each fault comes.
+    // When each fault comes; the other is OutOfMemory.
     ensures read_failed { IsErrOf result RunFault.ReadFailed ↔ (0 < failures_of input.new) }
-    ensures too_long { IsErrOf result RunFault.TooLong ↔ (INPUT_LIMIT < bytes_of input.new) }
-    ensures write_failed { IsErrOf result RunFault.WriteFailed
-        ↔ (0 < failures_of out.new + failures_of err.new) }
+    ensures too_long { IsErrOf result RunFault.TooLong ↔ (1_048_576 < bytes_of input.new) }
 
     // What was read.
-    ensures read_calls { calls_of input.new ≤ READ_LIMIT }
+    ensures read_calls { calls_of input.new ≤ 1_048_577 }
     ensures reads { (bytes : List ℕ) × ReadsBytes R.remaining input.old input.new bytes }
 
-    // What was written: for the bytes that were read, and the same for a reader that says which
-    // bytes it has.
+    // What was written.
     ensures answered { IfOk result (λ status. (bytes : List ℕ)
         × ReadsWhole R.remaining input.old input.new bytes
-        × (a : Answered) × IsAnswered command.now bytes a
-        × Delivers W.contents E.contents a status out.old out.new err.old err.new) }
-    ensures answered_known { IfOk result (λ status. IfSome (R.remaining (device_of input.old))
-        (λ bytes. ReadsWhole R.remaining input.old input.new bytes
-        × (a : Answered) × IsAnswered command.now bytes a
-        × Delivers W.contents E.contents a status out.old out.new err.old err.new)) }
-    ensures one_writer { IsErrOf result RunFault.WriteFailed → (bytes : List ℕ)
+        × (a : Answered) × IsAnswered command.now bytes a × (status ≡ a.status)
+        × Delivers W.contents E.contents a out.old out.new err.old err.new) }
+    ensures write_failed { IsErrOf result RunFault.WriteFailed → (bytes : List ℕ)
         × ReadsWhole R.remaining input.old input.new bytes
         × (a : Answered) × IsAnswered command.now bytes a
-        × TouchesOne a out.old out.new err.old err.new }
+        × BreaksOff W.contents E.contents a out.old out.new err.old err.new }
     ensures nothing_written { IfErr result (λ fault. fault ≢ RunFault.WriteFailed
         → (out.new ≡ out.old) × (err.new ≡ err.old)) }
 {
@@ -135,9 +128,9 @@ fn read_whole<R: Read>(alloc: Global, input: &mut Counted<R>) -> Result<Vec<u8>,
     ensures whole { IfOk result (λ bytes. ReadsWhole R.remaining input.old input.new bytes.items) }
     ensures reads { (bytes : List ℕ) × ReadsBytes R.remaining input.old input.new bytes }
     ensures read_failed { IsErrOf result RunFault.ReadFailed ↔ (0 < failures_of input.new) }
-    ensures too_long { IsErrOf result RunFault.TooLong ↔ (INPUT_LIMIT < bytes_of input.new) }
+    ensures too_long { IsErrOf result RunFault.TooLong ↔ (1_048_576 < bytes_of input.new) }
     ensures no_write_failed { IfErr result (λ fault. fault ≢ RunFault.WriteFailed) }
-    ensures calls { calls_of input.new ≤ READ_LIMIT }
+    ensures calls { calls_of input.new ≤ 1_048_577 }
 {
     let mut bytes = Vec::new(alloc);
     let mut piece = [0u8; PIECE];
@@ -160,7 +153,7 @@ fn read_whole<R: Read>(alloc: Global, input: &mut Counted<R>) -> Result<Vec<u8>,
 fn write_whole<W: Write>(text: &[u8], device: &mut Counted<W>) -> Result<(), RunFault>
     requires { calls_of device.old ≡ 0 }
     ensures written { OnOk result (WritesWhole W.contents device.old device.new text.now) }
-    ensures failed { OnErr result (0 < failures_of device.new) }
+    ensures failed { OnErr result (WritesPart W.contents device.old device.new text.now) }
     ensures fault { IfErr result (λ fault. fault ≡ RunFault.WriteFailed) }
 {
     let mut rest = text;

@@ -1,7 +1,8 @@
 -- Application at each name, and one name after another.
 use Rattle.std.proofs.Common.{◌≡◌, ℕ, List, cond, Option, Some, None, IfSome, refl, sym, ap, ◌∙◌}
 use Rattle.mp_tree.specs.Document.{Document, null, flag, whole, string, list, object, Members, no_members, member, is_name, find, put, IsDocument, IsMap}
-use Rattle.mp_merge.specs.Application.{target_members, changed, mp, mp_members, unless_null, after_patch, AppliesAtEachName}
+use Rattle.mp_merge.specs.Application.{target_members, changed, mp, mp_members, unless_null, after_patch}
+use Rattle.mp_merge.specs.Laws.{AppliesAtEachName, OthersReplace}
 use Rattle.mp_tree.proofs.Facts.{IsDocument-find, find-put, find-without, find-below, IsMap-put, IsMap-without, members_same}
 use Rattle.mp_tree.proofs.Facts.{cases_same, is_name-self}
 
@@ -19,7 +20,7 @@ IsMap-target_members (Some (string s)) good = tt
 IsMap-target_members (Some (list ds)) good = tt
 IsMap-target_members (Some (object ts)) good = good
 
-IsMap-changed : (n : List ℕ) (p d : Document) (ms : Members) → IsDocument d → IsMap ms → IsMap (changed n p d ms)
+pub IsMap-changed : (n : List ℕ) (p d : Document) (ms : Members) → IsDocument d → IsMap ms → IsMap (changed n p d ms)
 IsMap-changed n null d ms good map = IsMap-without n ms map
 IsMap-changed n (flag b) d ms good map = IsMap-put n d ms good map
 IsMap-changed n (whole z) d ms good map = IsMap-put n d ms good map
@@ -43,7 +44,7 @@ mutual
 
 -- ---- at each name
 
-find-changed : (q n : List ℕ) (p d : Document) (ms : Members) → IsMap ms → find q (changed n p d ms) ≡ cond (is_name q n) (unless_null p d) (find q ms)
+pub find-changed : (q n : List ℕ) (p d : Document) (ms : Members) → IsMap ms → find q (changed n p d ms) ≡ cond (is_name q n) (unless_null p d) (find q ms)
 find-changed q n null d ms map = find-without q n ms map
 find-changed q n (flag b) d ms map = find-put q n d ms
 find-changed q n (whole z) d ms map = find-put q n d ms
@@ -51,11 +52,25 @@ find-changed q n (string s) d ms map = find-put q n d ms
 find-changed q n (list ds) d ms map = find-put q n d ms
 find-changed q n (object ps) d ms map = find-put q n d ms
 
-pub find-mp_members : AppliesAtEachName
+pub find-mp_members : (ts ps : Members) → IsMap ts → IsMap ps → (n : List ℕ) → find n (mp_members ts ps) ≡ after_patch (find n ts) (find n ps)
 find-mp_members ts no_members targets good q = refl
 find-mp_members ts (member n p ps) targets good q =
     find-changed q n p (mp (find n ts) p) (mp_members ts ps) (IsMap-mp_members ts ps targets good.2)
     ∙ cases_same q n (λ here. rw (here, is_name-self)) (λ other. rw other (find-mp_members ts ps targets good.2 q))
+
+pub applies_at_each_name : AppliesAtEachName
+applies_at_each_name t ps target good =
+    let ts = target_members t in
+    let map = IsMap-target_members t target in
+    (mp_members ts ps, refl, IsMap-mp_members ts ps map good, find-mp_members ts ps map good)
+
+pub others_replace : OthersReplace
+others_replace t null plain = refl
+others_replace t (flag b) plain = refl
+others_replace t (whole z) plain = refl
+others_replace t (string s) plain = refl
+others_replace t (list ds) plain = refl
+others_replace t (object ps) plain = absurd (cc)
 
 -- ---- one name after another
 

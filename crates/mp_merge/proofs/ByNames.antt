@@ -7,7 +7,7 @@ use Rattle.mp_tree.proofs.Facts.{equal_looks, is_here, IsDocument-find}
 use Rattle.mp_merge.specs.Clash.{Compatible}
 use Rattle.mp_merge.specs.Join.{IsJoin}
 use Rattle.mp_merge.specs.Laws.{CompatibleByNames, CompatibleIfEqual, IsJoinAt, JoinByNames, JoinOfEqual}
-use Rattle.mp_merge.proofs.ClashesByName.{clash_at_root, compatible-self, same_plain}
+use Rattle.mp_merge.proofs.ClashesByName.{clash_at_root, compatible-self, compatible-sym, same_plain}
 use Rattle.mp_merge.proofs.Elements.{Contains-head, Contains-tail, Contains-cases, Contains-one}
 use Rattle.mp_merge.proofs.Joins.{compatible_from_join, join_is_idempotent}
 use Rattle.mp_merge.proofs.Looks.{nothing_or, same_look}
@@ -41,7 +41,8 @@ equal_if_compatible : (p q : Document) → look p [] ≡ plain p → Compatible 
 equal_if_compatible p q plain_p free = same_plain p q (sym plain_p ∙ same_look (look p []) (look q []) (λ other. free [] (clash_at_root p q other)))
 
 pub compatible_if_equal : CompatibleIfEqual
-compatible_if_equal p q plain_p = (equal_if_compatible p q plain_p, compatible-self p q)
+compatible_if_equal p q (inl plain_p) = (equal_if_compatible p q plain_p, compatible-self p q)
+compatible_if_equal p q (inr plain_q) = (λ free. sym (equal_if_compatible q p plain_q (compatible-sym p q free)), compatible-self p q)
 
 -- ---- join
 

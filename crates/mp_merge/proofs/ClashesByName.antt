@@ -1,13 +1,12 @@
 -- Clashes name by name.
-use Rattle.std.proofs.Common.{◌≡◌, ◌↔◌, ℕ, List, [], ◌∷◌, Bool, true, false, Option, Some, None, String, BTreeMap, Global, Less, refl, sym, ap, ◌∙◌, subst, rules, true≢false}
-use Rattle.std.specs.Ordering.{ordering_then}
+use Rattle.std.proofs.Common.{◌≡◌, ◌↔◌, ℕ, List, [], ◌∷◌, Bool, true, false, Option, Some, None, String, BTreeMap, Global, refl, sym, ap, ◌∙◌, subst, rules, true≢false}
 use Rattle.mp_tree.specs.Document.{Document, null, flag, whole, string, list, object, Members, no_members, member, find, IsMap}
 use Rattle.mp_tree.specs.Look.{Path, nothing, an_object, plain, look, look_of, look_here}
 use Rattle.mp_tree.specs.View.{document, document_step}
 use Rattle.mp_tree.specs.declared.doc.Doc.{Doc, Members as Map, ind-Doc, roll-Doc, fold-roll-Doc, the_lemmas}
 use Rattle.mp_tree.specs.declared.doc.Doc.TheOpen.{Doc-F}
-use Rattle.mp_tree.proofs.Facts.{is_here, find-below, IsBelow-trans, cases_name, cases_same, is_name-self, same_from_cmp}
-use Rattle.mp_merge.specs.Clash.{Clash, Compatible, path_cmp, IsFirstClash}
+use Rattle.mp_tree.proofs.Facts.{is_here, find-below, cases_same, is_name-self}
+use Rattle.mp_merge.specs.Clash.{Clash, Compatible}
 
 -- ---- at the root
 
@@ -58,13 +57,6 @@ clash-sym p q w clash = record { first = clash.second; second = clash.first; dif
 pub compatible-sym : (p q : Document) → Compatible p q → Compatible q p
 compatible-sym p q none w clash = none w (clash-sym q p w clash)
 
-nothing_is_below : (u : Path) → path_cmp u [] ≡ Less → ⊥
-nothing_is_below [] e = cc
-nothing_is_below (n ∷ u) e = cc
-
-pub first_at_root : (p q : Document) → Clash p q [] → IsFirstClash p q []
-first_at_root p q clash = record { here = clash; before = λ u below. absurd (nothing_is_below u below) }
-
 pub decided : (b : Bool) {P : Type 0} → (b ≡ true) ↔ P → ((P → ⊥) → ⊥) → b ≡ true
 decided true same never = refl
 decided false same never = absurd (never (λ p. true≢false (sym (same.1 p))))
@@ -82,20 +74,17 @@ none_left qs (n ∷ w) clash = clash.first refl
 pub compatible_from_left : (ps left qs : Members) → SameClashes ps left qs → Compatible (object left) (object qs) → Compatible (object ps) (object qs)
 compatible_from_left ps left qs same none w clash = none w ((same w).0 clash)
 
-pub first_from_left : (ps left qs : Members) (w : Path) → SameClashes ps left qs → IsFirstClash (object left) (object qs) w → IsFirstClash (object ps) (object qs) w
-first_from_left ps left qs w same first = record { here = (same w).1 first.here; before = λ u below clash. first.before u below ((same u).0 clash) }
-
 -- what stands at a name in a map that begins with it, and in one that begins with another name
-at_first : (n : List ℕ) (p : Document) (ps : Members) → find n (member n p ps) ≡ Some p
+pub at_first : (n : List ℕ) (p : Document) (ps : Members) → find n (member n p ps) ≡ Some p
 at_first n p ps = rw is_name-self refl
 
-abbrev ClashOf : Option Document → Option Document → Path → Type 0
+abbrev pub ClashOf : Option Document → Option Document → Path → Type 0
 ClashOf p q w = (look_of p w ≡ nothing → ⊥) × (look_of q w ≡ nothing → ⊥) × (look_of p w ≡ look_of q w → ⊥)
 
-clash_of : (ps qs : Members) (n : List ℕ) (w : Path) → Clash (object ps) (object qs) (n ∷ w) → ClashOf (find n ps) (find n qs) w
+pub clash_of : (ps qs : Members) (n : List ℕ) (w : Path) → Clash (object ps) (object qs) (n ∷ w) → ClashOf (find n ps) (find n qs) w
 clash_of ps qs n w clash = (clash.first, clash.second, clash.differ)
 
-clash_from : (ps qs : Members) (n : List ℕ) (w : Path) → ClashOf (find n ps) (find n qs) w → Clash (object ps) (object qs) (n ∷ w)
+pub clash_from : (ps qs : Members) (n : List ℕ) (w : Path) → ClashOf (find n ps) (find n qs) w → Clash (object ps) (object qs) (n ∷ w)
 clash_from ps qs n w clash = record { first = clash.0; second = clash.1; differ = clash.2 }
 
 -- the first name may be passed where nothing clashes under it
@@ -129,21 +118,3 @@ pub clash_under : (n : List ℕ) (p q : Document) (ps qs : Members) (w : Path) �
 clash_under n p q ps qs w is clash =
     let there : ClashOf (Some p) (Some q) w = (clash.first, clash.second, clash.differ) in
     clash_from (member n p ps) qs n w (subst (λ o. ClashOf o (find n qs) w) (sym (at_first n p ps)) (subst (λ o. ClashOf (Some p) o w) (sym is) there))
-
--- and the first one under it is the first of the members
-pub first_under : (n : List ℕ) (p q : Document) (ps qs : Members) (w : Path) → IsMap (member n p ps) → find n qs ≡ Some q → IsFirstClash p q w → IsFirstClash (object (member n p ps)) (object qs) (n ∷ w)
-first_under n p q ps qs w map is first = record { here = clash_under n p q ps qs w is first.here; before = before }
-  where
-    before : (u : Path) → path_cmp u (n ∷ w) ≡ Less → Clash (object (member n p ps)) (object qs) u → ⊥
-    before [] below clash = clash.differ refl
-    before (m ∷ u) below clash = cases_name m n
-        (λ less.
-        let absent : find m (member n p ps) ≡ None = find-below m (member n p ps) (less, IsBelow-trans m n ps less map.1) in
-        clash.first (ap (λ o. look_of o u) absent))
-        (λ equal.
-        let here = same_from_cmp m n equal in
-        let under = clash_of (member n p ps) qs m u clash in
-        let there = subst (λ o. ClashOf (Some p) o u) is (subst (λ o. ClashOf o (find n qs) u) (at_first n p ps) (subst (λ k. ClashOf (find k (member n p ps)) (find k qs) u) here under)) in
-        let less : path_cmp u w ≡ Less = sym (ap (λ o. ordering_then o (path_cmp u w)) equal) ∙ below in
-        first.before u less (record { first = there.0; second = there.1; differ = there.2 }))
-        (λ greater. let never = sym (ap (λ o. ordering_then o (path_cmp u w)) greater) ∙ below in absurd (cc))

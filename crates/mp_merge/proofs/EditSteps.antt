@@ -5,9 +5,9 @@ use Rattle.mp_tree.specs.Look.{Path, Look, nothing, an_object, plain, look, look
 use Rattle.mp_tree.proofs.Facts.{is_here}
 use Rattle.mp_pointer.specs.Part.{part}
 use Rattle.mp_patch.specs.Operation.{Operation, add, remove, replace, ChangesContainer, AddsTo, to_map, RemovesFrom, from_map, Step}
-use Rattle.mp_patch.specs.Refusal.{LacksPlace}
+use Rattle.mp_patch.specs.Refusal.{HasNoPlace, LacksPlace}
 use Rattle.mp_patch.specs.Run.{IsRefused}
-use Rattle.mp_patch.specs.declared.fault.Cause.TheVariants.{RemoveRoot, Missing, NoPlace, TooDeep}
+use Rattle.mp_patch.proofs.Facts.{unrefused}
 use Rattle.mp_merge.specs.Application.{target_members}
 use Rattle.mp_merge.specs.Rewriting.{leaving}
 use Rattle.mp_merge.proofs.Edits.{with_name, with_at, at_path-with_at, maps-with_at, made, made_is, differ_at, with_at-push}
@@ -76,23 +76,20 @@ module _ (x : Document) (good : IsDocument x) where
 -- ---- each operation
 
 -- a value that fits is not refused where the maps above it are there
-added_freely : (x : Document) (w : Path) (v : Document) → MapsAbove (Some x) w → length w + depth v ≤ depth_limit → ¬ IsRefused x (add w v)
-added_freely x w v maps fits (NoPlace, (s, n, is, lacks)) =
+place_there : (x : Document) (w : Path) → MapsAbove (Some x) w → ¬ HasNoPlace x w
+place_there x w maps (s, n, is, lacks) =
     let map = is_map (at_path (Some x) s) (sym (look-end s (Some x)) ∙ from_maps_above w (Some x) maps s n [] is) in
     let front = to_maps_above s (Some x) (λ u m rest begins. from_maps_above w (Some x) maps u m (rest ++ n ∷ []) (is ∙ ap (λ r. r ++ n ∷ []) begins ∙ append_assoc u (m ∷ rest) (n ∷ []))) in
     subst (LacksPlace n) (part-at_path s x front ∙ map) lacks
-added_freely x w v maps fits (TooDeep, h) = omega (arith, h.1, fits)
-added_freely x w v maps fits (cause, h) = h
+
+added_freely : (x : Document) (w : Path) (v : Document) → MapsAbove (Some x) w → length w + depth v ≤ depth_limit → ¬ IsRefused x (add w v)
+added_freely x w v maps fits = unrefused x (add w v) (place_there x w maps, ((λ deep. omega (arith, deep, fits)), tt))
 
 replaced_freely : (x z : Document) (w : Path) (v : Document) → part x w ≡ Some z → length w + depth v ≤ depth_limit → ¬ IsRefused x (replace w v)
-replaced_freely x z w v there fits (Missing, h) = differ (part x w) z there h
-replaced_freely x z w v there fits (TooDeep, h) = omega (arith, h.1, fits)
-replaced_freely x z w v there fits (cause, h) = h
+replaced_freely x z w v there fits = unrefused x (replace w v) (differ (part x w) z there, ((λ deep. omega (arith, deep, fits)), tt))
 
 removed_freely : (x z : Document) (w : Path) → part x w ≡ Some z → w ≢ [] → ¬ IsRefused x (remove w)
-removed_freely x z w there deeper (RemoveRoot, h) = deeper h
-removed_freely x z w there deeper (Missing, h) = differ (part x w) z there h.1
-removed_freely x z w there deeper (cause, h) = h
+removed_freely x z w there deeper = unrefused x (remove w) (deeper, (differ (part x w) z there, tt))
 
 -- all names but the last, and the last
 pub last_of : (n : List ℕ) (w : Path) → (s : Path) × (k : List ℕ) × (n ∷ w ≡ s ++ k ∷ [])

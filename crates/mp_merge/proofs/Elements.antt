@@ -22,6 +22,10 @@ module _ {X : Type 0} where
   pub Contains-one : (x y : X) → Contains (x ∷ []) y → x ≡ y
   Contains-one x y at = elim (Contains-cases x y [] at) [ inl same ↦ same | inr none ↦ absurd (Contains-nil y none) ]
 
+  pub no_member : (xs : List X) → ((x : X) → ¬ Contains xs x) → xs ≡ []
+  no_member [] none = refl
+  no_member (x ∷ xs) none = absurd (none x (Contains-head x xs))
+
   -- where each element has one of two properties, some has the first or all have the second
   pub some_or_all : (P Q : X → Type 0) → ((x : X) → P x ⊎ Q x) → (xs : List X) → ((x : X) × Contains xs x × P x) ⊎ ((x : X) → Contains xs x → Q x)
   some_or_all P Q either [] = inr (λ x at. absurd (Contains-nil x at))

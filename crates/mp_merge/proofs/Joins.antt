@@ -59,12 +59,15 @@ join_is_commutative p q j = (
 
 -- ---- one join
 
-pub one_join : HasOneJoin
+pub one_join : (patches : List Document) (i j : Document) → IsDocument i → IsDocument j → IsJoin patches i → IsJoin patches j → i ≡ j
 one_join patches i j good other joined also = (equal_looks i j good other).1 (λ w.
     elim (speaks_or_silent patches w) [
       | inl some ↦ joined.said some.0 some.1 w some.2 ∙ sym (also.said some.0 some.1 w some.2)
       | inr none ↦ joined.silent w none ∙ sym (also.silent w none)
     ])
+
+pub same_join : HasOneJoin
+same_join ps qs i j same good other joined also = one_join qs i j good other (join_of_same ps qs i same joined) also
 
 pub empty_has_no_join : EmptyHasNoJoin
 empty_has_no_join j joined = is_here j (joined.silent [] (λ p at. absurd (Contains-nil p at)))

@@ -1,22 +1,23 @@
 -- The operations that the walk over a patch and a document adds are the rewriting.
-use Rattle.std.proofs.Common.{◌≡◌, ◌≢◌, inl, inr, ◌↔◌, ℕ, List, [], ◌∷◌, ◌++◌, map, Less, cond, false, Option, Some, None, refl, sym, ap, ap₂, ◌∙◌, subst, append-nil, append_assoc}
+use Rattle.std.proofs.Common.{◌≡◌, ◌≢◌, ◌⊎◌, inl, inr, ◌↔◌, ℕ, List, [], ◌∷◌, ◌++◌, map, Less, cond, false, Option, Some, None, refl, sym, ap, ap₂, ◌∙◌, subst, append-nil, append_assoc}
 use Rattle.std.proofs.lemmas.List.{map-append}
 use Rattle.std.proofs.lemmas.List.Elements.{Contains-append_left, Contains-append_right, Contains-append_cases}
-use Rattle.std.specs.List.{Contains}
+use Rattle.std.specs.List.{Contains, flat_map}
 use Rattle.std.specs.List.Sorted.{IsStrictlySortedBy}
 use Rattle.std.specs.Ordering.{ordering_then}
 use Rattle.mp_tree.specs.Document.{Document, null, flag, whole, string, list, object, Members, no_members, member, name_cmp, is_name, find, IsBelow, IsDocument, IsMap}
 use Rattle.mp_tree.specs.Look.{Path, Look, nothing, an_object, plain, look, look_of}
 use Rattle.mp_tree.proofs.Facts.{is_here, find-below, cases_same, is_name-self, name_cmp-self}
+use Rattle.mp_pointer.specs.Part.{part}
 use Rattle.mp_patch.specs.Operation.{Operation}
 use Rattle.mp_merge.specs.Clash.{path_cmp}
-use Rattle.mp_merge.specs.EditWalk.{IsOneEdit, NotBothMaps, AreEdits, AreMemberEdits}
-use Rattle.mp_merge.specs.Rewriting.{part_left, leaving, edit, IsRewriting}
+use Rattle.mp_merge.specs.EditWalk.{Guarded, IsOneEdit, NotBothMaps, AreEdits, AreMemberEdits}
+use Rattle.mp_merge.specs.Rewriting.{guard_of, guards, part_left, leaving, edit, IsRewriting}
 use Rattle.mp_merge.proofs.ClashesByName.{same_plain}
 use Rattle.mp_merge.proofs.EditPlaces.{differs_at_edit, edit_where_differs, left_by-no_map}
 use Rattle.mp_merge.proofs.Elements.{Contains-nil, Contains-head, Contains-tail, Contains-cases, Contains-one}
 use Rattle.mp_merge.proofs.Places.{MapsAbove, at_path, part-at_path}
-use Rattle.mp_merge.proofs.Rewritings.{Below}
+use Rattle.mp_merge.proofs.RisingPlaces.{BeginsAbove, Lists, lists_both, name_above, under_all}
 use Rattle.mp_merge.proofs.Says.{left_of}
 
 -- the edit places of a part of a patch and a part of a document that stand at s
@@ -26,10 +27,10 @@ record DiffersAt (s : Path) (t p : Option Document) (w : Path) : Type 0 where
   speaks : look_of p w ≢ nothing
   differs : look_of t w ≢ left_of (look_of p w) (s ++ w)
 
-abbrev edit_at : Path → Option Document → Option Document → Path → Operation
-edit_at s t p w = leaving (s ++ w) (look_of t w) (part_left (s ++ w) (at_path p w))
+abbrev edit_at : Path → Option Document → Option Document → Path → Guarded
+edit_at s t p w = (guard_of (s ++ w) (at_path t w), leaving (s ++ w) (look_of t w) (part_left (s ++ w) (at_path p w)))
 
-record Listing (s : Path) (t p : Option Document) (operations : List Operation) : Type 0 where
+record Listing (s : Path) (t p : Option Document) (operations : List Guarded) : Type 0 where
   places : List Path
   rising : IsStrictlySortedBy path_cmp places
   all : (w : Path) → Contains places w ↔ DiffersAt s t p w
@@ -71,7 +72,7 @@ at_root_alone : (s : Path) (p : Document) (t : Option Document) (w : Path) → N
 at_root_alone s p t [] other here = refl
 at_root_alone s p t (n ∷ w) other here = absurd (other here.patch_maps.0 here.maps.0)
 
-one_listing : (s : Path) (p : Document) (t : Option Document) (operations : List Operation) → NotBothMaps p t → IsOneEdit s p t operations → Listing s t (Some p) operations
+one_listing : (s : Path) (p : Document) (t : Option Document) (operations : List Guarded) → NotBothMaps p t → IsOneEdit s p t operations → Listing s t (Some p) operations
 unfolding IsStrictlySortedBy
 one_listing s p t operations other (inl (there, none)) = record {
   places = [];
@@ -88,7 +89,7 @@ one_listing s p t operations other (inr (open_yet, one)) = record {
   places = [] ∷ [];
   rising = (tt, tt);
   all = λ w. (λ at. subst (DiffersAt s t (Some p)) (Contains-one [] w at) at_root, λ here. subst (Contains ([] ∷ [])) (sym (at_root_alone s p t w other here)) (Contains-head [] []));
-  edits = one ∙ ap (λ u. leaving u (look_of t []) (part_left u (Some p)) ∷ []) (sym (append-nil s));
+  edits = one ∙ ap (λ u. (guard_of u t, leaving u (look_of t []) (part_left u (Some p))) ∷ []) (sym (append-nil s));
 }
   where
     at_root : DiffersAt s t (Some p) []
@@ -122,55 +123,12 @@ module _ (s : Path) (ds : Members) where
   }
 
   edit_under : (k : List ℕ) (w : Path) (qs : Members) → edit_at s (Some (object ds)) (Some (object qs)) (k ∷ w) ≡ edit_at (s ++ k ∷ []) (find k ds) (find k qs) w
-  edit_under k w qs = ap (λ u. leaving u (look_of (find k ds) w) (part_left u (at_path (find k qs) w))) (sym (append_assoc s (k ∷ []) w))
+  edit_under k w qs = ap (λ u. (guard_of u (at_path (find k ds) w), leaving u (look_of (find k ds) w) (part_left u (at_path (find k qs) w)))) (sym (append_assoc s (k ∷ []) w))
 
   carried_over : (k : List ℕ) (w : Path) (qs ps : Members) → find k qs ≡ find k ps → Under qs (k ∷ w) → Under ps (k ∷ w)
   carried_over k w qs ps same here = under_name k w ps (subst (λ o. DiffersAt (s ++ k ∷ []) (find k ds) o w) same (inside_name k w qs here))
 
--- ---- rising lists
-
-rising-append : (us ws : List Path) → IsStrictlySortedBy path_cmp us → IsStrictlySortedBy path_cmp ws → ((u w : Path) → Contains us u → Contains ws w → path_cmp u w ≡ Less) → IsStrictlySortedBy path_cmp (us ++ ws)
-unfolding IsStrictlySortedBy
-rising-append [] ws rising also below = also
-rising-append (u ∷ us) ws rising also below =
-    (each us rising.0, rising-append us ws rising.1 also (λ v w at there. below v w (Contains-tail u v us at) there))
-  where
-    all_of : (vs : List Path) → ((w : Path) → Contains vs w → path_cmp u w ≡ Less) → Below u vs
-    all_of [] less = tt
-    all_of (v ∷ vs) less = (less v (Contains-head v vs), all_of vs (λ w at. less w (Contains-tail v w vs at)))
-
-    each : (vs : List Path) → Below u vs → Below u (vs ++ ws)
-    each [] less = all_of ws (λ w at. below u w (Contains-head u us) at)
-    each (v ∷ vs) less = (less.0, each vs less.1)
-
-under_less : (n : List ℕ) (u w : Path) → path_cmp u w ≡ Less → path_cmp (n ∷ u) (n ∷ w) ≡ Less
-under_less n u w less = ap (λ o. ordering_then o (path_cmp u w)) (name_cmp-self n) ∙ less
-
-abbrev under_all : List ℕ → List Path → List Path
-under_all n ws = map (λ w. n ∷ w) ws
-
-rising-under : (n : List ℕ) (ws : List Path) → IsStrictlySortedBy path_cmp ws → IsStrictlySortedBy path_cmp (under_all n ws)
-unfolding IsStrictlySortedBy
-rising-under n [] rising = tt
-rising-under n (w ∷ ws) rising = (each ws rising.0, rising-under n ws rising.1)
-  where
-    each : (vs : List Path) → Below w vs → Below (n ∷ w) (under_all n vs)
-    each [] less = tt
-    each (v ∷ vs) less = (under_less n w v less.0, each vs less.1)
-
-Contains-under : (n : List ℕ) (w : Path) (ws : List Path) → Contains ws w → Contains (under_all n ws) (n ∷ w)
-Contains-under n w [] at = absurd (Contains-nil w at)
-Contains-under n w (v ∷ ws) at = elim (Contains-cases v w ws at) [
-  | inl is ↦ subst (λ u. Contains (under_all n (v ∷ ws)) (n ∷ u)) is (Contains-head (n ∷ v) (under_all n ws))
-  | inr there ↦ Contains-tail (n ∷ v) (n ∷ w) (under_all n ws) (Contains-under n w ws there)
-]
-
-from_under : (n : List ℕ) (v : Path) (ws : List Path) → Contains (under_all n ws) v → (w : Path) × Contains ws w × (n ∷ w ≡ v)
-from_under n v [] at = absurd (Contains-nil v at)
-from_under n v (w ∷ ws) at = elim (Contains-cases (n ∷ w) v (under_all n ws) at) [
-  | inl is ↦ (w, Contains-head w ws, is)
-  | inr there ↦ let rest = from_under n v ws there in (rest.0, Contains-tail w rest.0 ws rest.1, rest.2)
-]
+-- ---- lists of places
 
 map-under : {A : Type 0} (n : List ℕ) (f g : Path → A) → ((w : Path) → f (n ∷ w) ≡ g w) → (ws : List Path) → map f (under_all n ws) ≡ map g ws
 map-under n f g same [] = refl
@@ -180,17 +138,9 @@ map-same : {A : Type 0} (f g : Path → A) (ws : List Path) → ((w : Path) → 
 map-same f g [] same = refl
 map-same f g (w ∷ ws) same = ap₂ (λ x xs. x ∷ xs) (same w (Contains-head w ws)) (map-same f g ws (λ v at. same v (Contains-tail w v ws at)))
 
--- a name that the members have is above each name that is below them all
-name_above : (n k : List ℕ) (w : Path) (ps : Members) → IsBelow n ps → look_of (find k ps) w ≢ nothing → name_cmp n k ≡ Less
-name_above n k w no_members below here = absurd (here refl)
-name_above n k w (member m p ps) below here =
-    cases_same k m
-    (λ same. ap (name_cmp n) same ∙ below.0)
-    (λ other. name_above n k w ps below.1 (λ none. here (ap (λ b. look_of (cond b (Some p) (find k ps)) w) other ∙ none)))
-
 -- ---- the edits under the first name, and those under the others
 
-module _ (s : Path) (ds : Members) (n : List ℕ) (p : Document) (ps : Members) (below : IsBelow n ps) (first rest : List Operation)
+module _ (s : Path) (ds : Members) (n : List ℕ) (p : Document) (ps : Members) (below : IsBelow n ps) (first rest : List Guarded)
     (one : Listing (s ++ n ∷ []) (find n ds) (Some p) first) (others : Listing s (Some (object ds)) (Some (object ps)) rest) where
   abbrev whole_map : Members
   whole_map = member n p ps
@@ -215,55 +165,51 @@ module _ (s : Path) (ds : Members) (n : List ℕ) (p : Document) (ps : Members) 
     cases_same k n (λ same. absurd (here.speaks (ap (λ o. look_of o u) (ap (λ m. find m ps) same ∙ find-below n ps below)))) (λ other. other_is k other),
   )
 
-  to_place : (w : Path) → Contains places_of_both w → Under s ds whole_map w
-  to_place w at = elim (Contains-append_cases (under_all n one.places) others.places w at) [
-    | inl here ↦
-        let u = from_under n w one.places here in
-        subst (Under s ds whole_map) u.2 (under_name s ds n u.0 whole_map (subst (λ o. DiffersAt (s ++ n ∷ []) (find n ds) o u.0) (sym first_is) ((one.all u.0).0 u.1)))
-    | inr there ↦
-        let place = (others.all w).0 there in
-        let k = among_others w place in
-        subst (Under s ds whole_map) (sym k.2) (carried_over s ds k.0 k.1 ps whole_map (sym k.4) (subst (Under s ds ps) k.2 place))
-  ]
+  from_first : (w : Path) → DiffersAt (s ++ n ∷ []) (find n ds) (Some p) w → Under s ds whole_map (n ∷ w)
+  from_first w here = under_name s ds n w whole_map (subst (λ o. DiffersAt (s ++ n ∷ []) (find n ds) o w) (sym first_is) here)
 
-  from_place : (w : Path) → Under s ds whole_map w → Contains places_of_both w
-  from_place [] here = absurd (here.differs refl)
-  from_place (k ∷ u) here =
+  from_rest : (w : Path) → Under s ds ps w → Under s ds whole_map w
+  from_rest w here = let k = among_others w here in subst (Under s ds whole_map) (sym k.2) (carried_over s ds k.0 k.1 ps whole_map (sym k.4) (subst (Under s ds ps) k.2 here))
+
+  rest_above : (w : Path) → Under s ds ps w → BeginsAbove n w
+  rest_above w here = let k = among_others w here in (k.0, k.1, k.2, k.3)
+
+  split : (w : Path) → Under s ds whole_map w → ((u : Path) × (n ∷ u ≡ w) × DiffersAt (s ++ n ∷ []) (find n ds) (Some p) u) ⊎ Under s ds ps w
+  split [] here = absurd (here.differs refl)
+  split (k ∷ u) here =
       cases_same k n
       (λ same.
       let there : Under s ds whole_map (n ∷ u) = subst (λ m. Under s ds whole_map (m ∷ u)) same here in
-      let place = subst (λ o. DiffersAt (s ++ n ∷ []) (find n ds) o u) first_is (inside_name s ds n u whole_map there) in
-      subst (λ m. Contains places_of_both (m ∷ u)) (sym same) (Contains-append_left (under_all n one.places) others.places (n ∷ u) (Contains-under n u one.places ((one.all u).1 place))))
-      (λ other. Contains-append_right (under_all n one.places) others.places (k ∷ u) ((others.all (k ∷ u)).1 (carried_over s ds k u whole_map ps (other_is k other) here)))
+      inl (u, ap (λ m. m ∷ u) (sym same), subst (λ o. DiffersAt (s ++ n ∷ []) (find n ds) o u) first_is (inside_name s ds n u whole_map there)))
+      (λ other. inr (carried_over s ds k u whole_map ps (other_is k other) here))
 
-  ascending : (u w : Path) → Contains (under_all n one.places) u → Contains others.places w → path_cmp u w ≡ Less
-  ascending u w at there =
-      let v = from_under n u one.places at in
-      let k = among_others w ((others.all w).0 there) in
-      ap₂ path_cmp (sym v.2) k.2 ∙ ap (λ o. ordering_then o (path_cmp v.0 k.1)) k.3
+  abbrev listed : Lists (Under s ds whole_map) places_of_both
+  listed =
+      lists_both n (DiffersAt (s ++ n ∷ []) (find n ds) (Some p)) (Under s ds ps) (Under s ds whole_map) one.places others.places
+      (record { rising = one.rising; all = one.all }) (record { rising = others.rising; all = others.all }) from_first from_rest rest_above split
 
   same_edit : (w : Path) → Contains others.places w → edit_at s (Some (object ds)) (Some (object whole_map)) w ≡ edit_at s (Some (object ds)) (Some (object ps)) w
   same_edit w at =
       let k = among_others w ((others.all w).0 at) in
       ap (edit_at s (Some (object ds)) (Some (object whole_map))) k.2
-      ∙ ap (λ o. leaving (s ++ k.0 ∷ k.1) (look_of (find k.0 ds) k.1) (part_left (s ++ k.0 ∷ k.1) (at_path o k.1))) k.4
+      ∙ ap (λ o. (guard_of (s ++ k.0 ∷ k.1) (at_path (find k.0 ds) k.1), leaving (s ++ k.0 ∷ k.1) (look_of (find k.0 ds) k.1) (part_left (s ++ k.0 ∷ k.1) (at_path o k.1)))) k.4
       ∙ ap (edit_at s (Some (object ds)) (Some (object ps))) (sym k.2)
 
-  both_listings : (operations : List Operation) → operations ≡ first ++ rest → Listing s (Some (object ds)) (Some (object whole_map)) operations
+  both_listings : (operations : List Guarded) → operations ≡ first ++ rest → Listing s (Some (object ds)) (Some (object whole_map)) operations
   both_listings operations is =
       let e = edit_at s (Some (object ds)) (Some (object whole_map)) in
       let under = map-under n e (edit_at (s ++ n ∷ []) (find n ds) (Some p)) (λ w. edit_under s ds n w whole_map ∙ ap (λ o. edit_at (s ++ n ∷ []) (find n ds) o w) first_is) one.places in
       record {
         places = places_of_both;
-        rising = rising-append (under_all n one.places) others.places (rising-under n one.places one.rising) others.rising ascending;
-        all = λ w. (to_place w, from_place w);
+        rising = listed.rising;
+        all = listed.all;
         edits = is ∙ ap₂ (λ xs ys. xs ++ ys) (one.edits ∙ sym under) (others.edits ∙ sym (map-same e (edit_at s (Some (object ds)) (Some (object ps))) others.places same_edit))
             ∙ sym (map-append e (under_all n one.places) others.places);
       }
 
 -- ---- all edits
 
-no_member_edits : (s : Path) (ds : Members) (operations : List Operation) → operations ≡ [] → Listing s (Some (object ds)) (Some (object no_members)) operations
+no_member_edits : (s : Path) (ds : Members) (operations : List Guarded) → operations ≡ [] → Listing s (Some (object ds)) (Some (object no_members)) operations
 unfolding IsStrictlySortedBy
 no_member_edits s ds operations none = record {
   places = [];
@@ -277,18 +223,35 @@ no_member_edits s ds operations none = record {
     never (n ∷ w) here = here.speaks refl
 
 mutual
-  listing : (p : Document) (s : Path) (t : Option Document) (operations : List Operation) → IsDocument p → AreEdits s p t operations → Listing s t (Some p) operations
+  listing : (p : Document) (s : Path) (t : Option Document) (operations : List Guarded) → IsDocument p → AreEdits s p t operations → Listing s t (Some p) operations
   listing (object ps) s (Some (object ds)) operations good edits = member_listing ps s ds operations good edits
   listing p s t operations good edits = one_listing s p t operations (λ one two. cc) edits
 
-  member_listing : (ps : Members) (s : Path) (ds : Members) (operations : List Operation) → IsMap ps → AreMemberEdits s ps ds operations → Listing s (Some (object ds)) (Some (object ps)) operations
+  member_listing : (ps : Members) (s : Path) (ds : Members) (operations : List Guarded) → IsMap ps → AreMemberEdits s ps ds operations → Listing s (Some (object ds)) (Some (object ps)) operations
   member_listing no_members s ds operations good none = no_member_edits s ds operations none
   member_listing (member n p ps) s ds operations good (first, rest, is, here, later) =
       both_listings s ds n p ps good.1 first rest (listing p (s ++ n ∷ []) (find n ds) first good.0 here) (member_listing ps s ds rest good.2 later) operations is
 
-pub walk_is_rewriting : (d p : Document) (operations : List Operation) → IsDocument p → AreEdits [] p (Some d) operations → IsRewriting d p operations
-walk_is_rewriting d p operations good edits =
-    let all = listing p [] (Some d) operations good edits in
+-- the guards and the edits of what was found at the places
+module _ (d p : Document) where
+  abbrev guarded_at : Path → Guarded
+  guarded_at w = (guard_of w (part d w), edit d p w)
+
+  guards_found : (ws : List Path) → flat_map (λ (g : Guarded). g.0) (map guarded_at ws) ≡ guards d ws
+  guards_found [] = refl
+  guards_found (w ∷ ws) = ap (λ os. guard_of w (part d w) ++ os) (guards_found ws)
+
+  edits_found : (ws : List Path) → map (λ (g : Guarded). g.1) (map guarded_at ws) ≡ map (edit d p) ws
+  edits_found [] = refl
+  edits_found (w ∷ ws) = ap (λ os. edit d p w ∷ os) (edits_found ws)
+
+pub walk_is_rewriting : (d p : Document) (found : List Guarded) (operations : List Operation) → IsDocument p → AreEdits [] p (Some d) found
+    → operations ≡ flat_map (λ (g : Guarded). g.0) found ++ map (λ (g : Guarded). g.1) found → IsRewriting d p operations
+walk_is_rewriting d p found operations good edits is =
+    let all = listing p [] (Some d) found good edits in
+    let found_is : found ≡ map (guarded_at d p) all.places = all.edits ∙ map-same (edit_at [] (Some d) (Some p)) (guarded_at d p) all.places (λ w at.
+    let here = (all.all w).0 at in
+    ap (λ o. (guard_of w (at_path (Some d) w), leaving w (look d w) (part_left w o))) (sym (part-at_path w p here.patch_maps)) ∙ ap (λ o. (guard_of w o, edit d p w)) (sym (part-at_path w d here.maps))) in
     record {
       places = all.places;
       rising = all.rising;
@@ -296,5 +259,6 @@ walk_is_rewriting d p operations good edits =
         λ at. let here = (all.all w).0 at in edit_where_differs d p w (record { maps = here.maps; patch_maps = here.patch_maps; speaks = here.speaks; differs = here.differs }),
         λ place. let here = differs_at_edit d p w place in (all.all w).1 (record { maps = here.maps; patch_maps = here.patch_maps; speaks = here.speaks; differs = here.differs }),
       );
-      edits = all.edits ∙ map-same (edit_at [] (Some d) (Some p)) (edit d p) all.places (λ w at. ap (λ o. leaving w (look d w) (part_left w o)) (sym (part-at_path w p ((all.all w).0 at).patch_maps)));
+      guarded = is ∙ ap (λ (gs : List Guarded). flat_map (λ (g : Guarded). g.0) gs ++ map (λ (g : Guarded). g.1) gs) found_is
+          ∙ ap₂ (λ (xs ys : List Operation). xs ++ ys) (guards_found d p all.places) (edits_found d p all.places);
     }

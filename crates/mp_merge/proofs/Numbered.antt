@@ -11,7 +11,7 @@ use Rattle.mp_tree.specs.declared.doc.Doc.{Doc}
 use Rattle.mp_tree.proofs.Facts.{IsDocument-document}
 use Rattle.mp_merge.specs.Clash.{Compatible}
 use Rattle.mp_merge.specs.Join.{IsJoin}
-use Rattle.mp_merge.specs.Lists.{CompatibleBelow, IsFreeBelow, IsClashBelow, IsFirstConflict}
+use Rattle.mp_merge.specs.Lists.{CompatibleBelow, IsFreeBelow, IsClashBelow, IsToldPair}
 use Rattle.mp_merge.specs.Walks.{union}
 use Rattle.mp_merge.proofs.ClashesByName.{compatible-sym}
 use Rattle.mp_merge.proofs.Joins.{compatible_from_join, compatible_with_join}
@@ -58,9 +58,9 @@ below_contains patches k p within at =
     let is : p ≡ get_or patches at.0 p = sym at.2 ∙ get_or-take k patches at.0 p less in
     (at.0, less, slice_get_read patches (length patches) at.0 p refl (omega (arith, less)) is)
 
--- where those below have a join, the first clash with one of them is the first conflict of the list
-pub first_conflict : (patches : List Document) (first second : ℕ) (place : Path) (j : Document) → second < length patches → IsJoin (take second patches) j → IsClashBelow patches first second place → IsFirstConflict patches first second place
-first_conflict patches first second place j within joined clash = record {
+-- where those below have a join, the first that clashes is told
+pub told_pair : (patches : List Document) (first second : ℕ) (places : List Path) (j : Document) → second < length patches → IsJoin (take second patches) j → IsClashBelow patches first second places → IsToldPair patches first second places
+told_pair patches first second places j within joined clash = record {
   clash = clash;
   least_second = λ k below q at_k i p less at_i. compatible_from_join (take second patches) j joined p q (contains_below patches second i p (omega arith) (omega arith) at_i) (contains_below patches second k q below (omega arith) at_k);
 }

@@ -1,6 +1,6 @@
 -- Applying a merge patch (RFC 7396 section 2).
-use Rattle.std.specs.Prelude.{◌≡◌, List, [], ◌∷◌, ℕ, Option, None, Some}
-use Rattle.mp_tree.specs.Document.{Document, null, flag, whole, string, list, object, Members, no_members, member, find, put, without, IsMap, depth}
+use Rattle.std.specs.Prelude.{List, [], ◌∷◌, ℕ, Option, None, Some}
+use Rattle.mp_tree.specs.Document.{Document, null, flag, whole, string, list, object, Members, no_members, member, find, put, without, depth}
 
 -- the members of a target: none where it is absent or no object
 abbrev pub target_members : Option Document → Members
@@ -56,7 +56,3 @@ unless_null (object ps) merged = Some merged
 abbrev pub after_patch : Option Document → Option Document → Option Document
 after_patch t None = t
 after_patch t (Some p) = unless_null p (mp t p)
-
--- Application, stated at each name
-abbrev pub AppliesAtEachName : Type 0
-AppliesAtEachName = (ts ps : Members) → IsMap ts → IsMap ps → (n : List ℕ) → find n (mp_members ts ps) ≡ after_patch (find n ts) (find n ps)

@@ -1,7 +1,8 @@
--- Where two merge patches clash, and which clash is the first.
-use Rattle.std.specs.Prelude.{◌≡◌, ◌≢◌}
+-- Where two merge patches clash: their conflicts.
+use Rattle.std.specs.Prelude.{◌≡◌, ◌≢◌, ◌↔◌, List, []}
+use Rattle.std.specs.List.{Contains}
+use Rattle.std.specs.List.Sorted.{IsStrictlySortedBy}
 use Rattle.std.specs.declared.cmp.Ordering.{Ordering}
-use Rattle.std.specs.declared.cmp.Ordering.TheVariants.{Less}
 use Rattle.std.specs.Cmp.Lexicographic.{slice_cmp}
 use Rattle.mp_tree.specs.Document.{Document, name_cmp}
 use Rattle.mp_tree.specs.Look.{Path, nothing, look}
@@ -20,7 +21,12 @@ Compatible p q = (w : Path) → ¬ Clash p q w
 abbrev pub path_cmp : Path → Path → Ordering
 path_cmp = slice_cmp name_cmp
 
--- the first conflict: the clash before which there is no clash
-pub record IsFirstClash (p q : Document) (w : Path) : Type 0 where
-  pub here : Clash p q w
-  pub before : (u : Path) → path_cmp u w ≡ Less → ¬ Clash p q u
+-- all conflicts of two patches: each clash, once, in the order of paths
+pub record AreAllClashes (p q : Document) (places : List Path) : Type 0 where
+  pub rising : IsStrictlySortedBy path_cmp places
+  pub all : (w : Path) → Contains places w ↔ Clash p q w
+
+-- the patches clash, and these are all their conflicts
+pub record AreConflicts (p q : Document) (places : List Path) : Type 0 where
+  pub some : places ≢ []
+  pub clashes : AreAllClashes p q places

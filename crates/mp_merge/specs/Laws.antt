@@ -1,16 +1,45 @@
 -- Laws of merge patches alone. Each is the contract of a function of the module `laws` that runs nothing.
-use Rattle.std.specs.Prelude.{◌≡◌, ◌≢◌, ◌≤◌, ◌↔◌, ℕ, List, [], ◌∷◌, ◌++◌, Option, None, Some}
+use Rattle.std.specs.Prelude.{◌≡◌, ◌≢◌, ◌≤◌, ◌↔◌, ◌⊎◌, ℕ, List, [], ◌∷◌, ◌++◌, Option, None, Some, IfSome, slice_get}
 use Rattle.std.specs.List.{All, Contains}
-use Rattle.mp_tree.specs.Document.{Document, object, Members, find, IsDocument, IsMap, depth, depth_limit}
+use Rattle.mp_tree.specs.Document.{Document, null, object, Members, find, IsDocument, IsMap, depth, depth_limit}
 use Rattle.mp_tree.specs.Look.{Path, plain, look}
-use Rattle.mp_patch.specs.Operation.{Operation}
-use Rattle.mp_patch.specs.Run.{Runs}
-use Rattle.mp_merge.specs.Application.{mp, in_turn}
-use Rattle.mp_merge.specs.Clash.{Clash, Compatible, IsFirstClash}
+use Rattle.mp_patch.specs.Laws.{HaveDocuments}
+use Rattle.mp_patch.specs.Operation.{Operation, test}
+use Rattle.mp_patch.specs.Run.{Runs, RefusedAt}
+use Rattle.mp_patch.specs.declared.fault.Cause.{Cause}
+use Rattle.mp_pointer.specs.Part.{part}
+use Rattle.mp_merge.specs.EditPlace.{IsEditPlace}
+use Rattle.mp_merge.specs.Application.{mp, in_turn, target_members, after_patch}
+use Rattle.mp_merge.specs.Clash.{Clash, Compatible, AreAllClashes}
 use Rattle.mp_merge.specs.Join.{IsJoin}
-use Rattle.mp_merge.specs.Lists.{PairwiseCompatible, AreWithin, IsFirstConflict}
+use Rattle.mp_merge.specs.Lists.{PairwiseCompatible, AreWithin, IsToldPair}
 use Rattle.mp_merge.specs.Outcome.{IsOutcome}
+use Rattle.mp_merge.specs.Resumption.{AreTries, last_of}
 use Rattle.mp_merge.specs.Rewriting.{IsRewriting, ListsEdits}
+
+-- ---- application (RFC 7396 section 2)
+
+-- an object makes an object of every target: at each name what the patch makes of what the target has there
+abbrev pub AppliesAtEachName : Type 0
+AppliesAtEachName =
+    (t : Option Document) (ps : Members) → IfSome t IsDocument → IsMap ps
+    → (ms : Members) × (mp t (object ps) ≡ object ms) × IsMap ms × ((n : List ℕ) → find n ms ≡ after_patch (find n (target_members t)) (find n ps))
+
+-- and any other patch is the result
+abbrev pub OthersReplace : Type 0
+OthersReplace = (t : Option Document) (p : Document) → look p [] ≡ plain p → mp t p ≡ p
+
+-- merging into null gives what merging into nothing gives
+abbrev pub MergesIntoNull : Type 0
+MergesIntoNull = (p : Document) → mp (Some null) p ≡ mp None p
+
+-- applying a patch twice is applying it once
+abbrev pub AppliedOnce : Type 0
+AppliedOnce = (d p : Document) → IsDocument d → IsDocument p → mp (Some (mp (Some d) p)) p ≡ mp (Some d) p
+
+-- after any number of tries that were refused, one that succeeds leaves one application to the first target
+abbrev pub TriesResume : Type 0
+TriesResume = (d p : Document) (tries : List Document) → AreTries p d tries → mp (Some (last_of d tries)) p ≡ mp (Some d) p
 
 -- ---- outcomes
 
@@ -50,17 +79,34 @@ Exchange = (d p q : Document) → IsDocument d → IsDocument p → IsDocument q
 
 -- ---- clashes
 
-abbrev pub HasOneFirstClash : Type 0
-HasOneFirstClash = (p q : Document) (u w : Path) → IsFirstClash p q u → IsFirstClash p q w → u ≡ w
+-- two patches have a list of all their conflicts
+abbrev pub ClashesExist : Type 0
+ClashesExist = (p q : Document) → IsDocument p → (places : List Path) × AreAllClashes p q places
 
--- a list of patches has at most one first conflict
-abbrev pub HasOneFirstConflict : Type 0
-HasOneFirstConflict = (patches : List Document) (first second other_first other_second : ℕ) (place other_place : Path) → IsFirstConflict patches first second place → IsFirstConflict patches other_first other_second other_place
-    → (first ≡ other_first) × (second ≡ other_second) × (place ≡ other_place)
+-- and one alone
+abbrev pub HaveOneList : Type 0
+HaveOneList = (p q : Document) (places others : List Path) → AreAllClashes p q places → AreAllClashes p q others → places ≡ others
 
--- and none where they are pairwise compatible
-abbrev pub CompatibleHaveNoConflict : Type 0
-CompatibleHaveNoConflict = (patches : List Document) (first second : ℕ) (place : Path) → IsFirstConflict patches first second place → ¬ PairwiseCompatible patches
+-- it is empty exactly if they are compatible
+abbrev pub EmptyIfCompatible : Type 0
+EmptyIfCompatible = (p q : Document) (places : List Path) → AreAllClashes p q places → (places ≡ []) ↔ Compatible p q
+
+-- a list of patches is pairwise compatible, or there is the pair that is told of it
+abbrev pub CompatibleOrTold : Type 0
+CompatibleOrTold =
+    (patches : List Document) → All IsDocument patches
+    → PairwiseCompatible patches ⊎ ((first : ℕ) × (second : ℕ) × (places : List Path) × IsToldPair patches first second places)
+
+-- and not both
+abbrev pub CompatibleHaveNone : Type 0
+CompatibleHaveNone = (patches : List Document) (first second : ℕ) (places : List Path) → IsToldPair patches first second places → ¬ PairwiseCompatible patches
+
+-- the pair that is told is one alone, and so are its conflicts
+abbrev pub HasOneToldPair : Type 0
+HasOneToldPair =
+    (patches : List Document) (first second other_first other_second : ℕ) (places other_places : List Path)
+    → IsToldPair patches first second places → IsToldPair patches other_first other_second other_places
+    → (first ≡ other_first) × (second ≡ other_second) × (places ≡ other_places)
 
 -- a patch clashes with a join exactly where it clashes with one of the patches that were joined
 abbrev pub ClashesWithAMember : List Document → Document → Path → Type 0
@@ -73,9 +119,9 @@ ClashWithAJoin = (patches : List Document) (j r : Document) (w : Path) → IsJoi
 abbrev pub CompatibleByNames : Type 0
 CompatibleByNames = (ps qs : Members) → Compatible (object ps) (object qs) ↔ ((n : List ℕ) (p q : Document) → find n ps ≡ Some p → find n qs ≡ Some q → Compatible p q)
 
--- and what is no object is compatible with its equal alone
+-- and what is no object is compatible with its equal alone, on either side
 abbrev pub CompatibleIfEqual : Type 0
-CompatibleIfEqual = (p q : Document) → look p [] ≡ plain p → Compatible p q ↔ (p ≡ q)
+CompatibleIfEqual = (p q : Document) → (look p [] ≡ plain p) ⊎ (look q [] ≡ plain q) → Compatible p q ↔ (p ≡ q)
 
 -- ---- joins
 
@@ -125,9 +171,9 @@ pub record IsJoinFromRight (p q r j : Document) : Type 0 where
 abbrev pub JoinIsAssociative : Type 0
 JoinIsAssociative = (p q r j : Document) → IsDocument p → IsDocument q → IsDocument r → IsJoinFromLeft p q r j ↔ IsJoinFromRight p q r j
 
--- a collection has at most one join
+-- lists with the same members have at most one join
 abbrev pub HasOneJoin : Type 0
-HasOneJoin = (patches : List Document) (i j : Document) → IsDocument i → IsDocument j → IsJoin patches i → IsJoin patches j → i ≡ j
+HasOneJoin = (ps qs : List Document) (i j : Document) → HaveSameMembers ps qs → IsDocument i → IsDocument j → IsJoin ps i → IsJoin qs j → i ≡ j
 
 -- the empty collection has none, since `{}` changes 5: no patch leaves every document as it is
 abbrev pub EmptyHasNoJoin : Type 0
@@ -166,11 +212,28 @@ RewritingExists = (d p : Document) → IsDocument p → (operations : List Opera
 abbrev pub HasOneRewriting : Type 0
 HasOneRewriting = (d p : Document) (operations others : List Operation) → IsRewriting d p operations → IsRewriting d p others → operations ≡ others
 
+-- the values of its operations are documents
+abbrev pub RewritingHasDocuments : Type 0
+RewritingHasDocuments = (d p : Document) (operations : List Operation) → IsDocument d → IsDocument p → IsRewriting d p operations → HaveDocuments operations
+
 -- it is empty exactly if the application leaves the document as it is
 abbrev pub EmptyRewriting : Type 0
 EmptyRewriting = (d p : Document) (operations : List Operation) → IsDocument d → IsDocument p → IsRewriting d p operations → (operations ≡ []) ↔ (mp (Some d) p ≡ d)
 
--- the edits of a document and a patch, taken in any order, lead to the application, and none is refused
+-- where the rewriting of d runs from any document x, each place that it changes has in x the part that it has in d
+abbrev pub GuardedList : Type 0
+GuardedList =
+    (d p x e : Document) (operations : List Operation) (w : Path) (v : Document) → IsRewriting d p operations → Runs x operations e → IsEditPlace d p w
+    → part d w ≡ Some v → part x w ≡ Some v
+
+-- what a test that is refused tells, where the rewriting of d is applied to x: it is of a part of d, x does not have
+-- that part there, and nothing of x was changed
+abbrev pub RefusedGuardTells : Type 0
+RefusedGuardTells =
+    (d p x : Document) (operations : List Operation) (k : ℕ) (cause : Cause) (w : Path) (v : Document) → IsRewriting d p operations
+    → (refused : RefusedAt x operations k cause) → slice_get operations k ≡ Some (test w v) → (part d w ≡ Some v) × (part x w ≢ Some v) × (refused.0 ≡ x)
+
+-- the tests and then the edits of a document and a patch in any order lead to the application, and none is refused
 abbrev pub EditsInAnyOrder : Type 0
 EditsInAnyOrder = (d p : Document) (operations : List Operation) → IsDocument d → IsDocument p → depth p ≤ depth_limit → ListsEdits d p operations → Runs d operations (mp (Some d) p)
 

@@ -3,7 +3,7 @@ use Rattle.std.specs.Prelude.{◌≡◌, ◌<◌, ◌≤◌, ℕ, List, [], Some
 use Rattle.std.specs.List.{All, Contains}
 use Rattle.mp_tree.specs.Document.{Document, depth}
 use Rattle.mp_tree.specs.Look.{Path}
-use Rattle.mp_merge.specs.Clash.{Compatible, IsFirstClash}
+use Rattle.mp_merge.specs.Clash.{Compatible, AreConflicts}
 use Rattle.mp_merge.specs.declared.fault.ListFault.{ListFault}
 use Rattle.mp_merge.specs.declared.fault.ListFault.TheVariants.{NoPatches, ConflictOf, OutOfMemory}
 
@@ -23,30 +23,30 @@ CompatibleBelow patches k q = (i : ℕ) (p : Document) → i < k → slice_get p
 abbrev pub IsFreeBelow : List Document → ℕ → Type 0
 IsFreeBelow patches k = (q : Document) → slice_get patches k ≡ Some q → CompatibleBelow patches k q
 
--- `first` is the least number of a patch before number `second` that clashes with it, and `place` is their first conflict
-pub record IsClashBelow (patches : List Document) (first second : ℕ) (place : Path) : Type 0 where
+-- `first` is the least number of a patch before number `second` that clashes with it, and `places` are all their conflicts
+pub record IsClashBelow (patches : List Document) (first second : ℕ) (places : List Path) : Type 0 where
   pub one : Document
   pub other : Document
   pub at_first : slice_get patches first ≡ Some one
   pub at_second : slice_get patches second ≡ Some other
   pub in_order : first < second
-  pub conflict : IsFirstClash one other place
+  pub conflicts : AreConflicts one other places
   pub least_first : CompatibleBelow patches first other
 
 -- `second` is the least number of a patch that clashes with an earlier one, `first` the least number below it that
--- clashes with it, and `place` is the first conflict of the two
-pub record IsFirstConflict (patches : List Document) (first second : ℕ) (place : Path) : Type 0 where
-  pub clash : IsClashBelow patches first second place
+-- clashes with it, and `places` are all conflicts of the two: the pair that is told of the list
+pub record IsToldPair (patches : List Document) (first second : ℕ) (places : List Path) : Type 0 where
+  pub clash : IsClashBelow patches first second places
   pub least_second : (k : ℕ) → k < second → IsFreeBelow patches k
 
 -- why a list has no join; want of memory says nothing of it
 abbrev pub IsListFault : ListFault → List Document → Type 0
 IsListFault NoPatches patches = patches ≡ []
-IsListFault (ConflictOf first second place) patches = IsFirstConflict patches first second place
+IsListFault (ConflictOf first second places) patches = IsToldPair patches first second places.items
 IsListFault OutOfMemory patches = ⊤
 
 -- why a list can't be replayed: the empty list can
 abbrev pub IsReplayFault : ListFault → List Document → Type 0
 IsReplayFault NoPatches patches = ⊥
-IsReplayFault (ConflictOf first second place) patches = IsFirstConflict patches first second place
+IsReplayFault (ConflictOf first second places) patches = IsToldPair patches first second places.items
 IsReplayFault OutOfMemory patches = ⊤

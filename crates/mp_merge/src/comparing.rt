@@ -1,9 +1,11 @@
-//! Whether two merge patches are compatible, and where they clash first.
-ghost use Rattle.std.specs.Prelude.{◌↔◌, IsTrue, IfOk, MatchOption};
+//! Whether two merge patches are compatible, and where they clash.
+ghost use Rattle.std.specs.Prelude.{◌≡◌, ◌↔◌, Some, IsTrue, IfOk, OnOk};
 ghost use Rattle.std.specs.Prelude.{List, ℕ};
 ghost use Rattle.mp_tree.specs.Document.{object};
 ghost use Rattle.mp_tree.specs.View.{document, members};
-ghost use Rattle.mp_merge.specs.Clash.{Compatible, IsFirstClash};
+ghost use Rattle.mp_merge.specs.Clash.{Compatible, AreAllClashes};
+ghost use Rattle.mp_merge.specs.ClashWalk.{IsOneClash, WalksClashes, WalksMembers};
+ghost use Rattle.mp_merge.specs.Walks.{Grew};
 
 use mp_pointer::Pointer;
 use mp_tree::Doc;
@@ -45,57 +47,85 @@ fn are_members_compatible(changes: &BTreeMap<String, Doc>, others: &BTreeMap<Str
     true
 }
 
-/// The first conflict of two patches: the least list of names, reached through objects in both, at which both carry
-/// something and their values clash. `None` exactly where the patches are compatible.
+/// All conflicts of two patches: each list of names, reached through objects in both, at which both carry something and
+/// either one of the two is an object or neither is and they differ. The list is empty exactly where the patches are
+/// compatible.
 ///
-/// Names are compared by their UTF-8 bytes, lists of names name by name, and a proper prefix comes first.
-/// `AllocError` where memory ran out.
+/// Each conflict stands there once, in the order of paths: names are compared by their UTF-8 bytes, lists of names name
+/// by name, and a proper prefix comes first. `AllocError` where memory ran out.
 ///
 /// ```text
-/// conflict(alloc, &p, &q)  // /a/z for {"a":{"z":1},"b":1} and {"a":{"z":2},"b":2}
+/// conflict(alloc, &p, &q)  // /a/z and /b for {"a":{"z":1},"b":1} and {"a":{"z":2},"b":2}
 /// ```
-pub fn conflict(alloc: Global, p: &Doc, q: &Doc) -> Result<Option<Pointer>, AllocError>
-    ensures { IfOk result (λ found. MatchOption found (Compatible (document p.now) (document q.now))
-        (λ place. IsFirstClash (document p.now) (document q.now) place)) }
+pub fn conflict(alloc: Global, p: &Doc, q: &Doc) -> Result<Vec<Pointer>, AllocError>
+    ensures { IfOk result (λ places.
+        AreAllClashes (document p.now) (document q.now) places.items) }
 {
-    first_clash(p, q, alloc)
+    let mut places = Vec::new(alloc);
+    let mut path = Pointer::empty(alloc);
+    push_clashes(p, q, &mut path, &mut places, alloc)?;
+    Ok(places)
 }
 
-// The patches come first: the recursion goes down them.
-#[cycle(first_clash)]
-fn first_clash(p: &Doc, q: &Doc, alloc: Global) -> Result<Option<Pointer>, AllocError>
-    ensures { IfOk result (λ found. MatchOption found (Compatible (document p.now) (document q.now))
-        (λ place. IsFirstClash (document p.now) (document q.now) place)) }
+// Each function adds to the places at their end, in the order of paths. The patches come first: the recursion goes down
+// them. `path` leads to both, and is as it was at the end.
+#[cycle(push_clashes)]
+fn push_clashes(
+    p: &Doc,
+    q: &Doc,
+    path: &mut Pointer,
+    places: &mut Vec<Pointer>,
+    alloc: Global,
+) -> Result<(), AllocError>
+    ensures path { OnOk result (path.new ≡ path.old) }
+    ensures places { OnOk result (Grew places.old.items places.new.items
+        (WalksClashes path.old (document p.now) (Some (document q.now)))) }
 {
     match p {
         Doc::Members(changes) => match q {
-            Doc::Members(others) => first_clash_of_members(changes, others, alloc),
-            _ => Ok(Some(Pointer::empty(alloc))),
+            Doc::Members(others) => push_member_clashes(changes, others, path, places, alloc),
+            _ => push_clash(p, q, path, places, alloc),
         },
-        _ => {
-            if p.same(q) {
-                return Ok(None);
-            }
-            Ok(Some(Pointer::empty(alloc)))
-        }
+        _ => push_clash(p, q, path, places, alloc),
     }
 }
 
-#[cycle(first_clash)]
-fn first_clash_of_members(
+#[cycle(push_clashes)]
+fn push_member_clashes(
     changes: &BTreeMap<String, Doc>,
     others: &BTreeMap<String, Doc>,
+    path: &mut Pointer,
+    places: &mut Vec<Pointer>,
     alloc: Global,
-) -> Result<Option<Pointer>, AllocError>
-    ensures { IfOk result (λ found. let p = object (members changes.now.entries) in let q = object (members others.now.entries) in
-        MatchOption found (Compatible p q) (λ place. IsFirstClash p q place)) }
+) -> Result<(), AllocError>
+    ensures path { OnOk result (path.new ≡ path.old) }
+    ensures places { OnOk result (Grew places.old.items places.new.items
+        (WalksMembers path.old (members changes.now.entries) (members others.now.entries))) }
 {
     for (name, change) in changes.iter() {
         if let Some(other) = others.get(name.as_str()) {
-            if let Some(place) = first_clash(change, other, alloc)? {
-                return Ok(Some(place.under(alloc, name.as_str())?));
-            }
+            path.push(alloc, name.as_str())?;
+            push_clashes(change, other, path, places, alloc)?;
+            path.pop();
         }
     }
-    Ok(None)
+    Ok(())
+}
+
+// Where at most one of the two is an object.
+fn push_clash(
+    p: &Doc,
+    q: &Doc,
+    path: &Pointer,
+    places: &mut Vec<Pointer>,
+    alloc: Global,
+) -> Result<(), AllocError>
+    ensures { OnOk result (Grew places.old.items places.new.items
+        (IsOneClash path.now (document p.now) (document q.now))) }
+{
+    if p.same(q) {
+        return Ok(());
+    }
+    places.push(path.copy(alloc)?)?;
+    Ok(())
 }

@@ -1,6 +1,7 @@
 //! What a join of two patches, or of a list, can be refused for.
 ghost use Rattle.std.specs.Prelude.{◌≡◌};
 
+use mp_patch::Cause;
 use mp_pointer::Pointer;
 use std::alloc::AllocError;
 use thiserror::Error;
@@ -8,9 +9,9 @@ use thiserror::Error;
 /// Why two patches have no join.
 #[derive(Debug, Drop, Error)]
 pub enum JoinFault {
-    /// The patches clash; the pointer leads to their first conflict.
+    /// The patches clash; the pointers lead to all their conflicts, in the order of paths.
     #[error("conflict")]
-    Conflict(Pointer),
+    Conflict(Vec<Pointer>),
     /// Memory ran out.
     #[error("out of memory")]
     OutOfMemory,
@@ -33,12 +34,12 @@ pub enum ListFault {
     #[error("no patches")]
     NoPatches,
     /// `second` is the least number of a patch that clashes with an earlier one, `first` the least number of a patch
-    /// that clashes with it, and `place` leads to the first conflict of the two.
+    /// that clashes with it, and `places` lead to all conflicts of the two, in the order of paths.
     #[error("conflict of patches {first} and {second}")]
     ConflictOf {
         first: usize,
         second: usize,
-        place: Pointer,
+        places: Vec<Pointer>,
     },
     /// Memory ran out.
     #[error("out of memory")]
@@ -52,5 +53,29 @@ impl From<AllocError> for ListFault {
 
     fn from(_refused: AllocError) -> ListFault {
         ListFault::OutOfMemory
+    }
+}
+
+/// Why two replicas did not come to one document.
+#[derive(Debug, Drop, Error)]
+pub enum ConvergeFault {
+    /// Patches have no join, or can't be replayed.
+    #[error("{0}")]
+    Lists(ListFault),
+    /// This operation of the JSON Patch that the join is rewritten as was refused, by this cause.
+    #[error("operation {op}: {cause}")]
+    Patch { op: usize, cause: Cause },
+    /// Memory ran out.
+    #[error("out of memory")]
+    OutOfMemory,
+}
+
+impl From<AllocError> for ConvergeFault {
+    ghost use Rattle.mp_merge.specs.declared.fault.ConvergeFault.TheVariants.{OutOfMemory};
+
+    ghost from_gives = { λ _ fault. fault ≡ OutOfMemory };
+
+    fn from(_refused: AllocError) -> ConvergeFault {
+        ConvergeFault::OutOfMemory
     }
 }

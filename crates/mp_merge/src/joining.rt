@@ -5,7 +5,7 @@ ghost use Rattle.mp_tree.specs.View.{document, members};
 ghost use Rattle.mp_merge.specs.Join.{IsJoin, IsJoinFault};
 ghost use Rattle.mp_merge.specs.Walks.{union, union_members, united as united_at};
 
-use crate::comparing::conflict;
+use crate::comparing::{compatible, conflict};
 use crate::fault::JoinFault;
 use mp_tree::Doc;
 use std::alloc::{AllocError, Global};
@@ -16,20 +16,20 @@ use std::mem;
 /// has the names of both, and a common name has the join of its two values; else it is the one value that both are.
 /// It is no deeper than the deeper of the two.
 ///
-/// `Conflict` with the first conflict exactly where the patches are not compatible; `OutOfMemory` may come at any
+/// `Conflict` with all conflicts exactly where the patches are not compatible; `OutOfMemory` may come at any
 /// point.
 ///
 /// ```text
 /// join(alloc, &p, &q)  // {"a":[null],"b":null} for {"a":[null]} and {"b":null}
-/// join(alloc, &p, &q)  // Err(JoinFault::Conflict(..)) at /a for {"a":1} and {"a":2}
+/// join(alloc, &p, &q)  // Err(JoinFault::Conflict(..)) with /a for {"a":1} and {"a":2}
 /// ```
 pub fn join(alloc: Global, p: &Doc, q: &Doc) -> Result<Doc, JoinFault>
     ensures joined { MatchResult result (λ j. IsJoin (document p.now ∷ document q.now ∷ []) (document j))
         (λ fault. IsJoinFault fault (document p.now) (document q.now)) }
     ensures depth { IfOk result (λ j. depth (document j) ≤ max (depth (document p.now)) (depth (document q.now))) }
 {
-    if let Some(place) = conflict(alloc, p, q)? {
-        return Err(JoinFault::Conflict(place));
+    if !compatible(p, q) {
+        return Err(JoinFault::Conflict(conflict(alloc, p, q)?));
     }
     Ok(united(q, p.copy(alloc)?, alloc)?)
 }

@@ -1,12 +1,21 @@
 //! Laws over documents and merge patches alone: each function runs nothing, and its contract is the law.
-ghost use Rattle.mp_merge.specs.Application.{AppliesAtEachName};
 ghost use Rattle.mp_merge.specs.Headline.{ReplicasConverge};
-ghost use Rattle.mp_merge.specs.Laws.{ApplicationIsOutcome, HasOneOutcome, AppliedInTurn, OutcomeExists, ReplicasAgree, Exchange, HasOneFirstClash, HasOneFirstConflict, CompatibleHaveNoConflict, ClashWithAJoin, CompatibleByNames, CompatibleIfEqual, JoinByNames, JoinOfEqual, JoinIsIdempotent, JoinIsCommutative, JoinIsAssociative, JoinGrows, HasOneJoin, EmptyHasNoJoin, JoinExists, PairHasJoin, JoinIsNoDeeper, JoinGivesOutcome, RewritingExists, HasOneRewriting, EmptyRewriting, EditsInAnyOrder, RewritingRuns};
+ghost use Rattle.mp_merge.specs.Laws.{AppliesAtEachName, OthersReplace, MergesIntoNull, AppliedOnce, TriesResume, ApplicationIsOutcome, HasOneOutcome, AppliedInTurn, OutcomeExists, ReplicasAgree, Exchange, ClashesExist, HaveOneList, EmptyIfCompatible, CompatibleOrTold, CompatibleHaveNone, HasOneToldPair, ClashWithAJoin, CompatibleByNames, CompatibleIfEqual, JoinByNames, JoinOfEqual, JoinIsIdempotent, JoinIsCommutative, JoinIsAssociative, JoinGrows, HasOneJoin, EmptyHasNoJoin, JoinExists, PairHasJoin, JoinIsNoDeeper, JoinGivesOutcome, RewritingExists, HasOneRewriting, RewritingHasDocuments, GuardedList, RefusedGuardTells, EmptyRewriting, EditsInAnyOrder, RewritingRuns};
 
-/// Application at each name, in the words of RFC 7396 section 2: a name that the patch does not carry stays as it
-/// was, a null removes it, and any other value is merged with what stood there.
+/// Application in the words of RFC 7396 section 2: a patch that is no object is the result. An object makes an object of
+/// every target, in which a name that the patch does not carry stays as it was, a null removes it, and any other value
+/// is merged with what stood there.
 pub fn applies_at_each_name()
-    ensures { AppliesAtEachName }
+    ensures objects { AppliesAtEachName }
+    ensures others { OthersReplace }
+{}
+
+/// Merging a patch into null gives what merging it into nothing gives, and applying it twice is applying it once. So a
+/// merge in place that was refused for want of memory, however often, is made whole by one that succeeds.
+pub fn merging_again()
+    ensures into_null { MergesIntoNull }
+    ensures twice { AppliedOnce }
+    ensures tries { TriesResume }
 {}
 
 /// One application of a patch is what the outcome of that patch alone asks for at every path: its values are set, its
@@ -43,16 +52,20 @@ pub fn exchange()
     ensures { Exchange }
 {}
 
-/// Two patches have at most one first clash, so every replica that compares them names the same path.
-pub fn one_first_clash()
-    ensures { HasOneFirstClash }
+/// Two patches have one list of all their conflicts, so every replica that compares them is told the same; it is empty
+/// exactly if they are compatible.
+pub fn all_conflicts()
+    ensures exist { ClashesExist }
+    ensures one { HaveOneList }
+    ensures empty { EmptyIfCompatible }
 {}
 
-/// A list of patches has at most one first conflict, and none where no two of them clash: so each replica that holds
-/// the list in this order is told the same pair and place.
-pub fn one_first_conflict()
-    ensures one { HasOneFirstConflict }
-    ensures none { CompatibleHaveNoConflict }
+/// A list of patches is pairwise compatible, or there is the pair that is told of it, and not both; that pair is one
+/// alone, and so are its conflicts: so each replica that holds the list in this order is told the same.
+pub fn told_pair()
+    ensures exists { CompatibleOrTold }
+    ensures none { CompatibleHaveNone }
+    ensures one { HasOneToldPair }
 {}
 
 /// A patch clashes with a join exactly where it clashes with one of the patches that were joined: so a replica that
@@ -62,7 +75,7 @@ pub fn clash_with_a_join()
 {}
 
 /// The rule of compatibility: two objects are compatible exactly if each name that both carry has compatible values,
-/// and what is no object is compatible with its equal alone.
+/// and what is no object, on either side, is compatible with its equal alone.
 pub fn compatible_by_names()
     ensures objects { CompatibleByNames }
     ensures others { CompatibleIfEqual }
@@ -97,7 +110,8 @@ pub fn join_grows()
     ensures { JoinGrows }
 {}
 
-/// A collection of patches has at most one join, so replicas that join the same patches hold the same patch.
+/// Lists of the same patches, in any orders and with any repeats, have at most one join: replicas that join the same
+/// patches hold the same patch.
 pub fn one_join()
     ensures { HasOneJoin }
 {}
@@ -133,12 +147,29 @@ pub fn one_rewriting()
     ensures { HasOneRewriting }
 {}
 
+/// The values of a rewriting are documents, so what is a law of such JSON Patches is a law of it.
+pub fn rewritings_have_documents()
+    ensures { RewritingHasDocuments }
+{}
+
+/// The tests at the head of a rewriting guard it: where it runs on another document, each place that it changes has
+/// there what it has in the document of the rewriting. And where a test is refused, that document differs at its place,
+/// and nothing of it was changed: the number of the operation tells where.
+///
+/// Not promised: that a document which passes the tests takes every add, as `{"a":5}` does not take one at `/a/b`, where
+/// the start has `{"a":{}}`; nor what the edits do to one that has an array where the start has an object with names
+/// that spell indices, as `{"a":[1,2]}` for `{"a":{"0":1}}`.
+pub fn guards_tell()
+    ensures passed { GuardedList }
+    ensures refused { RefusedGuardTells }
+{}
+
 /// The rewriting has no operation exactly if the patch leaves the document as it is.
 pub fn empty_rewriting()
     ensures { EmptyRewriting }
 {}
 
-/// Every list that has each edit once and nothing else runs, in whatever order, from the document to what the patch
+/// The tests and then each edit once and nothing else, in whatever order, run from the document to what the patch
 /// makes of it: no edit is refused, and none undoes another.
 pub fn edits_in_any_order()
     ensures { EditsInAnyOrder }
@@ -150,9 +181,10 @@ pub fn rewriting_runs()
 {}
 
 /// Replicas that start from one document and receive the same patches, at least one and no two of which clash, in any
-/// orders and with any repeats, end with the same document, whether they apply each patch as it comes or all at once:
-/// one application of the patches' join to the start. The join, rewritten against the start, is a JSON Patch that runs
-/// from the start to that document.
+/// orders and with any repeats, are not refused and end with the same document, whether they apply each patch as it
+/// comes or all at once: one application of the patches' join to the start. The join, rewritten against the start, is a
+/// JSON Patch that is not refused and leads from the start to that document alone, where the patches are at most 126
+/// deep.
 ///
 /// Join is commutative, associative and idempotent, and two patches have one exactly if they are compatible.
 pub fn replicas_converge()

@@ -2,7 +2,6 @@
 ghost use Rattle.std.specs.Prelude.{◌≡◌, ◌<◌, ◌≤◌, ◌+◌, ℕ, List, [], length, map, take, slice_get, Some, IfOk, MatchOption, MatchResult};
 ghost use Rattle.mp_tree.specs.Document.{depth};
 ghost use Rattle.mp_tree.specs.View.{document};
-ghost use Rattle.mp_merge.specs.Clash.{IsFirstClash};
 ghost use Rattle.mp_merge.specs.Join.{IsJoin};
 ghost use Rattle.mp_merge.specs.Lists.{AreWithin, IsListFault, IsReplayFault, IsFreeBelow, IsClashBelow};
 ghost use Rattle.mp_merge.specs.Outcome.{IsOutcome};
@@ -18,12 +17,12 @@ use std::alloc::{AllocError, Global};
 /// The join of a list of patches: one patch with the effect of all, in any order and with any repeats.
 ///
 /// `NoPatches` exactly for the empty list; `ConflictOf` exactly where two patches of the list are not compatible, with
-/// the least such pair by the later patch and its first conflict; `OutOfMemory` may come at any point. Costs grow with
+/// the least such pair by the later patch and all its conflicts; `OutOfMemory` may come at any point. Costs grow with
 /// the total size of the patches, unless there is a conflict.
 ///
 /// ```text
 /// join_all(alloc, &patches)  // {"a":1,"b":2} for {"a":1}, {"b":2} and {"a":1}
-/// join_all(alloc, &patches)  // ConflictOf of 0 and 2 at /a for {"a":1}, {"b":2} and {"a":3}
+/// join_all(alloc, &patches)  // ConflictOf of 0 and 2 with /a for {"a":1}, {"b":2} and {"a":3}
 /// ```
 pub fn join_all(alloc: Global, patches: &[Doc]) -> Result<Doc, ListFault>
     ensures joined { MatchResult result (λ j. IsJoin (map document patches.now) (document j))
@@ -49,31 +48,32 @@ fn joined_with(alloc: Global, patches: &[Doc], second: usize, joined: Doc) -> Re
 {
     let patch = &patches[second];
     if !compatible(patch, &joined) {
-        if let Some((first, place)) = clash_before(alloc, patches, second)? {
+        if let Some((first, places)) = clash_before(alloc, patches, second)? {
             return Err(ListFault::ConflictOf {
                 first,
                 second,
-                place,
+                places,
             });
         }
     }
     Ok(united(patch, joined, alloc)?)
 }
 
-// The first of the patches below number `second` that clashes with it.
+// The first of the patches below number `second` that clashes with it, and all conflicts of the two.
 fn clash_before(
     alloc: Global,
     patches: &[Doc],
     second: usize,
-) -> Result<Option<(usize, Pointer)>, AllocError>
+) -> Result<Option<(usize, Vec<Pointer>)>, AllocError>
     requires { second < length patches.now }
     ensures { IfOk result (λ found. MatchOption found (IsFreeBelow (map document patches.now) second)
-        (λ c. IsClashBelow (map document patches.now) c.0 second c.1)) }
+        (λ c. IsClashBelow (map document patches.now) c.0 second c.1.items)) }
 {
     let patch = &patches[second];
     for first in 0..second {
-        if let Some(place) = conflict(alloc, &patches[first], patch)? {
-            return Ok(Some((first, place)));
+        if !compatible(&patches[first], patch) {
+            let places = conflict(alloc, &patches[first], patch)?;
+            return Ok(Some((first, places)));
         }
     }
     Ok(None)

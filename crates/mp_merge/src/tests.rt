@@ -16,17 +16,30 @@ const JOINS: &[(&str, &str)] = &[
     (r#"[{"a":[null]},{"b":null}]"#, r#"{"a":[null],"b":null}"#),
 ];
 
-/// Two patches, and the spelling of the pointer to their first conflict.
-const CLASHES: &[(&str, &str)] = &[
-    (r#"[{"a":1},{"a":2}]"#, "/a"),
-    (r#"[{"a":{}},{"a":null}]"#, "/a"),
-    ("[null,{}]", ""),
-    (r#"[{"b":1,"a":{"z":1}},{"a":{"z":2},"b":2}]"#, "/a/z"),
-    (r#"[{"a":{"z":1},"a!":1},{"a":{"z":2},"a!":2}]"#, "/a/z"),
+/// Two patches, and the spellings of the pointers to all their conflicts.
+const CLASHES: &[(&str, &[&str])] = &[
+    (r#"[{"a":1},{"a":2}]"#, &["/a"]),
+    (r#"[{"a":{}},{"a":null}]"#, &["/a"]),
+    ("[null,{}]", &[""]),
+    (
+        r#"[{"b":1,"a":{"z":1}},{"a":{"z":2},"b":2}]"#,
+        &["/a/z", "/b"],
+    ),
+    (
+        r#"[{"a":{"z":1},"a!":1},{"a":{"z":2},"a!":2}]"#,
+        &["/a/z", "/a!"],
+    ),
+    (r#"[{"x":1,"y":1},{"x":2,"y":1}]"#, &["/x"]),
+    (r#"[{"x":1,"y":1},{"x":2,"y":2}]"#, &["/x", "/y"]),
     // A name that is a prefix of another comes first.
-    (r#"[{"ab":1,"a":1},{"a":2,"ab":2}]"#, "/a"),
+    (r#"[{"ab":1,"a":1},{"a":2,"ab":2}]"#, &["/a", "/ab"]),
     // By their UTF-8 bytes, and not by their UTF-16 units.
-    ("[{\"😀\":1,\"～\":1},{\"😀\":2,\"～\":2}]", "/～"),
+    ("[{\"😀\":1,\"～\":1},{\"😀\":2,\"～\":2}]", &["/～", "/😀"]),
+    // At several depths, beside what is equal and what one patch carries alone.
+    (
+        r#"[{"a":{"b":{"c":1,"d":[1]},"e":null},"f":{},"g":1},{"a":{"b":{"c":2,"d":[2]},"e":null},"f":0,"h":1}]"#,
+        &["/a/b/c", "/a/b/d", "/f"],
+    ),
 ];
 
 fn is_text<R: Abort + AllocGlobal>(rt: &R, doc: &Doc, wanted: &str) -> Result<(), Fail> {
@@ -35,13 +48,16 @@ fn is_text<R: Abort + AllocGlobal>(rt: &R, doc: &Doc, wanted: &str) -> Result<()
     Ok(())
 }
 
-fn is_spelling<R: Abort + AllocGlobal>(
+fn are_spellings<R: Abort + AllocGlobal>(
     rt: &R,
-    pointer: &Pointer,
-    wanted: &str,
+    pointers: &[Pointer],
+    wanted: &[&str],
 ) -> Result<(), Fail> {
-    let found = pointer.print(rt.alloc())?;
-    assert_eq!(rt; found.as_str(), wanted);
+    assert_eq!(rt; pointers.len(), wanted.len());
+    for (pointer, spelling) in pointers.iter().zip(wanted) {
+        let found = pointer.print(rt.alloc())?;
+        assert_eq!(rt; found.as_str(), *spelling);
+    }
     Ok(())
 }
 
@@ -61,7 +77,7 @@ fn joins(rt: HostRuntime) -> Result<(), Fail> {
         };
         assert!(rt; compatible(p, q), "that {patches} are compatible");
         assert!(rt;
-            conflict(rt.alloc(), p, q)?.is_none(),
+            conflict(rt.alloc(), p, q)?.is_empty(),
             "no conflict of {patches}"
         );
         is_text(&rt, &join(rt.alloc(), p, q)?, joined)?;
@@ -79,11 +95,8 @@ fn clashes(rt: HostRuntime) -> Result<(), Fail> {
         };
         assert!(rt; !compatible(p, q), "that {patches} are not compatible");
         assert!(rt; !compatible(q, p), "that {patches} are not compatible");
-        let Some(place) = conflict(rt.alloc(), p, q)? else {
-            assert!(rt; false, "a conflict of {patches}");
-            continue;
-        };
-        is_spelling(&rt, &place, wanted)?;
+        let places = conflict(rt.alloc(), p, q)?;
+        are_spellings(&rt, places.as_slice(), wanted)?;
     }
     Ok(())
 }
@@ -95,11 +108,11 @@ fn refused_joins(rt: HostRuntime) -> Result<(), Fail> {
         let (Some(p), Some(q)) = (docs.first(), docs.last()) else {
             continue;
         };
-        let Err(JoinFault::Conflict(place)) = join(rt.alloc(), q, p) else {
+        let Err(JoinFault::Conflict(places)) = join(rt.alloc(), q, p) else {
             assert!(rt; false, "a join of {patches} that is refused");
             continue;
         };
-        is_spelling(&rt, &place, wanted)?;
+        are_spellings(&rt, places.as_slice(), wanted)?;
     }
     Ok(())
 }
@@ -122,14 +135,14 @@ fn lists(rt: HostRuntime) -> Result<(), Fail> {
             ListFault::ConflictOf {
                 first,
                 second,
-                place,
+                places,
             },
         ) => {
             assert_eq!(rt; (first, second), (1, 3));
-            is_spelling(&rt, &place, "/b")
+            are_spellings(&rt, places.as_slice(), &["/b"])
         }
         _ => {
-            assert!(rt; false, "the first conflict of a list");
+            assert!(rt; false, "the pair that is told of a list");
             Ok(())
         }
     }
@@ -162,8 +175,8 @@ fn kept_join(rt: HostRuntime) -> Result<(), Fail> {
 
 #[test]
 fn texts(rt: HostRuntime) -> Result<(), Fail> {
-    let root = Pointer::empty(rt.alloc());
-    let conflict = format!(in rt.alloc(); "{}", JoinFault::Conflict(root))?;
+    let none = Vec::new(rt.alloc());
+    let conflict = format!(in rt.alloc(); "{}", JoinFault::Conflict(none))?;
     assert_eq!(rt; conflict.as_str(), "conflict");
     let memory = format!(in rt.alloc(); "{}", JoinFault::OutOfMemory)?;
     assert_eq!(rt; memory.as_str(), "out of memory");
@@ -172,7 +185,7 @@ fn texts(rt: HostRuntime) -> Result<(), Fail> {
     let clash = ListFault::ConflictOf {
         first: 1,
         second: 3,
-        place: Pointer::empty(rt.alloc()),
+        places: Vec::new(rt.alloc()),
     };
     let clash = format!(in rt.alloc(); "{clash}")?;
     assert_eq!(rt; clash.as_str(), "conflict of patches 1 and 3");

@@ -7,13 +7,13 @@ use Rattle.mp_tree.specs.Document.{Document, null, flag, whole, string, list, ob
 use Rattle.mp_tree.proofs.Facts.{cases_same, is_name-self, find-below}
 use Rattle.mp_pointer.specs.Only.{DifferOnlyAt}
 use Rattle.mp_pointer.specs.Part.{Kind, absent, scalar, names, elements, part, child, element_from, numeral, kind, kind_here, kind_of}
-use Rattle.mp_pointer.specs.Spelling.{Tokens, IsProperPrefix}
+use Rattle.mp_pointer.specs.Spelling.{Tokens}
 use Rattle.mp_pointer.proofs.Facts.{nth, child-numeral, cases_begins, child-object, kind-append}
 use Rattle.mp_patch.specs.Operation.{Operation, add, remove, replace, move, copy, test, ChangesContainer, AddsTo, to_map, to_list, RemovesFrom, from_map, from_list, append, Adds, Removes, Step}
-use Rattle.mp_patch.specs.Refusal.{HasNoPlace, IsTooDeep}
+use Rattle.mp_patch.specs.Refusal.{IsTooDeep}
 use Rattle.mp_patch.specs.Run.{IsRefused}
-use Rattle.mp_patch.specs.declared.fault.Cause.TheVariants.{IntoItself, NoPlace, TooDeep}
 use Rattle.mp_patch.proofs.DocumentLemmas.{Removes-document}
+use Rattle.mp_patch.proofs.FirstLemmas.{free_of}
 
 -- ---- a part is less deep than what holds it
 
@@ -170,24 +170,18 @@ Removes-depth : (t : Tokens) (d e : Document) → ChangesContainer RemovesFrom t
 Removes-depth t d e c good shallow =
     depth-changed depth_limit c.container d e c.after good c.only c.stands shallow (omega (arith, removes-depth c.last c.before c.after c.changed, part-depth c.container d c.before c.stood))
 
-not_none : (o : Option Document) (x : Document) → o ≡ Some x → o ≡ None → ⊥
-not_none o x here none = cc
-
 moved-depth : (f t : Tokens) (x d e : Document) → ¬ IsRefused d (move f t) → part d f ≡ Some x → ((f ≡ t) × (e ≡ d)) ⊎ ((f ≢ t) × (left : Document) × Removes f d left × Adds t x left e) → IsDocument d → IsDocument e → depth d ≤ depth_limit
     → depth e ≤ depth_limit
 moved-depth f t x d e free stood (inl same) good new shallow = omega (arith, ap depth same.1)
 moved-depth f t x d e free stood (inr (other, left, removes, adds)) good new shallow =
-    let apart : ¬ IsProperPrefix f t = λ prefix. free (IntoItself, prefix) in
-    let there : ¬ (part d f ≡ None) = not_none (part d f) x stood in
-    let place : ¬ HasNoPlace left t = λ lacks. free (NoPlace, (apart, there, other, left, removes, lacks)) in
-    let fits = fits_if_not_deep t x (λ deep. free (TooDeep, (apart, there, other, left, removes, place, x, stood, deep))) in
+    let fits = fits_if_not_deep t x (λ deep. (free_of d (move f t) free).1.1.1.0 (other, (x, stood, deep))) in
     Adds-depth t x left e fits adds new (Removes-depth f d left removes (Removes-document f d left good removes) shallow)
 
 pub Step-depth : (d : Document) (o : Operation) (e : Document) → ¬ IsRefused d o → Step d o e → IsDocument d → IsDocument e → depth d ≤ depth_limit → depth e ≤ depth_limit
-Step-depth d (add t v) e free step good new shallow = Adds-depth t v d e (fits_if_not_deep t v (λ deep. free (TooDeep, ((λ place. free (NoPlace, place)), deep)))) step new shallow
+Step-depth d (add t v) e free step good new shallow = Adds-depth t v d e (fits_if_not_deep t v (free_of d (add t v) free).1.0) step new shallow
 Step-depth d (remove t) e free step good new shallow = Removes-depth t d e step new shallow
-Step-depth d (replace t v) e free step good new shallow = depth-changed depth_limit t d e v new step.2 step.1 shallow (fits_if_not_deep t v (λ deep. free (TooDeep, (not_none (part d t) step.0.0 step.0.1, deep))))
+Step-depth d (replace t v) e free step good new shallow = depth-changed depth_limit t d e v new step.2 step.1 shallow (fits_if_not_deep t v (free_of d (replace t v) free).1.0)
 Step-depth d (move f t) e free step good new shallow = moved-depth f t step.0 d e free step.1 step.2 good new shallow
 Step-depth d (copy f t) e free step good new shallow =
-    Adds-depth t step.0 d e (fits_if_not_deep t step.0 (λ deep. free (TooDeep, (not_none (part d f) step.0 step.1, (λ place. free (NoPlace, (not_none (part d f) step.0 step.1, place))), step.0, step.1, deep)))) step.2 new shallow
+    Adds-depth t step.0 d e (fits_if_not_deep t step.0 (λ deep. (free_of d (copy f t) free).1.1.0 (step.0, step.1, deep))) step.2 new shallow
 Step-depth d (test t v) e free step good new shallow = omega (arith, ap depth step.1)

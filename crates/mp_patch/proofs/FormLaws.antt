@@ -1,5 +1,5 @@
--- The laws of forms: one reading, shapes are forms, and a form has no fault.
-use Rattle.std.proofs.Common.{◌≡◌, ◌+◌, ℕ, List, [], ◌∷◌, get_or, map, Some, refl, sym, ap, ap₂, ◌∙◌, subst, arith, codes}
+-- The laws of forms: one reading, and shapes are forms.
+use Rattle.std.proofs.Common.{◌≡◌, ℕ, List, [], ◌∷◌, map, Some, refl, sym, ap, ap₂, ◌∙◌, subst, arith, codes}
 use Rattle.mp_tree.specs.Document.{Document, string, Items, no_items, item, Members, find}
 use Rattle.mp_tree.specs.View.{items_of}
 use Rattle.mp_pointer.specs.Spelling.{Tokens, spell}
@@ -8,6 +8,7 @@ use Rattle.mp_patch.specs.Form.{Carries, EachForm, IsForm, needed, shape}
 use Rattle.mp_patch.specs.Laws.{HasOneReading, ShapesAreForms}
 use Rattle.mp_patch.specs.Operation.{Operation, add, remove, replace, move, copy, test}
 use Rattle.mp_patch.proofs.DocumentLemmas.{same_members, same_elements, some_same}
+use Rattle.mp_patch.proofs.NeedLemmas.{letters}
 
 -- ---- shapes
 
@@ -30,10 +31,6 @@ shapes_are_forms operations = (items_of (map shape operations), refl, each_shape
 
 same_text : (s t : List ℕ) → string s ≡ string t → s ≡ t
 same_text s t e = cc
-
--- two letters tell the operations
-abbrev letters : List ℕ → ℕ
-letters name = get_or name 0 0 + get_or name 2 0
 
 at_member : (n : List ℕ) (ms : Members) (s t : List ℕ) → find n ms ≡ Some (string s) → find n ms ≡ Some (string t) → s ≡ t
 at_member n ms s t a b = same_text s t (some_same (string s) (string t) (sym a ∙ b))

@@ -1,79 +1,62 @@
 -- A move is a removal and then an addition to what is left; a copy is an addition of what is there.
-use Rattle.std.proofs.Common.{◌≡◌, ◌≢◌, inl, inr, [], ◌∷◌, ◌++◌, Option, Some, Result, Ok, Err, refl, sym, ap, subst}
+use Rattle.std.proofs.Common.{◌≡◌, ◌≢◌, inl, inr, [], ◌∷◌, ◌++◌, Some, Result, Ok, Err, refl, sym, ap, subst}
 use Rattle.mp_tree.specs.Document.{Document, IsDocument}
 use Rattle.mp_pointer.specs.Part.{part}
 use Rattle.mp_pointer.specs.Spelling.{Tokens, IsProperPrefix}
 use Rattle.mp_patch.specs.Operation.{add, move, copy, remove, Removes}
-use Rattle.mp_patch.specs.Refusal.{HasNoPlace, IsTooDeep}
-use Rattle.mp_patch.specs.Run.{IsRefused}
+use Rattle.mp_patch.specs.Refusal.{HasNoPlace, IsTooDeep, LeavesNoPlace, PartIsTooDeep, RefusedBy, causes}
 use Rattle.mp_patch.specs.Steps.{Answers}
-use Rattle.mp_patch.specs.declared.fault.Cause.TheVariants.{IntoItself, RemoveRoot, Missing, NoPlace, TooDeep, TestFailed}
+use Rattle.mp_patch.specs.declared.fault.Cause.{Cause}
 use Rattle.mp_patch.specs.declared.steps.StepFault.{StepFault}
 use Rattle.mp_patch.specs.declared.steps.StepFault.TheVariants.{Refused, OutOfMemory}
 use Rattle.mp_patch.proofs.DocumentLemmas.{Removes-once}
+use Rattle.mp_patch.proofs.FirstLemmas.{NoneHolds, unrefused, free_of}
+use Rattle.mp_patch.proofs.NeedLemmas.{same_some}
 use Rattle.mp_patch.proofs.StepLemmas.{some_missing}
 
-same_part : (o : Option Document) (x y : Document) → o ≡ Some x → o ≡ Some y → x ≡ y
-same_part o x y here there = cc
-
 pub stays : (d x : Document) (f t : Tokens) → ¬ IsProperPrefix f t → f ≡ t → part d f ≡ Some x → Answers (Ok tt) d (move f t) d
-stays d x f t apart same stood = (free, (x, stood, inl (same, refl)))
-  where
-    free : ¬ IsRefused d (move f t)
-    free (IntoItself, h) = apart h
-    free (RemoveRoot, h) = h
-    free (Missing, h) = some_missing d x f stood h.1
-    free (NoPlace, h) = h.2 same
-    free (TooDeep, h) = h.2 same
-    free (TestFailed, h) = h
+stays d x f t apart same stood = (
+  unrefused d (move f t) (apart, (some_missing d x f stood, ((λ h. h.0 same), ((λ h. h.0 same), tt)))),
+  (x, stood, inl (same, refl)),
+)
 
-moves_freely : (f t : Tokens) (x d left : Document) → IsDocument d → ¬ IsProperPrefix f t → part d f ≡ Some x → Removes f d left → ¬ IsRefused left (add t x) → ¬ IsRefused d (move f t)
-moves_freely f t x d left good apart stood removes free (IntoItself, h) = apart h
-moves_freely f t x d left good apart stood removes free (RemoveRoot, h) = h
-moves_freely f t x d left good apart stood removes free (Missing, h) = some_missing d x f stood h.1
-moves_freely f t x d left good apart stood removes free (NoPlace, (no_prefix, some_there, other, remains, taken, none)) = free (NoPlace, subst (λ m. HasNoPlace m t) (Removes-once f d remains left good taken removes) none)
-moves_freely f t x d left good apart stood removes free (TooDeep, (no_prefix, some_there, other, remains, taken, some, y, there, deep)) =
-    free (TooDeep, (subst (λ m. ¬ HasNoPlace m t) (Removes-once f d remains left good taken removes) some, subst (IsTooDeep t) (same_part (part d f) y x there stood) deep))
-moves_freely f t x d left good apart stood removes free (TestFailed, h) = h
+fits_as_part : (f t : Tokens) (x d : Document) → part d f ≡ Some x → ¬ IsTooDeep t x → ¬ PartIsTooDeep d f t
+fits_as_part f t x d stood fits (y, there, deep) = fits (subst (IsTooDeep t) (same_some (part d f) y x there stood) deep)
 
-pub moved : (r : Result (Unit {0}) StepFault) (f t : Tokens) (x d left e : Document) → IsDocument d → ¬ IsProperPrefix f t → f ≢ t → part d f ≡ Some x → Removes f d left → Answers r left (add t x) e → Answers r d (move f t) e
-moved (Ok done) f t x d left e good apart other stood removes answers = (moves_freely f t x d left good apart stood removes answers.0, (x, stood, inr (other, left, removes, answers.1)))
-moved (Err (Refused NoPlace)) f t x d left e good apart other stood removes answers = (apart, some_missing d x f stood, other, left, removes, answers)
-moved (Err (Refused TooDeep)) f t x d left e good apart other stood removes answers = (apart, some_missing d x f stood, other, left, removes, answers.0, x, stood, answers.1)
-moved (Err (Refused IntoItself)) f t x d left e good apart other stood removes answers = absurd answers
-moved (Err (Refused RemoveRoot)) f t x d left e good apart other stood removes answers = absurd answers
-moved (Err (Refused Missing)) f t x d left e good apart other stood removes answers = absurd answers
-moved (Err (Refused TestFailed)) f t x d left e good apart other stood removes answers = absurd answers
-moved (Err OutOfMemory) f t x d left e good apart other stood removes answers = tt
+module _ (f t : Tokens) (x d left : Document) (good : IsDocument d) (apart : ¬ IsProperPrefix f t) (other : f ≢ t) (stood : part d f ≡ Some x) (removes : Removes f d left) where
+  placed : ¬ HasNoPlace left t → ¬ LeavesNoPlace d f t
+  placed place h = place (subst (λ m. HasNoPlace m t) (Removes-once f d h.1 left good h.2 removes) h.3)
 
-root_is_prefix : (f t : Tokens) → f ≡ [] → f ≢ t → IsProperPrefix f t
+  moves_freely : NoneHolds (causes left (add t x)) → NoneHolds (causes d (move f t))
+  moves_freely none = (apart, (some_missing d x f stood, (placed none.0, ((λ h. fits_as_part f t x d stood none.1.0 h.1), tt))))
+
+  not_added : (cause : Cause) → RefusedBy left (add t x) cause → RefusedBy d (move f t) cause
+  not_added cause (inl (is, lacks)) = inr (apart, inr (some_missing d x f stood, inl (is, (other, left, removes, lacks))))
+  not_added cause (inr (place, inl (is, deep))) = inr (apart, inr (some_missing d x f stood, inr (placed place, inl (is, (other, (x, stood, deep))))))
+  not_added cause (inr (place, inr h)) = absurd h.1
+
+  pub moved : (r : Result (Unit {0}) StepFault) (e : Document) → Answers r left (add t x) e → Answers r d (move f t) e
+  moved (Ok done) e answers = (unrefused d (move f t) (moves_freely (free_of left (add t x) answers.0)), (x, stood, inr (other, left, removes, answers.1)))
+  moved (Err (Refused cause)) e refused = not_added cause refused
+  moved (Err OutOfMemory) e answers = tt
+
+pub root_is_prefix : (f t : Tokens) → f ≡ [] → f ≢ t → IsProperPrefix f t
 root_is_prefix f [] root other = absurd (other root)
 root_is_prefix f (n ∷ t) root other = (n, t, ap (λ s. s ++ n ∷ t) (sym root))
 
 -- where nothing was removed
 pub not_moved : (fault : StepFault) (f t : Tokens) (d e e' : Document) → ¬ IsProperPrefix f t → f ≢ t → Answers (Err fault) d (remove f) e → Answers (Err fault) d (move f t) e'
-not_moved (Refused RemoveRoot) f t d e e' apart other refused = absurd (apart (root_is_prefix f t refused other))
-not_moved (Refused Missing) f t d e e' apart other refused = (apart, refused.1)
-not_moved (Refused IntoItself) f t d e e' apart other refused = absurd refused
-not_moved (Refused NoPlace) f t d e e' apart other refused = absurd refused
-not_moved (Refused TooDeep) f t d e e' apart other refused = absurd refused
-not_moved (Refused TestFailed) f t d e e' apart other refused = absurd refused
+not_moved (Refused cause) f t d e e' apart other (inl (is, root)) = absurd (apart (root_is_prefix f t root other))
+not_moved (Refused cause) f t d e e' apart other (inr (deeper, inl (is, missing))) = inr (apart, inl (is, missing))
+not_moved (Refused cause) f t d e e' apart other (inr (deeper, inr h)) = absurd h.1
 not_moved OutOfMemory f t d e e' apart other refused = tt
 
-copies_freely : (f t : Tokens) (x d : Document) → part d f ≡ Some x → ¬ IsRefused d (add t x) → ¬ IsRefused d (copy f t)
-copies_freely f t x d stood free (IntoItself, h) = h
-copies_freely f t x d stood free (RemoveRoot, h) = h
-copies_freely f t x d stood free (Missing, h) = some_missing d x f stood h
-copies_freely f t x d stood free (NoPlace, h) = free (NoPlace, h.1)
-copies_freely f t x d stood free (TooDeep, (some_there, some, y, there, deep)) = free (TooDeep, (some, subst (IsTooDeep t) (same_part (part d f) y x there stood) deep))
-copies_freely f t x d stood free (TestFailed, h) = h
-
-pub copied : (r : Result (Unit {0}) StepFault) (f t : Tokens) (x d e : Document) → part d f ≡ Some x → Answers r d (add t x) e → Answers r d (copy f t) e
-copied (Ok done) f t x d e stood answers = (copies_freely f t x d stood answers.0, (x, stood, answers.1))
-copied (Err (Refused NoPlace)) f t x d e stood answers = (some_missing d x f stood, answers)
-copied (Err (Refused TooDeep)) f t x d e stood answers = (some_missing d x f stood, answers.0, x, stood, answers.1)
-copied (Err (Refused IntoItself)) f t x d e stood answers = absurd answers
-copied (Err (Refused RemoveRoot)) f t x d e stood answers = absurd answers
-copied (Err (Refused Missing)) f t x d e stood answers = absurd answers
-copied (Err (Refused TestFailed)) f t x d e stood answers = absurd answers
-copied (Err OutOfMemory) f t x d e stood answers = tt
+module _ (f t : Tokens) (x d : Document) (stood : part d f ≡ Some x) where
+  pub copied : (r : Result (Unit {0}) StepFault) (e : Document) → Answers r d (add t x) e → Answers r d (copy f t) e
+  copied (Ok done) e answers =
+      let none = free_of d (add t x) answers.0 in
+      (unrefused d (copy f t) (some_missing d x f stood, (none.0, (fits_as_part f t x d stood none.1.0, tt))), (x, stood, answers.1))
+  copied (Err (Refused cause)) e (inl (is, lacks)) = inr (some_missing d x f stood, inl (is, lacks))
+  copied (Err (Refused cause)) e (inr (place, inl (is, deep))) = inr (some_missing d x f stood, inr (place, inl (is, (x, stood, deep))))
+  copied (Err (Refused cause)) e (inr (place, inr h)) = absurd h.1
+  copied (Err OutOfMemory) e answers = tt

@@ -1,5 +1,5 @@
 -- The laws of runs: one end, one refusal, and no document too deep.
-use Rattle.std.proofs.Common.{◌≡◌, ◌≢◌, ◌⊎◌, inl, inr, ℕ, zero, suc, List, [], ◌∷◌, get_or, take, Some, refl, sym, ap, ap₂, ◌∙◌, subst, arith, rules}
+use Rattle.std.proofs.Common.{◌≡◌, ◌≢◌, ◌⊎◌, inl, inr, ℕ, zero, suc, List, [], ◌∷◌, get_or, take, Some, refl, sym, ap, ap₂, ◌∙◌, subst, arith}
 use Rattle.std.specs.List.{slice_get}
 use Rattle.mp_tree.specs.Document.{Document, list, object, Items, no_items, item, IsDocument, depth, put}
 use Rattle.mp_pointer.specs.Only.{DifferOnlyAt}
@@ -8,12 +8,11 @@ use Rattle.mp_pointer.specs.Spelling.{Tokens}
 use Rattle.mp_pointer.proofs.Facts.{same_numeral, numeral_first, equals_by_part, DifferOnlyAt-sym, DifferOnlyAt-trans}
 use Rattle.mp_patch.specs.Laws.{HasDocument, HasOneEnd, RunsUnrefused, HasOneRefusal, StaysShallow}
 use Rattle.mp_patch.specs.Operation.{Operation, add, remove, replace, move, copy, test, AddsTo, to_map, to_list, append, dash, NamesPlace, Adds, Removes, Step}
-use Rattle.mp_patch.specs.Refusal.{RefusedBy, HasNoPlace}
+use Rattle.mp_patch.specs.Refusal.{RefusedBy, causes}
 use Rattle.mp_patch.specs.Run.{Runs}
-use Rattle.mp_patch.specs.declared.fault.Cause.{Cause}
-use Rattle.mp_patch.specs.declared.fault.Cause.TheVariants.{IntoItself, RemoveRoot, Missing, NoPlace, TooDeep, TestFailed}
 use Rattle.mp_patch.proofs.DepthLemmas.{Step-depth}
 use Rattle.mp_patch.proofs.DocumentLemmas.{part-document, document-changed, Adds-document, Removes-document, Removes-once, same_parts, same_members, same_elements, no_list_is_map, some_same}
+use Rattle.mp_patch.proofs.FirstLemmas.{one_first}
 use Rattle.mp_patch.proofs.StepLemmas.{same_last, not_empty}
 
 -- ---- each step gives a document
@@ -126,50 +125,6 @@ runs_unrefused d e (p ∷ operations) (suc k) cause good values run (m, before, 
     let same = Step-once d p before.1 run.1 good values.0 before.2 run.2 in
     runs_unrefused run.1 e operations k cause (Step-document d p run.1 good values.0 run.2) values.1 run.3 (m, subst (λ x. Runs x (take k operations) m) same before.3, o, there, refused)
 
-one_cause : (d : Document) (o : Operation) (a b : Cause) → IsDocument d → RefusedBy d o a → RefusedBy d o b → a ≡ b
-one_cause d (add t v) NoPlace NoPlace good a b = refl
-one_cause d (add t v) NoPlace TooDeep good a b = absurd (b.0 a)
-one_cause d (add t v) TooDeep NoPlace good a b = absurd (a.0 b)
-one_cause d (add t v) TooDeep TooDeep good a b = refl
-one_cause d (remove t) RemoveRoot RemoveRoot good a b = refl
-one_cause d (remove t) RemoveRoot Missing good a b = absurd (b.0 a)
-one_cause d (remove t) Missing RemoveRoot good a b = absurd (a.0 b)
-one_cause d (remove t) Missing Missing good a b = refl
-one_cause d (replace t v) Missing Missing good a b = refl
-one_cause d (replace t v) Missing TooDeep good a b = absurd (b.0 a)
-one_cause d (replace t v) TooDeep Missing good a b = absurd (a.0 b)
-one_cause d (replace t v) TooDeep TooDeep good a b = refl
-one_cause d (move f t) IntoItself IntoItself good a b = refl
-one_cause d (move f t) IntoItself Missing good a b = absurd (b.0 a)
-one_cause d (move f t) IntoItself NoPlace good a b = absurd (b.0 a)
-one_cause d (move f t) IntoItself TooDeep good a b = absurd (b.0 a)
-one_cause d (move f t) Missing IntoItself good a b = absurd (a.0 b)
-one_cause d (move f t) Missing Missing good a b = refl
-one_cause d (move f t) Missing NoPlace good a b = absurd (b.1 a.1)
-one_cause d (move f t) Missing TooDeep good a b = absurd (b.1 a.1)
-one_cause d (move f t) NoPlace IntoItself good a b = absurd (a.0 b)
-one_cause d (move f t) NoPlace Missing good a b = absurd (a.1 b.1)
-one_cause d (move f t) NoPlace NoPlace good a b = refl
-one_cause d (move f t) NoPlace TooDeep good a b = absurd (b.5 (subst (λ m. HasNoPlace m t) (Removes-once f d a.3 b.3 good a.4 b.4) a.5))
-one_cause d (move f t) TooDeep IntoItself good a b = absurd (a.0 b)
-one_cause d (move f t) TooDeep Missing good a b = absurd (a.1 b.1)
-one_cause d (move f t) TooDeep NoPlace good a b = absurd (a.5 (subst (λ m. HasNoPlace m t) (Removes-once f d b.3 a.3 good b.4 a.4) b.5))
-one_cause d (move f t) TooDeep TooDeep good a b = refl
-one_cause d (copy f t) Missing Missing good a b = refl
-one_cause d (copy f t) Missing NoPlace good a b = absurd (b.0 a)
-one_cause d (copy f t) Missing TooDeep good a b = absurd (b.0 a)
-one_cause d (copy f t) NoPlace Missing good a b = absurd (a.0 b)
-one_cause d (copy f t) NoPlace NoPlace good a b = refl
-one_cause d (copy f t) NoPlace TooDeep good a b = absurd (b.1 a.1)
-one_cause d (copy f t) TooDeep Missing good a b = absurd (a.0 b)
-one_cause d (copy f t) TooDeep NoPlace good a b = absurd (a.1 b.1)
-one_cause d (copy f t) TooDeep TooDeep good a b = refl
-one_cause d (test t v) Missing Missing good a b = refl
-one_cause d (test t v) Missing TestFailed good a b = absurd (b.0 a)
-one_cause d (test t v) TestFailed Missing good a b = absurd (a.0 b)
-one_cause d (test t v) TestFailed TestFailed good a b = refl
-one_cause d o a b good refused again = absurd (search rules)
-
 pub has_one_refusal : HasOneRefusal
 has_one_refusal d [] k n a b good values (m, before, o, there, refused) other = none there
   where
@@ -178,7 +133,7 @@ has_one_refusal d [] k n a b good values (m, before, o, there, refused) other = 
 has_one_refusal d (p ∷ operations) zero zero a b good values (m, before, o, there, refused) (l, first, q, here, again) =
     let left : RefusedBy d p a = subst (λ r. RefusedBy d r a) (sym (same_operation p o there)) (subst (λ x. RefusedBy x o a) before refused) in
     let right : RefusedBy d p b = subst (λ r. RefusedBy d r b) (sym (same_operation p q here)) (subst (λ x. RefusedBy x q b) first again) in
-    (refl, one_cause d p a b good left right)
+    (refl, one_first (causes d p) a b left right)
 has_one_refusal d (p ∷ operations) zero (suc n) a b good values (m, before, o, there, refused) (l, first, q, here, again) =
     absurd (first.0 (a, subst (λ r. RefusedBy d r a) (sym (same_operation p o there)) (subst (λ x. RefusedBy x o a) before refused)))
 has_one_refusal d (p ∷ operations) (suc k) zero a b good values (m, before, o, there, refused) (l, first, q, here, again) =

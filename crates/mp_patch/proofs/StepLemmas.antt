@@ -14,8 +14,9 @@ use Rattle.mp_pointer.specs.Spelling.{Tokens}
 use Rattle.mp_pointer.proofs.Facts.{child-numeral, count_of-items}
 use Rattle.mp_pointer.proofs.Facts.{child-object, part-push}
 use Rattle.mp_patch.proofs.EditLemmas.{nth-here}
-use Rattle.mp_patch.specs.Operation.{add, replace, ChangesContainer, AddsTo, to_map, to_list, RemovesFrom, from_map, from_list, append, dash, NamesPlace}
-use Rattle.mp_patch.specs.Refusal.{LacksPlace, HasNoPlace, IsTooDeep, IsMissing}
+use Rattle.mp_patch.proofs.FirstLemmas.{unrefused}
+use Rattle.mp_patch.specs.Operation.{add, remove, replace, ChangesContainer, AddsTo, to_map, to_list, RemovesFrom, from_map, from_list, append, dash, NamesPlace}
+use Rattle.mp_patch.specs.Refusal.{LacksPlace, HasNoPlace, IsTooDeep, IsMissing, RefusedBy}
 use Rattle.mp_patch.specs.Run.{IsRefused}
 use Rattle.mp_patch.specs.Steps.{Answers, Inserts}
 use Rattle.mp_patch.specs.declared.fault.Cause.TheVariants.{IntoItself, RemoveRoot, Missing, NoPlace, TooDeep, TestFailed}
@@ -120,28 +121,23 @@ over_limit fits t v from_fit no_fit =
     let no : length t + depth v ≤ depth_limit → ⊥ = λ h. true≢false (sym (from_fit h) ∙ no_fit) in
     omega (arith, no)
 
-has_place : (d x : Document) (t s : Tokens) (last : List ℕ) → t ≡ s ++ last ∷ [] → part d s ≡ Some x → ¬ LacksPlace last (Some x) → ¬ HasNoPlace d t
+pub has_place : (d x : Document) (t s : Tokens) (last : List ℕ) → t ≡ s ++ last ∷ [] → part d s ≡ Some x → ¬ LacksPlace last (Some x) → ¬ HasNoPlace d t
 has_place d x t s last is stood place (u, n, ends, lacks) =
     let same = same_last s u last n (sym is ∙ ends) in
     place (subst (λ o. LacksPlace last o) stood (subst (λ w. LacksPlace last (part d w)) (sym same.0) (subst (λ m. LacksPlace m (part d u)) (sym same.1) lacks)))
 
-root_place : (d : Document) (t : Tokens) → t ≡ [] → ¬ HasNoPlace d t
+pub root_place : (d : Document) (t : Tokens) → t ≡ [] → ¬ HasNoPlace d t
 root_place d t root (u, n, ends, lacks) = not_empty u n (sym ends ∙ root)
 
 adds_freely : (d : Document) (t : Tokens) (v : Document) → ¬ HasNoPlace d t → length t + depth v ≤ depth_limit → ¬ IsRefused d (add t v)
-adds_freely d t v place fits (NoPlace, h) = place h
-adds_freely d t v place fits (TooDeep, h) = omega (arith, h.1, fits)
-adds_freely d t v place fits (RemoveRoot, h) = h
-adds_freely d t v place fits (Missing, h) = h
-adds_freely d t v place fits (IntoItself, h) = h
-adds_freely d t v place fits (TestFailed, h) = h
+adds_freely d t v place fits = unrefused d (add t v) (place, ((λ deep. omega (arith, deep, fits)), tt))
 
 pub added : (r : Result (Unit {0}) StepFault) (fits : Bool) (t s : Tokens) (last : List ℕ) (v d e x y : Document) → (IsTrue fits → length t + depth v ≤ depth_limit) → (length t + depth v ≤ depth_limit → IsTrue fits)
     → t ≡ s ++ last ∷ [] → part d s ≡ Some x → part e s ≡ Some y → DifferOnlyAt s d e → Inserts r fits last v x y → Answers r d (add t v) e
 added (Ok done) fits t s last v d e x y to_fit from_fit is stood stands only inserts =
     (adds_freely d t v (has_place d x t s last is stood inserts.1) (to_fit inserts.0), inr (record { container = s; last = last; is = is; before = x; after = y; stood = stood; stands = stands; changed = inserts.2; only = only }))
-added (Err (Refused NoPlace)) fits t s last v d e x y to_fit from_fit is stood stands only inserts = (s, last, is, subst (λ o. LacksPlace last o) (sym stood) inserts)
-added (Err (Refused TooDeep)) fits t s last v d e x y to_fit from_fit is stood stands only inserts = (has_place d x t s last is stood inserts.0, over_limit fits t v from_fit inserts.1)
+added (Err (Refused NoPlace)) fits t s last v d e x y to_fit from_fit is stood stands only inserts = inl (refl, (s, last, is, subst (λ o. LacksPlace last o) (sym stood) inserts))
+added (Err (Refused TooDeep)) fits t s last v d e x y to_fit from_fit is stood stands only inserts = inr (has_place d x t s last is stood inserts.0, inl (refl, over_limit fits t v from_fit inserts.1))
 added (Err (Refused RemoveRoot)) fits t s last v d e x y to_fit from_fit is stood stands only inserts = absurd inserts
 added (Err (Refused IntoItself)) fits t s last v d e x y to_fit from_fit is stood stands only inserts = absurd inserts
 added (Err (Refused Missing)) fits t s last v d e x y to_fit from_fit is stood stands only inserts = absurd inserts
@@ -156,8 +152,8 @@ removed t s last v d e x y is stood stands only here removes = (
   record { container = s; last = last; is = is; before = x; after = y; stood = stood; stands = stands; changed = removes; only = only },
 )
 
-pub nothing_there : (t s : Tokens) (last : List ℕ) (d : Document) → t ≡ s ++ last ∷ [] → option_and_then (child last) (part d s) ≡ None → (t ≢ []) × IsMissing d t
-nothing_there t s last d is none = (λ root. not_empty s last (sym is ∙ root), ap (part d) is ∙ part-push d s last ∙ none)
+pub nothing_there : (t s : Tokens) (last : List ℕ) (d : Document) → t ≡ s ++ last ∷ [] → option_and_then (child last) (part d s) ≡ None → RefusedBy d (remove t) Missing
+nothing_there t s last d is none = inr ((λ root. not_empty s last (sym is ∙ root)), inl (refl, ap (part d) is ∙ part-push d s last ∙ none))
 
 pub some_missing : (d x : Document) (t : Tokens) → part d t ≡ Some x → ¬ IsMissing d t
 some_missing d x t stood missing = differ (sym stood ∙ missing)
@@ -166,18 +162,13 @@ some_missing d x t stood missing = differ (sym stood ∙ missing)
     differ e = cc
 
 replaces_freely : (d x : Document) (t : Tokens) (v : Document) → part d t ≡ Some x → length t + depth v ≤ depth_limit → ¬ IsRefused d (replace t v)
-replaces_freely d x t v stood fits (Missing, h) = some_missing d x t stood h
-replaces_freely d x t v stood fits (TooDeep, h) = omega (arith, h.1, fits)
-replaces_freely d x t v stood fits (RemoveRoot, h) = h
-replaces_freely d x t v stood fits (IntoItself, h) = h
-replaces_freely d x t v stood fits (NoPlace, h) = h
-replaces_freely d x t v stood fits (TestFailed, h) = h
+replaces_freely d x t v stood fits = unrefused d (replace t v) (some_missing d x t stood, ((λ deep. omega (arith, deep, fits)), tt))
 
 pub replaced : (r : Result (Unit {0}) StepFault) (fits : Bool) (t : Tokens) (v d e x y : Document) → (IsTrue fits → length t + depth v ≤ depth_limit) → (length t + depth v ≤ depth_limit → IsTrue fits)
     → part d t ≡ Some x → part e t ≡ Some y → DifferOnlyAt t d e → MatchResult r (λ _. IsTrue fits × (y ≡ v)) (λ fault. IsFalse fits × (fault ≡ Refused TooDeep)) → Answers r d (replace t v) e
 replaced (Ok done) fits t v d e x y to_fit from_fit stood stands only set = (replaces_freely d x t v stood (to_fit set.0), ((x, stood), stands ∙ ap Some set.1, only))
 replaced (Err fault) fits t v d e x y to_fit from_fit stood stands only set =
-    subst (λ f. Answers (Err f) d (replace t v) e) (sym set.1) (some_missing d x t stood, over_limit fits t v from_fit set.0)
+    subst (λ f. Answers (Err f) d (replace t v) e) (sym set.1) (inr (some_missing d x t stood, inl (refl, over_limit fits t v from_fit set.0)))
 
 -- ---- in a map
 

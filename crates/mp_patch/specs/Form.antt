@@ -1,9 +1,10 @@
 -- How a JSON Patch is written as a document (RFC 6902 sections 3 and 4): a list of maps, each with the members that its operation needs.
 use Rattle.std.specs.Prelude.{◌≡◌, ◌≢◌, ◌⊎◌, ◌∷◌, ℕ, codes, max, map, List, [], Option, None, Some, option_and_then, ⊤}
-use Rattle.mp_tree.specs.Document.{Document, null, flag, whole, string, list, object, Items, no_items, item, Members, find, depth}
+use Rattle.mp_tree.specs.Document.{Document, string, list, object, Items, no_items, item, Members, find, depth}
 use Rattle.mp_tree.specs.View.{items_of, members_of}
 use Rattle.mp_pointer.specs.Part.{count_of}
 use Rattle.mp_pointer.specs.Spelling.{Tokens, spell}
+use Rattle.mp_patch.specs.First.{Causes, IsFirst}
 use Rattle.mp_patch.specs.Operation.{Operation, add, remove, replace, move, copy, test, append}
 use Rattle.mp_patch.specs.declared.fault.FormCause.{FormCause}
 use Rattle.mp_patch.specs.declared.fault.FormCause.TheVariants.{NotAnObject, NoOp, UnknownOp, NoPath, NoFrom, BadPointer, NoValue}
@@ -72,46 +73,46 @@ NamesOp path_alone name = name ≡ codes "remove"
 NamesOp a_value name = (name ≡ codes "add") ⊎ ((name ≡ codes "replace") ⊎ (name ≡ codes "test"))
 NamesOp an_origin name = (name ≡ codes "move") ⊎ (name ≡ codes "copy")
 
+-- what a map has at a name; another document has nothing there
+abbrev pub value_at : List ℕ → Document → Option Document
+value_at name (object ms) = find name ms
+value_at name d = None
+
 abbrev pub text_of : Document → Option (List ℕ)
-text_of null = None
-text_of (flag b) = None
-text_of (whole z) = None
 text_of (string s) = Some s
-text_of (list ds) = None
-text_of (object ms) = None
+text_of d = None
 
 -- the text that stands at a name
-abbrev pub text_at : List ℕ → Members → Option (List ℕ)
-text_at name ms = option_and_then text_of (find name ms)
+abbrev pub text_at : List ℕ → Document → Option (List ℕ)
+text_at name d = option_and_then text_of (value_at name d)
 
--- the members name an operation of this need
-abbrev pub HasOp : Need → Members → Type 0
-HasOp need ms = (name : List ℕ) × (text_at (codes "op") ms ≡ Some name) × NamesOp need name
+-- `op` names an operation of this need
+abbrev pub HasOp : Need → Document → Type 0
+HasOp need d = (name : List ℕ) × (text_at (codes "op") d ≡ Some name) × NamesOp need name
 
 -- a text that spells no pointer
 abbrev pub IsNoPointer : List ℕ → Type 0
 IsNoPointer text = (t : Tokens) → text ≢ spell t
 
--- the spelling of the path is no pointer; and where there is an origin, that one's may be the bad one
-abbrev pub HasBadPointer : Need → List ℕ → Members → Type 0
-HasBadPointer path_alone path ms = IsNoPointer path
-HasBadPointer a_value path ms = IsNoPointer path
-HasBadPointer an_origin path ms = (origin : List ℕ) × (text_at (codes "from") ms ≡ Some origin) × (IsNoPointer path ⊎ IsNoPointer origin)
+-- the text at a name is one
+abbrev pub HasNoPointer : List ℕ → Document → Type 0
+HasNoPointer name d = (text : List ℕ) × (text_at name d ≡ Some text) × IsNoPointer text
 
--- the first fault of a map, in the order of the lines: each says that those before it do not hold
-abbrev pub IsFaultyMap : FormCause → Members → Type 0
-IsFaultyMap NotAnObject ms = ⊥
-IsFaultyMap NoOp ms = text_at (codes "op") ms ≡ None
-IsFaultyMap UnknownOp ms = (name : List ℕ) × (text_at (codes "op") ms ≡ Some name) × ((need : Need) → ¬ NamesOp need name)
-IsFaultyMap NoPath ms = (need : Need) × HasOp need ms × (text_at (codes "path") ms ≡ None)
-IsFaultyMap NoFrom ms = HasOp an_origin ms × (path : List ℕ) × (text_at (codes "path") ms ≡ Some path) × (text_at (codes "from") ms ≡ None)
-IsFaultyMap BadPointer ms = (need : Need) × HasOp need ms × (path : List ℕ) × (text_at (codes "path") ms ≡ Some path) × HasBadPointer need path ms
-IsFaultyMap NoValue ms = HasOp a_value ms × (t : Tokens) × (text_at (codes "path") ms ≡ Some (spell t)) × (find (codes "value") ms ≡ None)
+-- what can be wrong with an element, in the order in which it is judged
+abbrev pub form_causes : Document → Causes FormCause
+form_causes d =
+    (NotAnObject, (ms : Members) → d ≢ object ms)
+    ∷ (NoOp, text_at (codes "op") d ≡ None)
+    ∷ (UnknownOp, (need : Need) → ¬ HasOp need d)
+    ∷ (NoPath, text_at (codes "path") d ≡ None)
+    ∷ (NoFrom, HasOp an_origin d × (text_at (codes "from") d ≡ None))
+    ∷ (BadPointer, HasNoPointer (codes "path") d ⊎ (HasOp an_origin d × HasNoPointer (codes "from") d))
+    ∷ (NoValue, HasOp a_value d × (value_at (codes "value") d ≡ None))
+    ∷ []
 
--- the first fault of an element
+-- the element is faulty by the first of these that holds
 abbrev pub IsFaulty : FormCause → Document → Type 0
-IsFaulty NotAnObject d = (ms : Members) → d ≢ object ms
-IsFaulty cause d = (ms : Members) × (d ≡ object ms) × IsFaultyMap cause ms
+IsFaulty cause d = IsFirst cause (form_causes d)
 
 -- why a document is no patch: for an element, those before it are forms; want of memory says nothing of the document
 abbrev pub IsFormFault : FormFault → Document → Type 0

@@ -1,12 +1,14 @@
 -- Laws of patches alone. Each is the contract of a function of the module `laws` that runs nothing.
-use Rattle.std.specs.Prelude.{◌≡◌, ◌≤◌, ℕ, List, [], ◌∷◌, ⊤}
+use Rattle.std.specs.Prelude.{◌≡◌, ◌≢◌, ◌≤◌, ◌⊎◌, ℕ, List, [], ◌∷◌, ⊤}
 use Rattle.mp_tree.specs.Document.{Document, IsDocument, depth, depth_limit}
 use Rattle.mp_patch.specs.Form.{AreForms, IsFormFault, shapes}
 use Rattle.mp_patch.specs.Operation.{Operation, add, remove, replace, move, copy, test}
 use Rattle.mp_patch.specs.Run.{Runs, RefusedAt}
+use Rattle.mp_patch.specs.View.{operations_of}
 use Rattle.mp_patch.specs.declared.fault.Cause.{Cause}
 use Rattle.mp_patch.specs.declared.fault.FormFault.{FormFault}
 use Rattle.mp_patch.specs.declared.fault.FormFault.TheVariants.{OutOfMemory}
+use Rattle.mp_patch.specs.declared.op.Op.{Op}
 
 -- the value of each operation is a document
 abbrev pub HasDocument : Operation → Type 0
@@ -21,6 +23,10 @@ abbrev pub HaveDocuments : List Operation → Type 0
 HaveDocuments [] = ⊤
 HaveDocuments (o ∷ operations) = HasDocument o × HaveDocuments operations
 
+-- every list of `Op` is one of these
+abbrev pub PatchesHaveDocuments : Type 0
+PatchesHaveDocuments = (ops : List Op) → HaveDocuments (operations_of ops)
+
 -- a patch runs from a document to one end alone (RFC 6902 section 5)
 abbrev pub HasOneEnd : Type 0
 HasOneEnd = (d e f : Document) (operations : List Operation) → IsDocument d → HaveDocuments operations → Runs d operations e → Runs d operations f → e ≡ f
@@ -28,6 +34,11 @@ HasOneEnd = (d e f : Document) (operations : List Operation) → IsDocument d �
 -- a patch that runs is not refused
 abbrev pub RunsUnrefused : Type 0
 RunsUnrefused = (d e : Document) (operations : List Operation) (k : ℕ) (cause : Cause) → IsDocument d → HaveDocuments operations → Runs d operations e → ¬ RefusedAt d operations k cause
+
+-- a patch that does not run is refused
+abbrev pub RunsOrIsRefused : Type 0
+RunsOrIsRefused = (d : Document) (operations : List Operation) → IsDocument d → HaveDocuments operations
+    → ((e : Document) × IsDocument e × Runs d operations e) ⊎ ((k : ℕ) × (cause : Cause) × RefusedAt d operations k cause)
 
 -- a patch is refused at one operation alone, and by one cause
 abbrev pub HasOneRefusal : Type 0
@@ -43,6 +54,10 @@ StaysShallow = (d e : Document) (operations : List Operation) → IsDocument d �
 abbrev pub HasOneReading : Type 0
 HasOneReading = (d : Document) (operations others : List Operation) → AreForms d operations → AreForms d others → operations ≡ others
 
+-- a form that is a document has documents as its values
+abbrev pub FormsHaveDocuments : Type 0
+FormsHaveDocuments = (d : Document) (operations : List Operation) → IsDocument d → AreForms d operations → HaveDocuments operations
+
 -- the shapes of operations are forms of them
 abbrev pub ShapesAreForms : Type 0
 ShapesAreForms = (operations : List Operation) → AreForms (shapes operations) operations
@@ -50,3 +65,11 @@ ShapesAreForms = (operations : List Operation) → AreForms (shapes operations) 
 -- a document that is a form of operations has no fault
 abbrev pub FormsHaveNoFault : Type 0
 FormsHaveNoFault = (d : Document) (operations : List Operation) (fault : FormFault) → AreForms d operations → IsFormFault fault d → fault ≡ OutOfMemory
+
+-- a document is a form of operations, or has a fault
+abbrev pub IsFormOrFaulty : Type 0
+IsFormOrFaulty = (d : Document) → ((operations : List Operation) × AreForms d operations) ⊎ ((fault : FormFault) × (fault ≢ OutOfMemory) × IsFormFault fault d)
+
+-- and has one fault alone; want of memory is none of a document
+abbrev pub HasOneFault : Type 0
+HasOneFault = (d : Document) (fault other : FormFault) → fault ≢ OutOfMemory → other ≢ OutOfMemory → IsFormFault fault d → IsFormFault other d → fault ≡ other

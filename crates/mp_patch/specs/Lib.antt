@@ -1,10 +1,10 @@
 pub mod Edit
+pub mod First
 pub mod Form
 pub mod Laws
 pub mod Operation
 pub mod Read
 pub mod Refusal
-pub mod Rows
 pub mod Run
 pub mod Steps
 pub mod View

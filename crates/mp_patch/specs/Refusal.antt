@@ -3,6 +3,7 @@ use Rattle.std.specs.Prelude.{◌≡◌, ◌≢◌, ◌+◌, ◌<◌, ℕ, List,
 use Rattle.mp_tree.specs.Document.{Document, null, flag, whole, string, list, object, depth, depth_limit}
 use Rattle.mp_pointer.specs.Part.{part, numeral, count_of}
 use Rattle.mp_pointer.specs.Spelling.{Tokens, IsProperPrefix}
+use Rattle.mp_patch.specs.First.{Causes, IsFirst}
 use Rattle.mp_patch.specs.Operation.{Operation, add, remove, replace, move, copy, test, dash, Removes}
 use Rattle.mp_patch.specs.declared.fault.Cause.{Cause}
 use Rattle.mp_patch.specs.declared.fault.Cause.TheVariants.{IntoItself, RemoveRoot, Missing, NoPlace, TooDeep, TestFailed}
@@ -30,27 +31,31 @@ HasNoPlace d t = (s : Tokens) × (n : List ℕ) × (t ≡ s ++ n ∷ []) × Lack
 abbrev pub IsTooDeep : Tokens → Document → Type 0
 IsTooDeep t v = depth_limit < length t + depth v
 
--- The cause is the first that holds, in the order of the lines for the operation.
-abbrev pub RefusedBy : Document → Operation → Cause → Type 0
-RefusedBy d (add t v) NoPlace = HasNoPlace d t
-RefusedBy d (add t v) TooDeep = ¬ HasNoPlace d t × IsTooDeep t v
+-- section 4.4: a move to where the part is changes nothing; for another one the place is judged in what the removal leaves
+abbrev pub LeavesNoPlace : Document → Tokens → Tokens → Type 0
+LeavesNoPlace d f t = (f ≢ t) × (left : Document) × Removes f d left × HasNoPlace left t
+
+-- what is at f is too deep for t
+abbrev pub PartIsTooDeep : Document → Tokens → Tokens → Type 0
+PartIsTooDeep d f t = (x : Document) × (part d f ≡ Some x) × IsTooDeep t x
+
+-- what can refuse an operation, in the order in which it is judged
+abbrev pub causes : Document → Operation → Causes Cause
+causes d (add t v) = (NoPlace, HasNoPlace d t) ∷ (TooDeep, IsTooDeep t v) ∷ []
 -- to remove the whole document is refused, since the standard does not say what that leaves
-RefusedBy d (remove t) RemoveRoot = t ≡ []
-RefusedBy d (remove t) Missing = (t ≢ []) × IsMissing d t
-RefusedBy d (replace t v) Missing = IsMissing d t
-RefusedBy d (replace t v) TooDeep = ¬ IsMissing d t × IsTooDeep t v
--- section 4.4: a place cannot be moved into itself, whether or not there is anything; the place to go is judged in the document that is
--- left, and a move to where the part is can only be missing
-RefusedBy d (move f t) IntoItself = IsProperPrefix f t
-RefusedBy d (move f t) Missing = ¬ IsProperPrefix f t × IsMissing d f
-RefusedBy d (move f t) NoPlace = ¬ IsProperPrefix f t × ¬ IsMissing d f × (f ≢ t) × (left : Document) × Removes f d left × HasNoPlace left t
-RefusedBy d (move f t) TooDeep =
-    ¬ IsProperPrefix f t × ¬ IsMissing d f × (f ≢ t) × (left : Document) × Removes f d left × ¬ HasNoPlace left t
-    × (x : Document) × (part d f ≡ Some x) × IsTooDeep t x
-RefusedBy d (copy f t) Missing = IsMissing d f
-RefusedBy d (copy f t) NoPlace = ¬ IsMissing d f × HasNoPlace d t
-RefusedBy d (copy f t) TooDeep = ¬ IsMissing d f × ¬ HasNoPlace d t × (x : Document) × (part d f ≡ Some x) × IsTooDeep t x
+causes d (remove t) = (RemoveRoot, t ≡ []) ∷ (Missing, IsMissing d t) ∷ []
+causes d (replace t v) = (Missing, IsMissing d t) ∷ (TooDeep, IsTooDeep t v) ∷ []
+-- a place cannot be moved into itself, whether or not there is anything
+causes d (move f t) =
+    (IntoItself, IsProperPrefix f t)
+    ∷ (Missing, IsMissing d f)
+    ∷ (NoPlace, LeavesNoPlace d f t)
+    ∷ (TooDeep, (f ≢ t) × PartIsTooDeep d f t)
+    ∷ []
+causes d (copy f t) = (Missing, IsMissing d f) ∷ (NoPlace, HasNoPlace d t) ∷ (TooDeep, PartIsTooDeep d f t) ∷ []
 -- section 4.6: the part there is another value
-RefusedBy d (test t v) Missing = IsMissing d t
-RefusedBy d (test t v) TestFailed = ¬ IsMissing d t × (part d t ≢ Some v)
-RefusedBy d o cause = ⊥
+causes d (test t v) = (Missing, IsMissing d t) ∷ (TestFailed, part d t ≢ Some v) ∷ []
+
+-- the operation is refused by the first of these that holds
+abbrev pub RefusedBy : Document → Operation → Cause → Type 0
+RefusedBy d o cause = IsFirst cause (causes d o)

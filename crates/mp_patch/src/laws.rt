@@ -1,9 +1,19 @@
 //! Laws of patches alone: each function runs nothing, and its contract is the law.
-ghost use Rattle.mp_patch.specs.Laws.{FormsHaveNoFault, HasOneEnd, HasOneReading, HasOneRefusal, RunsUnrefused, ShapesAreForms, StaysShallow};
+ghost use Rattle.mp_patch.specs.Laws.{FormsHaveDocuments, FormsHaveNoFault, HasOneEnd, HasOneFault, HasOneReading, HasOneRefusal, IsFormOrFaulty, PatchesHaveDocuments, RunsOrIsRefused, RunsUnrefused, ShapesAreForms, StaysShallow};
+
+/// The values of a patch are documents: so the other laws speak of every `JsonPatch`.
+pub fn patches_have_documents()
+    ensures { PatchesHaveDocuments }
+{}
 
 /// A patch leads from a document to one end alone (RFC 6902 section 5).
 pub fn one_end()
     ensures { HasOneEnd }
+{}
+
+/// On each document a patch leads to an end, or is refused.
+pub fn runs_or_is_refused()
+    ensures { RunsOrIsRefused }
 {}
 
 /// A patch that leads to an end is not refused.
@@ -26,6 +36,11 @@ pub fn one_reading()
     ensures { HasOneReading }
 {}
 
+/// Where a form is a document, the values of its operations are documents.
+pub fn forms_have_documents()
+    ensures { FormsHaveDocuments }
+{}
+
 /// What operations are written as is a form of them.
 pub fn shapes_are_forms()
     ensures { ShapesAreForms }
@@ -34,4 +49,14 @@ pub fn shapes_are_forms()
 /// A document that is a form of operations has no fault but want of memory.
 pub fn forms_have_no_fault()
     ensures { FormsHaveNoFault }
+{}
+
+/// A document is a form of operations, or has a fault that is not want of memory.
+pub fn is_form_or_faulty()
+    ensures { IsFormOrFaulty }
+{}
+
+/// A document has one fault alone that is not want of memory.
+pub fn one_fault()
+    ensures { HasOneFault }
 {}

@@ -99,7 +99,7 @@ fn read_op(element: &Doc, alloc: Global) -> Result<Op, OpFault>
 fn read_members(entries: &BTreeMap<String, Doc>, alloc: Global) -> Result<Op, OpFault>
     ensures { MatchResult result
         (λ op. Carries (members entries.now.entries) (needed (operation_of op)))
-        (λ fault. IsMapFault fault (members entries.now.entries)) }
+        (λ fault. IsMapFault fault (object (members entries.now.entries))) }
 {
     let op = text_at(entries, "op").ok_or(FormCause::NoOp)?;
     let name = op_named(op).ok_or(FormCause::UnknownOp)?;
@@ -136,8 +136,8 @@ fn places_in(
 ) -> Result<Places, OpFault>
     ensures { MatchResult result
         (λ p. (spelling.now ≡ spell p.path)
-        × (text_under (codes "from") (members entries.now.entries) ≡ Some (spell p.origin)))
-        (λ fault. IsOriginFault fault spelling.now (members entries.now.entries)) }
+        × (text_under (codes "from") (object (members entries.now.entries)) ≡ Some (spell p.origin)))
+        (λ fault. IsOriginFault fault spelling.now (object (members entries.now.entries))) }
 {
     let origin_spelling = text_at(entries, "from").ok_or(FormCause::NoFrom)?;
     let path = pointer_of(spelling, alloc)?;
@@ -162,7 +162,7 @@ fn op_named(name: &str) -> Option<OpName>
 
 // The text at a name; None where there is none, or no text.
 fn text_at<'a>(entries: &'a BTreeMap<String, Doc>, name: &str) -> Option<&'a str>
-    ensures { option_copied result ≡ text_under name.now (members entries.now.entries) }
+    ensures { option_copied result ≡ text_under name.now (object (members entries.now.entries)) }
 {
     match entries.get(name)? {
         Doc::Text(text) => Some(text.as_str()),
@@ -187,7 +187,7 @@ fn pointer_of(spelling: &str, alloc: Global) -> Result<Pointer, OpFault>
 fn value_in(entries: &BTreeMap<String, Doc>, alloc: Global) -> Result<Doc, OpFault>
     ensures { MatchResult result
         (λ v. find (codes "value") (members entries.now.entries) ≡ Some (document v))
-        (λ fault. IsValueFault fault (members entries.now.entries)) }
+        (λ fault. IsValueFault fault (object (members entries.now.entries))) }
 {
     match entries.get("value") {
         Some(value) => Ok(value.copy(alloc)?),

@@ -1,4 +1,4 @@
-ghost use Rattle.std.specs.Prelude.{◌≡◌, ◌≢◌, ◌≤◌, ◌↔◌, ◌++◌, ◌∷◌, [], length, map, take, slice_get, IsTrue, IfOk, IfErr, MatchResult, Ok, Err, string_bytes};
+ghost use Rattle.std.specs.Prelude.{◌≡◌, ◌≢◌, ◌≤◌, ◌-◌, ◌↔◌, ◌++◌, ◌∷◌, [], length, map, take, slice_get, IsTrue, IfOk, IfErr, OnOk, OnErr, MatchResult, Ok, Err, string_bytes};
 ghost use Rattle.std.specs.Option.{option_copied};
 ghost use Rattle.mp_pointer.specs.Spelling.{spell, tokens_in, IsFaultOf, IsProperPrefix};
 
@@ -119,6 +119,27 @@ impl Pointer {
     {
         self.tokens.insert(0, String::from_str(alloc, token)?)?;
         Ok(self)
+    }
+
+    /// Adds a token, given unescaped, at the end: the pointer then leads one step further into the document.
+    /// `AllocError` where memory ran out: the pointer is as it was.
+    ///
+    /// ```text
+    /// pointer.push(alloc, "x/")?;  // then it prints as /a/x~1, where it printed as /a
+    /// ```
+    pub fn push(&mut self, alloc: Global, token: &str) -> Result<(), AllocError>
+        ensures ok { OnOk result (self.new ≡ self.old ++ token.now ∷ []) }
+        ensures err { OnErr result (self.new ≡ self.old) }
+    {
+        self.tokens.push(String::from_str(alloc, token)?)?;
+        Ok(())
+    }
+
+    /// Takes the last token away; the pointer with no token stays as it is. Takes no memory.
+    pub fn pop(&mut self)
+        ensures { self.new ≡ take (length self.old - 1) self.old }
+    {
+        drop(self.tokens.pop());
     }
 
     /// The pointer of the first `count` tokens, which leads to a part that holds this pointer's.

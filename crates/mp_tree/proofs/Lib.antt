@@ -7,6 +7,7 @@ pub mod FromData
 pub mod IntoData
 pub mod Lists
 pub mod MapEdits
+pub mod MapLaws
 pub mod Maps
 pub mod Meaning
 pub mod Names

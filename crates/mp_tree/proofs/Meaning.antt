@@ -1,6 +1,7 @@
 -- What a `Doc` means, variant by variant, and what each such document is.
 use Rattle.std.proofs.Common.{◌≡◌, ℕ, List, [], ◌∷◌, map, Bool, IsUtf8, Ordering, Less, Equal, Greater, String, Vec, BTreeMap, Global, string_bytes, refl, sym, ap, ◌∙◌, subst, rules}
 use Rattle.mp_tree.specs.Document.{Document, null, flag, whole, string, list, object, IsDocument, AreDocuments, IsMap, HasTexts, ItemsHaveTexts, MembersHaveTexts, IsInRange, AreInRange, MembersAreInRange, Members, member, no_members, put, name_cmp}
+use Rattle.mp_tree.specs.Laws.{DocsAreDocuments}
 use Rattle.mp_tree.specs.View.{number_of, named, members_of, document, document_step, items, members}
 use Rattle.mp_tree.specs.declared.whole.Whole.{Whole}
 use Rattle.mp_tree.specs.declared.doc.Doc.{Doc, Null, Flag, Text, Items, Members as Map, map-Doc, fold-roll-Doc, ind-Doc, the_lemmas}
@@ -128,3 +129,6 @@ HasTexts-opened (Doc-F.Members m) = MembersHaveTexts-members m.entries
 
 pub HasTexts-document : (d : Doc) → HasTexts (document d)
 HasTexts-document = by_parts HasTexts HasTexts-opened
+
+pub docs_are_documents : DocsAreDocuments
+docs_are_documents d = (IsDocument-document d, HasTexts-document d, IsInRange-document d)

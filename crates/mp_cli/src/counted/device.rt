@@ -2,7 +2,7 @@
 ghost use Rattle.std.specs.Prelude.{◌≡◌, ◌+◌, ◌^◌, ◌<◌, length, IfOk, OnOk, OnErr};
 ghost use Rattle.std.specs.Io.{ReadsAtMost, WritesAtMost};
 ghost use Rattle.std.specs.Io.KnownBytes.{Keeps, ReadConsumes, WriteAppends};
-ghost use Rattle.mp_cli.specs.Counted.{device_of, calls_of, bytes_of, CountsBytes, CountsFailure};
+ghost use Rattle.mp_cli.specs.Counted.{device_of, calls_of, bytes_of, CountsBytes, CountsFailure, IsFlushed};
 
 use super::Counted;
 use std::io;
@@ -20,6 +20,7 @@ impl<T: Read> Counted<T> {
         ensures failed { OnErr result (CountsFailure self.old self.new) }
     {
         self.calls += 1;
+        self.flushed = false;
         let outcome = self.device.read(piece);
         match &outcome {
             Ok(given) => self.bytes += *given as u64,
@@ -43,6 +44,7 @@ impl<T: Write> Counted<T> {
         ensures failed { OnErr result (CountsFailure self.old self.new) }
     {
         self.calls += 1;
+        self.flushed = false;
         let outcome = self.device.write(text);
         match &outcome {
             Err(_) | Ok(0) => self.failures += 1,
@@ -56,10 +58,12 @@ impl<T: Write> Counted<T> {
         requires { calls_of self.old + 1 < 2 ^ 64 }
         ensures kept { Keeps (T.contents (device_of self.old)) (T.contents (device_of self.new)) }
         ensures done { OnOk result (CountsBytes self.old self.new 0) }
+        ensures flushed { OnOk result (IsFlushed self.new) }
         ensures failed { OnErr result (CountsFailure self.old self.new) }
     {
         self.calls += 1;
         let outcome = self.device.flush();
+        self.flushed = outcome.is_ok();
         if outcome.is_err() {
             self.failures += 1;
         }

@@ -1,9 +1,6 @@
 use Rattle.std.proofs.Common.{◌≡◌, ◌∙◌, ◌++◌, ℕ, List, ap, append_assoc, codes, rules, string_bytes, subst, sym}
-use Rattle.mp_tree.specs.Document.{string}
-use Rattle.mp_tree.specs.Text.{text as compact}
 use Rattle.mp_pointer.specs.Part.{numeral}
-use Rattle.mp_pointer.specs.Spelling.{spell}
-use Rattle.mp_cli.specs.Answered.{Gives, line}
+use Rattle.mp_cli.specs.Answered.{Gives, line, pointers_text}
 use Rattle.mp_cli.proofs.answering.conflict.Goals as goal
 
 -- texts that were joined in another order
@@ -17,8 +14,6 @@ returns c =
     let at = codes " at " in
     let one = numeral c.args.first in
     let other = numeral c.args.second in
-    let place = compact (string (spell c.args.place.now)) in
-    let pointer : string_bytes c.in_ok-write_text.field-0 ≡ place =
-    c.in_ok-write_text.ensures.text ∙ ap (λ s. compact (string s)) (c.as_str-2.ensures.value ∙ c.in_ok-print.ensures) in
-    let written : c.as_str-4.result.now ≡ (((first ++ one) ++ (second ++ other)) ++ at) ++ place = search rules in
-    subst (λ (text : List ℕ). Gives c.line.result (line text 1)) (written ∙ regroup first one second other at place) c.line.ensures
+    let places = pointers_text c.args.places.now in
+    let written : c.as_str-3.result.now ≡ (((first ++ one) ++ (second ++ other)) ++ at) ++ places = search rules in
+    subst (λ (text : List ℕ). Gives c.line.result (line text 1)) (written ∙ regroup first one second other at places) c.line.ensures

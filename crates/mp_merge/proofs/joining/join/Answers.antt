@@ -3,7 +3,7 @@ use Rattle.mp_tree.specs.Document.{depth}
 use Rattle.mp_tree.specs.Look.{Path}
 use Rattle.mp_tree.specs.View.{document}
 use Rattle.mp_tree.proofs.Facts.{IsDocument-document}
-use Rattle.mp_merge.specs.Clash.{Compatible, IsFirstClash}
+use Rattle.mp_merge.specs.Clash.{Compatible}
 use Rattle.mp_merge.specs.Join.{IsJoin}
 use Rattle.mp_merge.specs.Walks.{union}
 use Rattle.mp_merge.proofs.ClashesByName.{compatible-sym}
@@ -14,7 +14,7 @@ pub returns-clause-joined : goal.returns-clause-joined
 returns-clause-joined c =
     let p = document c.args.p.now in
     let q = document c.args.q.now in
-    let free : Compatible p q = subst (λ (o : Option Path). MatchOption o (Compatible p q) (λ place. IsFirstClash p q place)) c.in_default.is c.in_ok-place.ensures in
+    let free : Compatible p q = c.compatible.ensures.0 c.if-not-compatible.false in
     let is : document c.in_ok-united.field-0 ≡ union q p = c.in_ok-united.ensures ∙ ap (union q) c.in_ok-copy.ensures.equal in
     subst (λ j. IsJoin (p ∷ q ∷ []) j) (sym is) (union_grows_join (p ∷ []) q p (IsDocument-document c.args.q.now) (IsDocument-document c.args.p.now) (join-one p) (compatible-sym p q free))
 

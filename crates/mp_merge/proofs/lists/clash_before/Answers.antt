@@ -1,7 +1,7 @@
 use Rattle.std.proofs.Common.{◌≡◌, map, Option, Some, MatchOption, slice_get, subst, arith}
 use Rattle.mp_tree.specs.Look.{Path}
 use Rattle.mp_tree.specs.View.{document}
-use Rattle.mp_merge.specs.Clash.{Compatible, IsFirstClash}
+use Rattle.mp_merge.specs.Clash.{Compatible}
 use Rattle.mp_merge.proofs.Numbered.{at_number, same_at, below_more}
 use Rattle.mp_merge.proofs.lists.clash_before.Goals as goal
 
@@ -11,7 +11,7 @@ loop-first-preserved c =
     let k = c.loop-first.first in
     let d = c.index-patches-first.result in
     let q = document c.index-patches-second.result in
-    let free : Compatible (document d) q = subst (λ (o : Option Path). MatchOption o (Compatible (document d) q) (λ place. IsFirstClash (document d) q place)) c.in_default.is c.in_ok-place.ensures in
+    let free : Compatible (document d) q = c.compatible.ensures.0 c.if-not-compatible.false in
     let at : slice_get (map document ds) k ≡ Some (document d) = at_number ds k d (omega (arith, c.loop-first-test.true, c.requires)) c.index-patches-first.is in
     below_more (map document ds) k (document d) q at free c.loop-first.invariant
 

@@ -5,9 +5,9 @@ use Rattle.mp_tree.specs.Document.{object, no_members, find}
 use Rattle.mp_tree.specs.View.{document, members}
 use Rattle.mp_tree.specs.declared.doc.Doc.{Doc}
 use Rattle.mp_tree.proofs.Facts.{document-Members}
-use Rattle.mp_patch.specs.View.{operations_of}
-use Rattle.mp_merge.specs.EditWalk.{AreMemberEdits}
-use Rattle.mp_merge.proofs.EditWalks.{both_maps, IsRestOf, rest_after_one, grew_by_all, lent_part, renamed}
+use Rattle.mp_merge.specs.EditWalk.{AreMemberEdits, all_guarded}
+use Rattle.mp_merge.proofs.EditWalks.{both_maps, IsEditsRest, edits_after_one, lent_part, renamed}
+use Rattle.mp_merge.proofs.Grown.{grew_by_all}
 use Rattle.mp_merge.proofs.WalkLemmas.{next_member, rest_ascends, looked_up}
 use Rattle.mp_merge.proofs.rewriting.+push_edits.Goals as goal
 
@@ -26,22 +26,23 @@ push_member_edits-loop-name-preserved t c =
     let left = c.next.new.self in
     let n = string_bytes e.0 in
     let entries = c.args.entries.now.entries in
-    let before = operations_of c.args.edits.now in
-    let now = operations_of l.edits in
-    let later = operations_of c.push_edits.new.edits in
+    let before = all_guarded c.args.edits.now.items in
+    let now = all_guarded l.edits.items in
+    let later = all_guarded c.push_edits.new.edits.items in
     let all = members c.args.changes.now.entries in
     let first = next_member l.name-iterator left e c.in-Some.ensures.steps l.invariant.0 in
     let found : find n (members entries) ≡ option_map document (option_copied c.get-value.result) = looked_up c.as_str.result.now n entries (option_copied c.get-value.result) c.as_str.ensures.value c.get-value.ensures.value in
     let grew = renamed now later c.args.path.now c.as_str-in-loop-name.result.now n (document e.1) (option_map (λ (v : Bor Doc). document v.now) c.get-value.result) (find n (members entries))
     c.as_str-in-loop-name.ensures.value (lent_part c.get-value.result ∙ sym found) c.in_ok-push_edits.ensures in (
       rest_ascends l.name-iterator left e c.in-Some.ensures.steps l.invariant.0,
-      rest_after_one before now later c.args.path.now all (members left) (members entries) n (document e.1)
-          (subst (λ ms. IsRestOf before now c.args.path.now all ms (members entries)) first l.invariant.1) grew,
+      edits_after_one before now later c.args.path.now all (members left) (members entries) n (document e.1)
+          (subst (λ ms. IsEditsRest before now c.args.path.now all ms (members entries)) first l.invariant.1) grew,
     )
 
 pub push_member_edits-returns : goal.push_member_edits-returns
 push_member_edits-returns t c =
     let l = c.loop-name in
     let none : members l.name-iterator ≡ no_members = ap members c.in-None.ensures.steps.0 in
-    grew_by_all (operations_of c.args.edits.now) (operations_of l.edits) c.args.path.now (members c.args.changes.now.entries) (members l.name-iterator) (members c.args.entries.now.entries) l.invariant.1
+    grew_by_all (all_guarded c.args.edits.now.items) (all_guarded l.edits.items) (AreMemberEdits c.args.path.now (members l.name-iterator) (members c.args.entries.now.entries))
+    (AreMemberEdits c.args.path.now (members c.args.changes.now.entries) (members c.args.entries.now.entries)) l.invariant.1
     (subst (λ ms. AreMemberEdits c.args.path.now ms (members c.args.entries.now.entries) []) (sym none) refl)

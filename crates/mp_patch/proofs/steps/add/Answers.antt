@@ -1,4 +1,4 @@
-use Rattle.std.proofs.Common.{◌≡◌, ◌-◌, Some, slice_range, arith, rules, sym, ap, ◌∙◌, subst}
+use Rattle.std.proofs.Common.{◌≡◌, ◌-◌, Some, slice_range, arith, rules, inl, refl, sym, ap, ◌∙◌, subst}
 use Rattle.std.specs.List.{slice_get}
 use Rattle.std.specs.Option.{option_copied}
 use Rattle.mp_tree.specs.View.{document}
@@ -26,4 +26,4 @@ returns-in-None c =
     let token = c.unwrap-token.result.now in
     let last = c.len-last.result - 1 in
     let here : slice_get path last ≡ Some token = sym c.token.ensures ∙ ap option_copied c.unwrap-token.ensures in
-    (slice_range path 0 last, token, to_last path last token (omega (arith, c.len-last.ensures, c.len-2.ensures)) here, subst (LacksPlace token) (sym c.in-None.ensures) tt)
+    inl (refl, (slice_range path 0 last, token, to_last path last token (omega (arith, c.len-last.ensures, c.len-2.ensures)) here, subst (LacksPlace token) (sym c.in-None.ensures) tt))

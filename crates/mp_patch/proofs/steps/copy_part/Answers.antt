@@ -6,4 +6,4 @@ use Rattle.mp_patch.proofs.steps.copy_part.Goals as goal
 pub returns : goal.returns
 returns c =
     let x = document c.in_ok-part-in-Some.part in
-    copied c.add.result c.args.origin.now c.args.path.now x (document c.args.doc.now) (document c.add.new.doc) (sym c.in-Some.ensures ∙ ap Some (sym c.in_ok-part-in-Some.ensures.equal)) c.add.ensures
+    copied c.args.origin.now c.args.path.now x (document c.args.doc.now) (sym c.in-Some.ensures ∙ ap Some (sym c.in_ok-part-in-Some.ensures.equal)) c.add.result (document c.add.new.doc) c.add.ensures

@@ -22,4 +22,4 @@ returns c =
     let d = c.args.doc.now in
     let apart : ¬ IsProperPrefix f t = λ h. true≢false (sym (c.is_proper_prefix_of.ensures.1 h) ∙ c.if-is_proper_prefix_of.false) in
     let other : f ≢ t = λ h. true≢false (sym (c.is_same_place.ensures.1 h) ∙ c.if-is_same_place.false) in
-    moved c.add.result f t (document c.in_ok-part.part) (document d) (document c.remove.new.doc) (document c.add.new.doc) (IsDocument-document d) apart other c.in_ok-part.ensures.1 c.in_ok-part.ensures.2 c.add.ensures
+    moved f t (document c.in_ok-part.part) (document d) (document c.remove.new.doc) (IsDocument-document d) apart other c.in_ok-part.ensures.1 c.in_ok-part.ensures.2 c.add.result (document c.add.new.doc) c.add.ensures

@@ -1,0 +1,156 @@
+-- Each document is a form of operations, or has a fault.
+use Rattle.std.proofs.Common.{◌≡◌, ◌⊎◌, inl, inr, ℕ, List, [], ◌∷◌, Option, None, Some, Result, Ok, Err, refl, sym, ap, ◌∙◌, subst, option_and_then, codes}
+use Rattle.mp_tree.specs.Document.{Document, string, list, object, Items, no_items, item, Members, find}
+use Rattle.mp_pointer.specs.Spelling.{Tokens, spell, tokens_in}
+use Rattle.mp_pointer.specs.declared.fault.PointerFault.{PointerFault}
+use Rattle.mp_pointer.proofs.Facts.{reads_spellings}
+use Rattle.mp_patch.specs.Form.{Carries, EachForm, IsForm, IsFaulty, IsNoPointer, Need, path_alone, a_value, an_origin, NamesOp, needed, op_member, path_member, value_member, from_member, text_at, text_of}
+use Rattle.mp_patch.specs.Laws.{IsFormOrFaulty}
+use Rattle.mp_patch.specs.Operation.{Operation, add, remove, replace, move, copy, test, append}
+use Rattle.mp_patch.specs.Read.{IsMapFault}
+use Rattle.mp_patch.specs.declared.fault.FormCause.{FormCause}
+use Rattle.mp_patch.specs.declared.fault.FormCause.TheVariants.{NotAnObject, NoOp, UnknownOp, NoPath, NoFrom, BadPointer, NoValue}
+use Rattle.mp_patch.specs.declared.fault.FormFault.TheVariants as form_fault
+use Rattle.mp_patch.specs.declared.reading.OpFault.TheVariants.{Form}
+use Rattle.mp_pointer.specs.Part.{count_of}
+use Rattle.mp_patch.proofs.Decisions.{decide_name}
+use Rattle.mp_patch.proofs.FormLemmas.{map_fault, no_pointer}
+
+-- the tokens that a text spells, where it spells some
+spelled : (text : List ℕ) → ((t : Tokens) × (text ≡ spell t)) ⊎ IsNoPointer text
+spelled text = by (tokens_in text) refl
+  where
+    by : (r : Result Tokens PointerFault) → tokens_in text ≡ r → ((t : Tokens) × (text ≡ spell t)) ⊎ IsNoPointer text
+    by (Ok t) is = inl (t, (reads_spellings text t).0 is)
+    by (Err fault) is = inr (no_pointer text fault is)
+
+-- ---- the operation that a name names
+
+abbrev Known : List ℕ → Type 0
+Known name = ((name ≡ codes "remove") ⊎ ((name ≡ codes "move") ⊎ (name ≡ codes "copy"))) ⊎ ((name ≡ codes "add") ⊎ ((name ≡ codes "replace") ⊎ (name ≡ codes "test")))
+
+known : (name : List ℕ) → Known name ⊎ ((need : Need) → ¬ NamesOp need name)
+known name =
+    by (decide_name name (codes "remove")) (decide_name name (codes "move")) (decide_name name (codes "copy")) (decide_name name (codes "add")) (decide_name name (codes "replace")) (decide_name name (codes "test"))
+  where
+    by : Dec (name ≡ codes "remove") → Dec (name ≡ codes "move") → Dec (name ≡ codes "copy") → Dec (name ≡ codes "add") → Dec (name ≡ codes "replace") → Dec (name ≡ codes "test") → Known name ⊎ ((need : Need) → ¬ NamesOp need name)
+    by (yes e) _ _ _ _ _ = inl (inl (inl e))
+    by (no r) (yes e) _ _ _ _ = inl (inl (inr (inl e)))
+    by (no r) (no m) (yes e) _ _ _ = inl (inl (inr (inr e)))
+    by (no r) (no m) (no c) (yes e) _ _ = inl (inr (inl e))
+    by (no r) (no m) (no c) (no a) (yes e) _ = inl (inr (inr (inl e)))
+    by (no r) (no m) (no c) (no a) (no p) (yes e) = inl (inr (inr (inr e)))
+    by (no r) (no m) (no c) (no a) (no p) (no t) = inr none
+      where
+        none : (need : Need) → ¬ NamesOp need name
+        none path_alone e = r e
+        none a_value (inl e) = a e
+        none a_value (inr (inl e)) = p e
+        none a_value (inr (inr e)) = t e
+        none an_origin (inl e) = m e
+        none an_origin (inr e) = c e
+
+-- ---- a map
+
+text_found : (o : Option Document) (text : List ℕ) → option_and_then text_of o ≡ Some text → o ≡ Some (string text)
+text_found None text at = cc
+text_found (Some (string s)) text at = let same : s ≡ text = cc in ap (λ t. Some (string t)) same
+text_found (Some d) text at = absurd (let none = at in cc)
+
+module _ (ms : Members) where
+  abbrev d : Document
+  d = object ms
+
+  abbrev Read : Type 0
+  Read = ((o : Operation) × Carries ms (needed o)) ⊎ ((cause : FormCause) × IsMapFault (Form cause) d)
+
+  stands : (n text other : List ℕ) → text_at n d ≡ Some text → text ≡ other → find n ms ≡ Some (string other)
+  stands n text other at is = text_found (find n ms) text at ∙ ap (λ t. Some (string t)) is
+
+  -- with an operation's name and a path
+  module _ (name path : List ℕ) (at : text_at (codes "op") d ≡ Some name) (there : text_at (codes "path") d ≡ Some path) where
+    alone : name ≡ codes "remove" → Read
+    alone is = elim (spelled path) [
+      | inl p ↦ inl (remove p.0, (stands (codes "op") name (codes "remove") at is, (stands (codes "path") path (spell p.0) there p.1, tt)))
+      | inr bad ↦ inr (BadPointer, (path_alone, (name, at, is), path, there, bad))
+    ]
+
+    with_value : (make : Tokens → Document → Operation) (op : List ℕ) → ((t : Tokens) (v : Document) → needed (make t v) ≡ op_member op ∷ path_member t ∷ value_member v ∷ []) → name ≡ op → NamesOp a_value name → Read
+    with_value make op shape is names = elim (spelled path) [
+      | inl p ↦ by p.0 p.1 (find (codes "value") ms) refl
+      | inr bad ↦ inr (BadPointer, (a_value, (name, at, names), path, there, bad))
+    ]
+      where
+        by : (t : Tokens) → path ≡ spell t → (o : Option Document) → find (codes "value") ms ≡ o → Read
+        by t same None none = inr (NoValue, ((name, at, names), t, there ∙ ap Some same, none))
+        by t same (Some v) value =
+            inl (make t v, subst (Carries ms) (sym (shape t v)) (stands (codes "op") name op at is, (stands (codes "path") path (spell t) there same, (value, tt))))
+
+    with_origin : (make : Tokens → Tokens → Operation) (op : List ℕ) → ((f t : Tokens) → needed (make f t) ≡ op_member op ∷ path_member t ∷ from_member f ∷ []) → name ≡ op → NamesOp an_origin name → Read
+    with_origin make op shape is names = by (text_at (codes "from") d) refl (spelled path)
+      where
+        to : (t : Tokens) (from : List ℕ) → path ≡ spell t → text_at (codes "from") d ≡ Some from → ((f : Tokens) × (from ≡ spell f)) ⊎ IsNoPointer from → Read
+        to t from same here (inl (f, spells)) = inl (make f t, subst (Carries ms) (sym (shape f t)) (stands (codes "op") name op at is, (stands (codes "path") path (spell t) there same, (stands (codes "from") from (spell f) here spells, tt))))
+        to t from same here (inr bad) = inr (BadPointer, (an_origin, (name, at, names), path, there, (from, here, inr bad)))
+
+        by : (o : Option (List ℕ)) → text_at (codes "from") d ≡ o → ((t : Tokens) × (path ≡ spell t)) ⊎ IsNoPointer path → Read
+        by None none _ = inr (NoFrom, ((name, at, names), path, there, none))
+        by (Some from) here (inl (t, same)) = to t from same here (spelled from)
+        by (Some from) here (inr bad) = inr (BadPointer, (an_origin, (name, at, names), path, there, (from, here, inl bad)))
+
+    read_known : Known name → Read
+    read_known (inl (inl e)) = alone e
+    read_known (inl (inr (inl e))) = with_origin move (codes "move") (λ f t. refl) e (inl e)
+    read_known (inl (inr (inr e))) = with_origin copy (codes "copy") (λ f t. refl) e (inr e)
+    read_known (inr (inl e)) = with_value add (codes "add") (λ t v. refl) e (inl e)
+    read_known (inr (inr (inl e))) = with_value replace (codes "replace") (λ t v. refl) e (inr (inl e))
+    read_known (inr (inr (inr e))) = with_value test (codes "test") (λ t v. refl) e (inr (inr e))
+
+  need_of_known : (name : List ℕ) → Known name → (need : Need) × NamesOp need name
+  need_of_known name (inl (inl e)) = (path_alone, e)
+  need_of_known name (inl (inr e)) = (an_origin, e)
+  need_of_known name (inr e) = (a_value, e)
+
+  read_named : (name : List ℕ) → text_at (codes "op") d ≡ Some name → Known name ⊎ ((need : Need) → ¬ NamesOp need name) → (o : Option (List ℕ)) → text_at (codes "path") d ≡ o → Read
+  read_named name at (inr unknown) o there = inr (UnknownOp, (name, at, unknown))
+  read_named name at (inl is) None none = let need = need_of_known name is in inr (NoPath, (need.0, (name, at, need.1), none))
+  read_named name at (inl is) (Some path) there = read_known name path at there is
+
+  read_map : (o : Option (List ℕ)) → text_at (codes "op") d ≡ o → Read
+  read_map None none = inr (NoOp, none)
+  read_map (Some name) at = read_named name at (known name) (text_at (codes "path") d) refl
+
+  read_object : ((o : Operation) × IsForm d o) ⊎ ((cause : FormCause) × IsFaulty cause d)
+  read_object = elim (read_map (text_at (codes "op") d) refl) [ inl form ↦ inl (form.0, (ms, refl, form.1)) | inr fault ↦ inr (fault.0, map_fault ms (Form fault.0) fault.1) ]
+
+-- ---- elements and documents
+
+read_element : (d : Document) → ((o : Operation) × IsForm d o) ⊎ ((cause : FormCause) × IsFaulty cause d)
+read_element (object ms) = read_object ms
+read_element d = inr (NotAnObject, inl (refl, λ ms same. cc))
+
+-- the first faulty element, after forms
+record FirstFaulty (ds : Items) : Type 0 where
+  front : Items
+  x : Document
+  back : Items
+  is : ds ≡ append front (item x back)
+  before : (operations : List Operation) × EachForm front operations
+  cause : FormCause
+  faulty : IsFaulty cause x
+
+read_elements : (ds : Items) → ((operations : List Operation) × EachForm ds operations) ⊎ FirstFaulty ds
+read_elements no_items = inl ([], tt)
+read_elements (item d ds) = by (read_element d) (read_elements ds)
+  where
+    by : ((o : Operation) × IsForm d o) ⊎ ((cause : FormCause) × IsFaulty cause d) → ((operations : List Operation) × EachForm ds operations) ⊎ FirstFaulty ds → ((operations : List Operation) × EachForm (item d ds) operations) ⊎ FirstFaulty (item d ds)
+    by (inr fault) rest = inr (record { front = no_items; x = d; back = ds; is = refl; before = ([], tt); cause = fault.0; faulty = fault.1 })
+    by (inl form) (inl rest) = inl (form.0 ∷ rest.0, (form.1, rest.1))
+    by (inl form) (inr f) = inr (record { front = item d f.front; x = f.x; back = f.back; is = ap (item d) f.is; before = (form.0 ∷ f.before.0, (form.1, f.before.1)); cause = f.cause; faulty = f.faulty })
+
+pub is_form_or_faulty : IsFormOrFaulty
+is_form_or_faulty (list ds) = elim (read_elements ds) [
+  | inl forms ↦ inl (forms.0, (ds, refl, forms.1))
+  | inr f ↦ inr (form_fault.Form (count_of f.front) f.cause, (λ memory. cc), (f.front, f.x, f.back, ap list f.is, refl, f.before, f.faulty))
+]
+is_form_or_faulty d = inr (form_fault.NotAnArray, (λ memory. cc), λ ds same. cc)

@@ -1,0 +1,5 @@
+use Rattle.mp_patch.proofs.ValueLaws.{forms_have_documents}
+use Rattle.mp_patch.proofs.laws.forms_have_documents.Goals as goal
+
+pub returns : goal.returns
+returns c = forms_have_documents

@@ -1,0 +1,5 @@
+use Rattle.mp_patch.proofs.SomeForm.{is_form_or_faulty}
+use Rattle.mp_patch.proofs.laws.is_form_or_faulty.Goals as goal
+
+pub returns : goal.returns
+returns c = is_form_or_faulty

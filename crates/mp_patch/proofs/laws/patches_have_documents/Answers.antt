@@ -1,0 +1,5 @@
+use Rattle.mp_patch.proofs.ValueLaws.{have_documents}
+use Rattle.mp_patch.proofs.laws.patches_have_documents.Goals as goal
+
+pub returns : goal.returns
+returns c = have_documents

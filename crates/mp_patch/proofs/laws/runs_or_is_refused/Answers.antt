@@ -1,0 +1,5 @@
+use Rattle.mp_patch.proofs.SomeRun.{runs_or_is_refused}
+use Rattle.mp_patch.proofs.laws.runs_or_is_refused.Goals as goal
+
+pub returns : goal.returns
+returns c = runs_or_is_refused

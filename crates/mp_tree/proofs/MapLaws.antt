@@ -1,0 +1,26 @@
+-- What is found in a map after one name is set or removed.
+use Rattle.std.proofs.Common.{◌≡◌, ℕ, List, None, Some, refl, ap, ◌∙◌, subst, true}
+use Rattle.mp_tree.specs.Document.{Document, Members, is_name, find, put, without}
+use Rattle.mp_tree.specs.Laws.{EqualMaps, RemovesOneName, SameNames, SetsOneName}
+use Rattle.mp_tree.proofs.Maps.{find-put, find-without, IsMap-put, IsMap-without, members_same}
+use Rattle.mp_tree.proofs.Names.{is_name-other, is_name-self, same_name}
+
+pub same_names : SameNames
+same_names n m = (same_name n m, λ same. subst (λ k. is_name n k ≡ true) same (is_name-self n))
+
+pub sets_one_name : SetsOneName
+sets_one_name n d ms good map = (
+  IsMap-put n d ms good map,
+  rw (find-put n n d ms, is_name-self n) refl,
+  λ m other. rw (find-put m n d ms, is_name-other m n other) refl,
+)
+
+pub removes_one_name : RemovesOneName
+removes_one_name n ms map = (
+  IsMap-without n ms map,
+  rw (find-without n n ms map, is_name-self n) refl,
+  λ m other. rw (find-without m n ms map, is_name-other m n other) refl,
+)
+
+pub equal_maps : EqualMaps
+equal_maps ms es map other = (λ same n. ap (find n) same, λ same. members_same ms es map other same)
