@@ -48,7 +48,7 @@ use Rattle.mp_tree.specs.View.{document}
 use Rattle.mp_tree.specs.declared.doc.Doc.{Doc}
 use Rattle.mp_pointer.specs.Lent.{LendsPart, PartBecomes, one_token}
 use Rattle.mp_pointer.specs.Part.{part}
-use Rattle.mp_pointer.specs.Rows.{doc_row}
+use Rattle.mp_tree.specs.Rows.{doc_row}
 use Rattle.mp_pointer.specs.contracts.pointer.Pointer as pointer
 use Rattle.mp_pointer.proofs.pointer.Pointer.TheLaws as pointer_laws
 use Rattle.mp_pointer.proofs.Following.{follows_self, arm_of, cases, spelled, place_of, some_apart, none_apart, so_opened, so_made, then_so}
