@@ -4,11 +4,11 @@ use Rattle.std.specs.List.{slice_range}
 use Rattle.std.specs.Option.{OnSome}
 use Rattle.std.specs.Borrow.{Fml, LendsSo, MutBor, RattleType}
 use Rattle.mp_tree.specs.Document.{Document, null, flag, whole, string, list, object}
+use Rattle.mp_tree.specs.Rows.{doc_row}
 use Rattle.mp_tree.specs.View.{document}
 use Rattle.mp_tree.specs.declared.doc.Doc.{Doc}
 use Rattle.mp_pointer.specs.Only.{DifferOnlyAt}
 use Rattle.mp_pointer.specs.Part.{part}
-use Rattle.mp_tree.specs.Rows.{doc_row}
 use Rattle.mp_pointer.specs.Spelling.{Tokens}
 
 -- e is d with its part at t made v: they differ at t alone

@@ -1,16 +1,15 @@
 // The child that one token names, lent for writing.
-ghost use Rattle.std.specs.Prelude.{◌≡◌, ◌≢◌, ◌↔◌, ◌<◌, length, option_map, IsTrue, MatchOption};
-ghost use Rattle.std.specs.Borrow.{sem, Lends, LendsIf};
-ghost use Rattle.mp_tree.specs.Document.{object};
+ghost use Rattle.std.specs.Prelude.{◌≡◌, ◌↔◌, ◌<◌, length, option_map, IsTrue};
+ghost use Rattle.std.specs.Borrow.{sem, Lends};
+ghost use Rattle.mp_tree.specs.Rows.{doc_row, items_row, members_row};
 ghost use Rattle.mp_tree.specs.View.{document};
 ghost use Rattle.mp_tree.specs.declared.doc.Doc.TheVariants.{Items, Members};
 ghost use Rattle.mp_pointer.specs.Lent.{IsList, LendsPart, LendsPartOf, one_token};
 ghost use Rattle.mp_pointer.specs.Part.{part};
-ghost use Rattle.mp_tree.specs.Rows.{doc_row, items_row, members_row};
 
 use crate::pointer::Pointer;
 use crate::walk::index_of;
-use mp_tree::Doc;
+use mp_tree::{Doc, items_mut, members_mut};
 use std::collections::BTreeMap;
 
 // What the document is has to be asked first: a `&mut` that one path returns is lent on each.
@@ -26,7 +25,7 @@ pub(crate) fn child_mut<'a>(
         ≡ part (document doc.old) (one_token pointer.now place) }
 {
     if is_list(doc) {
-        return element_mut(items_mut(doc), pointer, place);
+        return element_mut(elements_of(doc), pointer, place);
     }
     match members_mut(doc) {
         Some(entries) => value_mut(entries, pointer, place),
@@ -43,26 +42,14 @@ fn is_list(doc: &Doc) -> bool
     }
 }
 
-fn items_mut(doc: &mut Doc) -> &mut Vec<Doc>
+fn elements_of(doc: &mut Doc) -> &mut Vec<Doc>
     requires { IsList (document doc.old) }
     ensures* writes_back { sem 𝓛 (Lends doc_row items_row doc.entry result Items) }
     ensures value { doc.old ≡ Items result.now }
 {
-    match doc {
-        Doc::Items(elements) => elements,
-        _ => unreachable!(),
-    }
-}
-
-fn members_mut(doc: &mut Doc) -> Option<&mut BTreeMap<String, Doc>>
-    ensures* writes_back { sem 𝓛 (LendsIf doc_row members_row doc.entry result Members doc.old) }
-    ensures value { MatchOption result ((ms : _) → document doc.old ≢ object ms)
-        (λ m. doc.old ≡ Members m.now) }
-{
-    if let Doc::Members(entries) = doc {
-        Some(entries)
-    } else {
-        None
+    match items_mut(doc) {
+        Some(elements) => elements,
+        None => unreachable!(),
     }
 }
 

@@ -1,6 +1,6 @@
 -- By hand, since no proof is generated of what a lender ends as where it has the result's type: `child_mut` lends the child
 -- that one token names, and the document follows it. Assumes `Logic`.
--- How it goes: the document is lent as `&` to `is_list` and comes back. In a list it is given up to `items_mut`, so it follows
+-- How it goes: the document is lent as `&` to `is_list` and comes back. In a list it is given up to `elements_of`, so it follows
 -- its elements, and they follow the element that `element_mut` lends (`Following.antt`'s `then_so`). Elsewhere `members_mut`
 -- and `value_mut` do the same for a map, and for a scalar nothing was lent and the old value is said (`none_so`).
 --     ends      from how the document follows what is returned, that, and the two tokens, the function may return
@@ -56,12 +56,12 @@ use Rattle.mp_pointer.proofs.lent.child_mut.Statement.{statement}
 use Rattle.mp_pointer.proofs.lent.child_mut.Code as code
 use Rattle.mp_pointer.specs.contracts.lent.is_list as is_list
 use Rattle.mp_pointer.proofs.lent.is_list.Met as is_list_met
-use Rattle.mp_pointer.specs.contracts.lent.items_mut as items
-use Rattle.mp_pointer.proofs.lent.items_mut.Met as items_met
+use Rattle.mp_pointer.specs.contracts.lent.elements_of as items
+use Rattle.mp_pointer.proofs.lent.elements_of.Met as items_met
 use Rattle.mp_pointer.specs.contracts.lent.element_mut as element
 use Rattle.mp_pointer.proofs.lent.element_mut.Met as element_met
-use Rattle.mp_pointer.specs.contracts.lent.members_mut as members
-use Rattle.mp_pointer.proofs.lent.members_mut.Met as members_met
+use Rattle.mp_tree.specs.contracts.container.members_mut as members
+use Rattle.mp_tree.proofs.container.members_mut.Met as members_met
 use Rattle.mp_pointer.specs.contracts.lent.value_mut as value
 use Rattle.mp_pointer.proofs.lent.value_mut.Met as value_met
 
@@ -111,7 +111,7 @@ child_mut_spec 𝓤 𝓛 𝓜 𝓡 wired =
     let G₂ = triple_of 𝓛 items.signature (items.spec 𝓛 𝓜.mem 𝓡.returns) in
     let z₂ : G₂.Ghost = (((κ, tt), (q, tt), tt, (x, tt), (mut_vals x, tt)), tt) in
     nothing ! $ move ! (1 ∷ 0 ∷ []) $ join ! $ nothing ! $ move ! (2 ∷ 0 ∷ []) $ join ! $ join ! $ use0 𝓛 (raw (fact 𝓤 (IsList (document x.now)))) (fact_i 𝓤 _ (emp 𝓤) (answer.0 (when_true u yes))) $ move ! (1 ∷ 0 ∷ []) $ use2 𝓛 (raw (G₂.pre z₂)) (id⊢ 𝓤 _) $
-    calls_at ! (framed 𝓤 𝓛.H 𝓜 𝓣) G₂ (items_met.met 𝓤 𝓛 𝓜 𝓡 (code.calls-mp_pointer::lent::items_mut 𝓡.env wired)) z₂ (and_then ! (get ! refl) (no_more !)) (λ v₂.
+    calls_at ! (framed 𝓤 𝓛.H 𝓜 𝓣) G₂ (items_met.met 𝓤 𝓛 𝓜 𝓡 (code.calls-mp_pointer::lent::elements_of 𝓡.env wired)) z₂ (and_then ! (get ! refl) (no_more !)) (λ v₂.
     use1 𝓛 (later (some (λ (r : MutBor items_row.Denot). ((‵ (flft κ q) ⊛ ‵ ftrue) ⊛ ‵ ((MutRef (named 0) κ items_row).own_val r (v₂ ∷ []))) ⊛ some (λ (ws : Unit {0} × Unit {0}). ‵ (lasts items.ended z₂.0.0 z₂.0.3 ws) ⊛ ‵ (follows doc_row items_row x.ghost_name r.ghost_name Items) ⊛ raw (fact 𝓤 (x.now ≡ Items r.now)))))) (id⊢ 𝓤 _) $
     await ! tt $ pick ! (λ r. split ! $ split ! $ split ! $ move ! (2 ∷ []) $ fsplit3 ! $ feq_l ! (λ e₂. feq_i ! (List Val) (mut_vals r) (mut_vals r) refl $ fjoin3 ! $ lands_as ! (ap only e₂) refl (tt, tt) $
     move ! (3 ∷ []) $ pick ! (λ ws₂. split ! $ drop ! $ split ! $ move ! (1 ∷ []) $ heard ! _ (λ here.
@@ -137,7 +137,7 @@ child_mut_spec 𝓤 𝓛 𝓜 𝓡 wired =
     let Held = option.the_row (MutRef (named 0) κ members_row) in
     let Taken : Option (MutBor members_row.Denot) → Type 0 = λ o. MatchOption o ((ms : _) → document x.now ≢ object ms) (λ m. x.now ≡ Members m.now) in
     nothing ! $ move ! (1 ∷ 0 ∷ []) $ join ! $ nothing ! $ move ! (2 ∷ 0 ∷ []) $ join ! $ join ! $ nothing ! $ move ! (1 ∷ 0 ∷ []) $ use2 𝓛 (raw (G₄.pre z₄)) (id⊢ 𝓤 _) $
-    calls_at ! (framed 𝓤 𝓛.H 𝓜 𝓣) G₄ (members_met.met 𝓤 𝓛 𝓜 𝓡 (code.calls-mp_pointer::lent::members_mut 𝓡.env wired)) z₄ (and_then ! (get ! refl) (no_more !)) (λ v₄.
+    calls_at ! (framed 𝓤 𝓛.H 𝓜 𝓣) G₄ (members_met.met 𝓤 𝓛 𝓜 𝓡 (code.calls-mp_tree::container::members_mut 𝓡.env wired)) z₄ (and_then ! (get ! refl) (no_more !)) (λ v₄.
     use1 𝓛 (later (some (λ (o : Option (MutBor members_row.Denot)). ((‵ (flft κ q) ⊛ ‵ ftrue) ⊛ ‵ (Held.own_val o (v₄ ∷ []))) ⊛ some (λ (ws : Unit {0} × Unit {0}). ‵ (lasts members.ended z₄.0.0 z₄.0.3 ws) ⊛ ‵ (follows_if doc_row members_row x.ghost_name (ghost_name_of o) Members x.now) ⊛ raw (fact 𝓤 (Taken o)))))) (id⊢ 𝓤 _) $
     await ! tt $ pick ! (λ o. split ! $ split ! $ split ! $ move ! (3 ∷ []) $ pick ! (λ ws₄. split ! $ drop ! $ split ! $ move ! (1 ∷ []) $ heard ! _ (λ taken.
     -- [how doc follows the entries; the token; nothing; the entries; the token of the pointer; the pointer]
