@@ -11,13 +11,14 @@ use Rattle.mp_patch.specs.Run.{IsRefused, Runs}
 use Rattle.mp_merge.specs.Application.{target_members, mp, mp_members, unless_null, after_patch, depth_of}
 use Rattle.mp_merge.specs.EditPlace.{IsEditPlace}
 use Rattle.mp_merge.specs.Laws.{EditsInAnyOrder, RewritingRuns}
-use Rattle.mp_merge.specs.Rewriting.{part_left, leaving, edit, HasNoRepeats}
+use Rattle.mp_merge.specs.Rewriting.{part_left, leaving, edit, AreEditPlaces, HasNoRepeats}
 use Rattle.mp_merge.proofs.ApplicationLemmas.{IsDocument-mp}
 use Rattle.mp_merge.proofs.DepthLemmas.{depth-find, depth-mp}
 use Rattle.mp_merge.proofs.Edits.{with_at, IsDocument-with_at, look-with_at, look-elsewhere, made}
 use Rattle.mp_merge.proofs.EditPlaces.{Differs, differs_at_edit, edit_places_apart, stays_without_edit, look-left}
 use Rattle.mp_merge.proofs.EditSteps.{Fits, leaves}
 use Rattle.mp_merge.proofs.Elements.{Contains-nil, Contains-head, Contains-tail, Contains-cases}
+use Rattle.mp_merge.proofs.Guards.{guards_run}
 use Rattle.mp_merge.proofs.Looks.{same_look}
 use Rattle.mp_merge.proofs.Places.{MapsAbove, at_path, look-at_path, look-end, to_maps_above, IsDocument-at_path, part-at_path, at_path-mp, Compared, same, longer, shorter, compared}
 use Rattle.mp_merge.proofs.Rewritings.{no_repeats}
@@ -240,10 +241,21 @@ module _ (d p : Document) (good : IsDocument d) (patch : IsDocument p) (shallow 
     kept = λ v none. refl;
   }
 
+edits_run : (d p : Document) → IsDocument d → IsDocument p → depth p ≤ depth_limit → (taken : List Path) → HasNoRepeats taken → AreEditPlaces d p taken → Runs d (map (edit d p) taken) (mp (Some d) p)
+edits_run d p good patch shallow taken once all =
+    run_from d p good patch shallow taken [] d (λ u at. absurd (Contains-nil u at)) (λ u at. (all u).0 at) once (λ u at none. Contains-nil u none) (λ u place. inr ((all u).1 place)) (start d p good patch shallow)
+
 pub edits_in_any_order : EditsInAnyOrder
 edits_in_any_order d p operations good patch shallow lists =
-    subst (λ os. Runs d os (mp (Some d) p)) (sym lists.edits)
-    (run_from d p good patch shallow lists.places [] d (λ u at. absurd (Contains-nil u at)) (λ u at. (lists.all u).0 at) lists.once (λ u at none. Contains-nil u none) (λ u place. inr ((lists.all u).1 place)) (start d p good patch shallow))
+    subst (λ os. Runs d os (mp (Some d) p)) (sym lists.guarded) (guards_run d lists.places (map (edit d p) lists.taken) (mp (Some d) p) (edits_run d p good patch shallow lists.taken lists.once lists.same))
 
 pub rewriting_runs : RewritingRuns
-rewriting_runs d p operations good patch shallow is = edits_in_any_order d p operations good patch shallow (record { places = is.places; once = no_repeats is.places is.rising; all = is.all; edits = is.edits })
+rewriting_runs d p operations good patch shallow is = edits_in_any_order d p operations good patch shallow (record {
+  places = is.places;
+  rising = is.rising;
+  all = is.all;
+  taken = is.places;
+  once = no_repeats is.places is.rising;
+  same = is.all;
+  guarded = is.guarded;
+})

@@ -20,7 +20,7 @@ IsMap-target_members (Some (string s)) good = tt
 IsMap-target_members (Some (list ds)) good = tt
 IsMap-target_members (Some (object ts)) good = good
 
-IsMap-changed : (n : List ℕ) (p d : Document) (ms : Members) → IsDocument d → IsMap ms → IsMap (changed n p d ms)
+pub IsMap-changed : (n : List ℕ) (p d : Document) (ms : Members) → IsDocument d → IsMap ms → IsMap (changed n p d ms)
 IsMap-changed n null d ms good map = IsMap-without n ms map
 IsMap-changed n (flag b) d ms good map = IsMap-put n d ms good map
 IsMap-changed n (whole z) d ms good map = IsMap-put n d ms good map
@@ -44,7 +44,7 @@ mutual
 
 -- ---- at each name
 
-find-changed : (q n : List ℕ) (p d : Document) (ms : Members) → IsMap ms → find q (changed n p d ms) ≡ cond (is_name q n) (unless_null p d) (find q ms)
+pub find-changed : (q n : List ℕ) (p d : Document) (ms : Members) → IsMap ms → find q (changed n p d ms) ≡ cond (is_name q n) (unless_null p d) (find q ms)
 find-changed q n null d ms map = find-without q n ms map
 find-changed q n (flag b) d ms map = find-put q n d ms
 find-changed q n (whole z) d ms map = find-put q n d ms

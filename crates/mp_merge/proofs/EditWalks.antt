@@ -6,19 +6,18 @@ use Rattle.mp_tree.specs.Document.{Document, null, flag, whole, string, list, ob
 use Rattle.mp_tree.specs.Look.{Path, nothing, look, look_here}
 use Rattle.mp_tree.specs.View.{document}
 use Rattle.mp_tree.specs.declared.doc.Doc.{Doc}
-use Rattle.mp_patch.specs.Operation.{Operation, add, remove, replace}
-use Rattle.mp_patch.specs.View.{operation_of, operations_of}
-use Rattle.mp_patch.specs.declared.op.Op.{Op}
+use Rattle.mp_patch.specs.Operation.{add, remove, replace, test}
 use Rattle.mp_merge.specs.Application.{mp, unless_null}
-use Rattle.mp_merge.specs.EditWalk.{IsOneEdit, NotBothMaps, AreEdits, AreMemberEdits}
+use Rattle.mp_merge.specs.EditWalk.{Guarded, IsOneEdit, NotBothMaps, AreEdits, AreMemberEdits, all_guarded, guarded_of}
 use Rattle.mp_merge.specs.Rewriting.{part_left, leaving}
 use Rattle.mp_merge.specs.Walks.{Grew}
+use Rattle.mp_merge.specs.declared.rewriting.Edit.{Edit}
 use Rattle.mp_merge.proofs.Grown.{IsRestOf, rest_after_one}
 
 -- ---- a list that has grown
 
-pub grew_by_one : (Holds : List Operation → Type 0) (old new : List Op) (o : Op) → new ≡ old ++ o ∷ [] → Holds (operation_of o ∷ []) → Grew (operations_of old) (operations_of new) Holds
-grew_by_one Holds old new o is here = (operation_of o ∷ [], ap operations_of is ∙ map-append operation_of old (o ∷ []), here)
+pub grew_by_one : (Holds : List Guarded → Type 0) (old new : List Edit) (e : Edit) → new ≡ old ++ e ∷ [] → Holds (guarded_of e ∷ []) → Grew (all_guarded old) (all_guarded new) Holds
+grew_by_one Holds old new e is here = (guarded_of e ∷ [], ap all_guarded is ∙ map-append guarded_of old (e ∷ []), here)
 
 -- ---- one operation
 
@@ -44,21 +43,20 @@ leaves_value s n p other = left_below_root s n p ∙ value_left p other
 leaves_nothing : (s : Path) (n : List ℕ) (p : Document) → p ≡ null → part_left (s ++ n ∷ []) (Some p) ≡ None
 leaves_nothing s n p is = left_below_root s n p ∙ ap (λ q. unless_null q (mp None q)) is
 
-pub edit_removes : (s place : Path) (n : List ℕ) (p v : Document) → p ≡ null → place ≡ s ++ n ∷ [] → IsOneEdit (s ++ n ∷ []) p (Some v) (remove place ∷ [])
-edit_removes s place n p v is there =
+pub edit_removes : (s place other : Path) (n : List ℕ) (p v : Document) → p ≡ null → place ≡ s ++ n ∷ [] → other ≡ s ++ n ∷ [] → IsOneEdit (s ++ n ∷ []) p (Some v) ((test place v ∷ [], remove other) ∷ [])
+edit_removes s place other n p v is there also =
     inr (
       λ same. let never : Some v ≡ None = same ∙ leaves_nothing s n p is in cc,
-      ap (λ u. remove u ∷ []) there ∙ ap (λ o. leaving (s ++ n ∷ []) (look v []) o ∷ []) (sym (leaves_nothing s n p is)),
+      ap₂ (λ u x. (test u v ∷ [], remove x) ∷ []) there also ∙ ap (λ o. (test (s ++ n ∷ []) v ∷ [], leaving (s ++ n ∷ []) (look v []) o) ∷ []) (sym (leaves_nothing s n p is)),
     )
 
-pub edit_adds : (s place : Path) (p q : Document) → LeavesValue s p → place ≡ s → q ≡ mp None p → IsOneEdit s p None (add place q ∷ [])
+pub edit_adds : (s place : Path) (p q : Document) → LeavesValue s p → place ≡ s → q ≡ mp None p → IsOneEdit s p None (([], add place q) ∷ [])
 edit_adds s place p q left there is =
     inr (
       λ same. let never : None ≡ Some (mp None p) = same ∙ left in cc,
-      ap₂ (λ u x. add u x ∷ []) there is ∙ ap (λ o. leaving s nothing o ∷ []) (sym left),
+      ap₂ (λ u x. ([], add u x) ∷ []) there is ∙ ap (λ o. ([], leaving s nothing o) ∷ []) (sym left),
     )
 
--- a part of a patch that is no map is what it leaves
 same_value : (p v : Document) → NotBothMaps p (Some v) → v ≡ mp None p → p ≡ v
 same_value (object ps) (object ms) other is = absurd (other refl refl)
 same_value (object ps) v other is = absurd (other refl (ap look_here is))
@@ -76,25 +74,26 @@ over_value s (string t) x = refl
 over_value s (list ds) x = refl
 over_value s (object ms) x = refl
 
-pub edit_replaces : (s place : Path) (p v q : Document) → LeavesValue s p → NotBothMaps p (Some v) → p ≢ v → place ≡ s → q ≡ mp None p → IsOneEdit s p (Some v) (replace place q ∷ [])
-edit_replaces s place p v q left other differ there is =
+pub edit_replaces : (s place other : Path) (p v q : Document) → LeavesValue s p → NotBothMaps p (Some v) → p ≢ v → place ≡ s → other ≡ s → q ≡ mp None p → IsOneEdit s p (Some v) ((test place v ∷ [], replace other q) ∷ [])
+edit_replaces s place other p v q left never differ there also is =
     inr (
-      λ same. let whole_is : Some v ≡ Some (mp None p) = same ∙ left in differ (same_value p v other (let value_is : v ≡ mp None p = cc in value_is)),
-      ap₂ (λ u x. replace u x ∷ []) there is ∙ ap (λ o. o ∷ []) (sym (over_value s v (mp None p))) ∙ ap (λ o. leaving s (look v []) o ∷ []) (sym left),
+      λ same. let whole_is : Some v ≡ Some (mp None p) = same ∙ left in differ (same_value p v never (let value_is : v ≡ mp None p = cc in value_is)),
+      ap (λ u. (test u v ∷ [], replace other q) ∷ []) there ∙ ap₂ (λ u x. (test s v ∷ [], replace u x) ∷ []) also is ∙ ap (λ o. (test s v ∷ [], o) ∷ []) (sym (over_value s v (mp None p)))
+          ∙ ap (λ o. (test s v ∷ [], leaving s (look v []) o) ∷ []) (sym left),
     )
 
 -- ---- both have maps
 
-pub both_maps : (old new : List Operation) (s place : Path) (p : Document) (t : Option Document) (ps ds : Members) → p ≡ object ps → t ≡ Some (object ds) → place ≡ s → Grew old new (AreMemberEdits place ps ds) → Grew old new (AreEdits s p t)
+pub both_maps : (old new : List Guarded) (s place : Path) (p : Document) (t : Option Document) (ps ds : Members) → p ≡ object ps → t ≡ Some (object ds) → place ≡ s → Grew old new (AreMemberEdits place ps ds) → Grew old new (AreEdits s p t)
 both_maps old new s place p t ps ds patch target there grew = rw (patch, target, ← there) grew
 
 -- ---- name by name
 
 -- what is still to be added, added to what is there, gives all that is added
-abbrev pub IsEditsRest : List Operation → List Operation → Path → Members → Members → Members → Type 0
+abbrev pub IsEditsRest : List Guarded → List Guarded → Path → Members → Members → Members → Type 0
 IsEditsRest before now s all left ds = IsRestOf before now (AreMemberEdits s left ds) (AreMemberEdits s all ds)
 
-pub edits_after_one : (before now later : List Operation) (s : Path) (all left ds : Members) (n : List ℕ) (p : Document) → IsEditsRest before now s all (member n p left) ds → Grew now later (AreEdits (s ++ n ∷ []) p (find n ds))
+pub edits_after_one : (before now later : List Guarded) (s : Path) (all left ds : Members) (n : List ℕ) (p : Document) → IsEditsRest before now s all (member n p left) ds → Grew now later (AreEdits (s ++ n ∷ []) p (find n ds))
     → IsEditsRest before later s all left ds
 edits_after_one before now later s all left ds n p =
     rest_after_one before now later (AreEdits (s ++ n ∷ []) p (find n ds)) (AreMemberEdits s left ds) (AreMemberEdits s (member n p left) ds) (AreMemberEdits s all ds)
@@ -105,5 +104,5 @@ pub lent_part : (o : Option (Bor Doc)) → option_map (λ (v : Bor Doc). documen
 lent_part None = refl
 lent_part (Some v) = refl
 
-pub renamed : (now later : List Operation) (s : Path) (m n : List ℕ) (p : Document) (t o : Option Document) → m ≡ n → t ≡ o → Grew now later (AreEdits (s ++ m ∷ []) p t) → Grew now later (AreEdits (s ++ n ∷ []) p o)
+pub renamed : (now later : List Guarded) (s : Path) (m n : List ℕ) (p : Document) (t o : Option Document) → m ≡ n → t ≡ o → Grew now later (AreEdits (s ++ m ∷ []) p t) → Grew now later (AreEdits (s ++ n ∷ []) p o)
 renamed now later s m n p t o name part grew = subst (λ x. Grew now later (AreEdits (s ++ n ∷ []) p x)) part (subst (λ k. Grew now later (AreEdits (s ++ k ∷ []) p t)) name grew)

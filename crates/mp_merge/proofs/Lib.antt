@@ -12,7 +12,9 @@ pub mod Elements
 pub mod Exchange
 pub mod Facts
 pub mod Grown
+pub mod Guards
 pub mod Headline
+pub mod InPlace
 pub mod InTurn
 pub mod Joins
 pub mod Listings

@@ -1,5 +1,5 @@
 -- A document and a patch have one rewriting, which is empty exactly where the patch changes nothing.
-use Rattle.std.proofs.Common.{◌≡◌, ◌⊎◌, inl, inr, ◌↔◌, List, [], ◌∷◌, map, Less, Equal, Some, refl, sym, ap, ap₂, ◌∙◌, subst}
+use Rattle.std.proofs.Common.{◌≡◌, ◌⊎◌, inl, inr, ◌↔◌, List, [], ◌∷◌, ◌++◌, map, Less, Equal, Some, refl, sym, ap, ap₂, ◌∙◌, subst}
 use Rattle.std.proofs.lemmas.Cmp.{lists_total, nat_list_cmp_total, tied_itself}
 use Rattle.std.specs.Cmp.{IsTotalOrder}
 use Rattle.std.specs.List.{Contains, AllByRecursion}
@@ -10,7 +10,7 @@ use Rattle.mp_merge.specs.Application.{mp}
 use Rattle.mp_merge.specs.Clash.{path_cmp}
 use Rattle.mp_merge.specs.EditPlace.{IsEditPlace}
 use Rattle.mp_merge.specs.Laws.{HasOneRewriting, EmptyRewriting}
-use Rattle.mp_merge.specs.Rewriting.{edit, HasNoRepeats}
+use Rattle.mp_merge.specs.Rewriting.{edit, guards, HasNoRepeats}
 use Rattle.mp_merge.proofs.ApplicationLemmas.{IsDocument-mp}
 use Rattle.mp_merge.proofs.EditPlaces.{stays_without_edit, no_edit_if_same}
 use Rattle.mp_merge.proofs.Elements.{Contains-nil, no_member}
@@ -25,23 +25,27 @@ no_repeats (w ∷ ws) rising = (not_among_above w ws rising.0, no_repeats ws ris
 
 pub one_rewriting : HasOneRewriting
 one_rewriting d p operations others one two =
-    one.edits
-    ∙ ap (map (edit d p)) (same_rising one.places two.places one.rising two.rising (λ w. (λ at. (two.all w).1 ((one.all w).0 at), λ at. (one.all w).1 ((two.all w).0 at))))
-    ∙ sym two.edits
+    one.guarded
+    ∙ ap (λ ws. guards d ws ++ map (edit d p) ws) (same_rising one.places two.places one.rising two.rising (λ w. (λ at. (two.all w).1 ((one.all w).0 at), λ at. (one.all w).1 ((two.all w).0 at))))
+    ∙ sym two.guarded
 
 map_nil : {A B : Type 0} (f : A → B) (xs : List A) → map f xs ≡ [] → xs ≡ []
 map_nil f [] e = refl
 map_nil f (x ∷ xs) e = absurd (cc)
+
+append_nil_right : {A : Type 0} (xs ys : List A) → xs ++ ys ≡ [] → ys ≡ []
+append_nil_right [] ys e = e
+append_nil_right (x ∷ xs) ys e = absurd (cc)
 
 pub empty_rewriting : EmptyRewriting
 empty_rewriting d p operations good patch is = (same_if_empty, empty_if_same)
   where
     same_if_empty : operations ≡ [] → mp (Some d) p ≡ d
     same_if_empty empty =
-        let none : is.places ≡ [] = map_nil (edit d p) is.places (sym is.edits ∙ empty) in
+        let none : is.places ≡ [] = map_nil (edit d p) is.places (append_nil_right (guards d is.places) (map (edit d p) is.places) (sym is.guarded ∙ empty)) in
         let no_place : (w : Path) → ¬ IsEditPlace d p w = λ w place. Contains-nil w (subst (λ ws. Contains ws w) none ((is.all w).1 place)) in
         (equal_looks (mp (Some d) p) d (IsDocument-mp (Some d) p good patch) good).1 (λ w. stays_without_edit d p good patch w (λ u rest begins. no_place u))
 
     empty_if_same : mp (Some d) p ≡ d → operations ≡ []
     empty_if_same same =
-        is.edits ∙ ap (map (edit d p)) (no_member is.places (λ w at. no_edit_if_same d p good patch same w ((is.all w).0 at)))
+        is.guarded ∙ ap (λ ws. guards d ws ++ map (edit d p) ws) (no_member is.places (λ w at. no_edit_if_same d p good patch same w ((is.all w).0 at)))

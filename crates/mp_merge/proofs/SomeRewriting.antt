@@ -1,5 +1,6 @@
 -- A document and a patch have a rewriting, and its values are documents.
 use Rattle.std.proofs.Common.{◌≡◌, inl, inr, List, [], ◌∷◌, ◌++◌, Option, None, Some, IfSome, map, refl, sym, ap, subst}
+use Rattle.std.specs.List.{flat_map}
 use Rattle.std.proofs.Math.Decide.{map_dec}
 use Rattle.mp_tree.specs.Document.{Document, null, flag, whole, string, list, object, Members, no_members, member, find, IsDocument}
 use Rattle.mp_tree.specs.Look.{Path, Look, nothing, an_object, plain, look, look_of}
@@ -7,9 +8,9 @@ use Rattle.mp_pointer.specs.Part.{part}
 use Rattle.mp_patch.specs.Laws.{HasDocument, HaveDocuments}
 use Rattle.mp_patch.proofs.Facts.{part-document}
 use Rattle.mp_patch.specs.Operation.{Operation}
-use Rattle.mp_merge.specs.EditWalk.{IsOneEdit, AreEdits, AreMemberEdits}
+use Rattle.mp_merge.specs.EditWalk.{Guarded, IsOneEdit, AreEdits, AreMemberEdits}
 use Rattle.mp_merge.specs.Laws.{RewritingExists, RewritingHasDocuments}
-use Rattle.mp_merge.specs.Rewriting.{part_left, leaving, edit}
+use Rattle.mp_merge.specs.Rewriting.{guard_of, guards, part_left, leaving, edit}
 use Rattle.mp_merge.specs.Application.{mp, unless_null}
 use Rattle.mp_merge.proofs.ApplicationLemmas.{IsDocument-mp}
 use Rattle.mp_merge.proofs.Listings.{walk_is_rewriting}
@@ -21,18 +22,18 @@ decide_part None (Some e) = no (λ same. cc)
 decide_part (Some d) None = no (λ same. cc)
 decide_part (Some d) (Some e) = map_dec (ap Some) (λ same. cc) (decide_document d e)
 
-one_edit : (s : Path) (p : Document) (t : Option Document) → (operations : List Operation) × IsOneEdit s p t operations
+one_edit : (s : Path) (p : Document) (t : Option Document) → (found : List Guarded) × IsOneEdit s p t found
 one_edit s p t = elim (decide_part t (part_left s (Some p))) [
   | yes same ↦ ([], inl (same, refl))
-  | no other ↦ (leaving s (look_of t []) (part_left s (Some p)) ∷ [], inr (other, refl))
+  | no other ↦ ((guard_of s t, leaving s (look_of t []) (part_left s (Some p))) ∷ [], inr (other, refl))
 ]
 
 mutual
-  some_edits : (p : Document) (s : Path) (t : Option Document) → (operations : List Operation) × AreEdits s p t operations
+  some_edits : (p : Document) (s : Path) (t : Option Document) → (found : List Guarded) × AreEdits s p t found
   some_edits (object ps) s (Some (object ds)) = some_member_edits ps s ds
   some_edits p s t = one_edit s p t
 
-  some_member_edits : (ps : Members) (s : Path) (ds : Members) → (operations : List Operation) × AreMemberEdits s ps ds operations
+  some_member_edits : (ps : Members) (s : Path) (ds : Members) → (found : List Guarded) × AreMemberEdits s ps ds found
   some_member_edits no_members s ds = ([], refl)
   some_member_edits (member n p ps) s ds =
       let first = some_edits p (s ++ n ∷ []) (find n ds) in
@@ -40,7 +41,10 @@ mutual
       (first.0 ++ rest.0, (first.0, rest.0, refl, first.1, rest.1))
 
 pub rewriting_exists : RewritingExists
-rewriting_exists d p good = let edits = some_edits p [] (Some d) in (edits.0, walk_is_rewriting d p edits.0 good edits.1)
+rewriting_exists d p good =
+    let edits = some_edits p [] (Some d) in
+    let operations = flat_map (λ (g : Guarded). g.0) edits.0 ++ map (λ (g : Guarded). g.1) edits.0 in
+    (operations, walk_is_rewriting d p edits.0 operations good edits.1 refl)
 
 -- ---- its values
 
@@ -74,5 +78,14 @@ have_documents d p good (w ∷ places) = (
   have_documents d p good places,
 )
 
+guards_have_documents : (d : Document) → IsDocument d → (places : List Path) (rest : List Operation) → HaveDocuments rest → HaveDocuments (guards d places ++ rest)
+guards_have_documents d good [] rest others = others
+guards_have_documents d good (w ∷ places) rest others = by (part d w) refl (guards_have_documents d good places rest others)
+  where
+    by : (v : Option Document) → part d w ≡ v → HaveDocuments (guards d places ++ rest) → HaveDocuments ((guard_of w v ++ guards d places) ++ rest)
+    by None is later = later
+    by (Some v) is later = (part-document w d v good is, later)
+
 pub rewriting_has_documents : RewritingHasDocuments
-rewriting_has_documents d p operations good patch is = subst HaveDocuments (sym is.edits) (have_documents d p patch is.places)
+rewriting_has_documents d p operations good patch is =
+    subst HaveDocuments (sym is.guarded) (guards_have_documents d good is.places (map (edit d p) is.places) (have_documents d p patch is.places))

@@ -1,16 +1,20 @@
 -- Laws of merge patches alone. Each is the contract of a function of the module `laws` that runs nothing.
-use Rattle.std.specs.Prelude.{◌≡◌, ◌≢◌, ◌≤◌, ◌↔◌, ◌⊎◌, ℕ, List, [], ◌∷◌, ◌++◌, Option, None, Some, IfSome}
+use Rattle.std.specs.Prelude.{◌≡◌, ◌≢◌, ◌≤◌, ◌↔◌, ◌⊎◌, ℕ, List, [], ◌∷◌, ◌++◌, Option, None, Some, IfSome, slice_get}
 use Rattle.std.specs.List.{All, Contains}
-use Rattle.mp_tree.specs.Document.{Document, object, Members, find, IsDocument, IsMap, depth, depth_limit}
+use Rattle.mp_tree.specs.Document.{Document, null, object, Members, find, IsDocument, IsMap, depth, depth_limit}
 use Rattle.mp_tree.specs.Look.{Path, plain, look}
 use Rattle.mp_patch.specs.Laws.{HaveDocuments}
-use Rattle.mp_patch.specs.Operation.{Operation}
-use Rattle.mp_patch.specs.Run.{Runs}
+use Rattle.mp_patch.specs.Operation.{Operation, test}
+use Rattle.mp_patch.specs.Run.{Runs, RefusedAt}
+use Rattle.mp_patch.specs.declared.fault.Cause.{Cause}
+use Rattle.mp_pointer.specs.Part.{part}
+use Rattle.mp_merge.specs.EditPlace.{IsEditPlace}
 use Rattle.mp_merge.specs.Application.{mp, in_turn, target_members, after_patch}
 use Rattle.mp_merge.specs.Clash.{Clash, Compatible, AreAllClashes}
 use Rattle.mp_merge.specs.Join.{IsJoin}
 use Rattle.mp_merge.specs.Lists.{PairwiseCompatible, AreWithin, IsToldPair}
 use Rattle.mp_merge.specs.Outcome.{IsOutcome}
+use Rattle.mp_merge.specs.Resumption.{AreTries, last_of}
 use Rattle.mp_merge.specs.Rewriting.{IsRewriting, ListsEdits}
 
 -- ---- application (RFC 7396 section 2)
@@ -24,6 +28,18 @@ AppliesAtEachName =
 -- and any other patch is the result
 abbrev pub OthersReplace : Type 0
 OthersReplace = (t : Option Document) (p : Document) → look p [] ≡ plain p → mp t p ≡ p
+
+-- merging into null gives what merging into nothing gives
+abbrev pub MergesIntoNull : Type 0
+MergesIntoNull = (p : Document) → mp (Some null) p ≡ mp None p
+
+-- applying a patch twice is applying it once
+abbrev pub AppliedOnce : Type 0
+AppliedOnce = (d p : Document) → IsDocument d → IsDocument p → mp (Some (mp (Some d) p)) p ≡ mp (Some d) p
+
+-- after any number of tries that were refused, one that succeeds leaves one application to the first target
+abbrev pub TriesResume : Type 0
+TriesResume = (d p : Document) (tries : List Document) → AreTries p d tries → mp (Some (last_of d tries)) p ≡ mp (Some d) p
 
 -- ---- outcomes
 
@@ -204,7 +220,20 @@ RewritingHasDocuments = (d p : Document) (operations : List Operation) → IsDoc
 abbrev pub EmptyRewriting : Type 0
 EmptyRewriting = (d p : Document) (operations : List Operation) → IsDocument d → IsDocument p → IsRewriting d p operations → (operations ≡ []) ↔ (mp (Some d) p ≡ d)
 
--- the edits of a document and a patch, taken in any order, lead to the application, and none is refused
+-- where the rewriting of d runs from any document x, each place that it changes has in x the part that it has in d
+abbrev pub GuardedList : Type 0
+GuardedList =
+    (d p x e : Document) (operations : List Operation) (w : Path) (v : Document) → IsRewriting d p operations → Runs x operations e → IsEditPlace d p w
+    → part d w ≡ Some v → part x w ≡ Some v
+
+-- what a test that is refused tells, where the rewriting of d is applied to x: it is of a part of d, x does not have
+-- that part there, and nothing of x was changed
+abbrev pub RefusedGuardTells : Type 0
+RefusedGuardTells =
+    (d p x : Document) (operations : List Operation) (k : ℕ) (cause : Cause) (w : Path) (v : Document) → IsRewriting d p operations
+    → (refused : RefusedAt x operations k cause) → slice_get operations k ≡ Some (test w v) → (part d w ≡ Some v) × (part x w ≢ Some v) × (refused.0 ≡ x)
+
+-- the tests and then the edits of a document and a patch in any order lead to the application, and none is refused
 abbrev pub EditsInAnyOrder : Type 0
 EditsInAnyOrder = (d p : Document) (operations : List Operation) → IsDocument d → IsDocument p → depth p ≤ depth_limit → ListsEdits d p operations → Runs d operations (mp (Some d) p)
 

@@ -1,11 +1,12 @@
--- Rewriting a merge patch against a document as a JSON Patch: one operation for each edit place.
-use Rattle.std.specs.Prelude.{◌≡◌, ◌↔◌, List, [], ◌∷◌, map, Option, None, Some, ⊤}
-use Rattle.std.specs.List.{Contains}
+-- Rewriting a merge patch against a document as a JSON Patch: tests of what the document has where it is changed, and then
+-- one edit for each edit place.
+use Rattle.std.specs.Prelude.{◌≡◌, ◌↔◌, List, [], ◌∷◌, ◌++◌, map, Option, None, Some, ⊤}
+use Rattle.std.specs.List.{Contains, flat_map}
 use Rattle.std.specs.List.Sorted.{IsStrictlySortedBy}
 use Rattle.mp_tree.specs.Document.{Document}
 use Rattle.mp_tree.specs.Look.{Path, Look, nothing, an_object, plain, look}
 use Rattle.mp_pointer.specs.Part.{part}
-use Rattle.mp_patch.specs.Operation.{Operation, add, remove, replace}
+use Rattle.mp_patch.specs.Operation.{Operation, add, remove, replace, test}
 use Rattle.mp_merge.specs.Application.{mp, unless_null}
 use Rattle.mp_merge.specs.Clash.{path_cmp}
 use Rattle.mp_merge.specs.EditPlace.{IsEditPlace}
@@ -27,24 +28,35 @@ leaving w (plain x) (Some v) = replace w v
 abbrev pub edit : Document → Document → Path → Operation
 edit d p w = leaving w (look d w) (part_left w (part p w))
 
+-- the test of what d has at the path; none where it has nothing
+abbrev pub guard_of : Path → Option Document → List Operation
+guard_of w None = []
+guard_of w (Some v) = test w v ∷ []
+
+abbrev pub guards : Document → List Path → List Operation
+guards d places = flat_map (λ w. guard_of w (part d w)) places
+
 -- the places are the edit places and no others
 abbrev pub AreEditPlaces : Document → Document → List Path → Type 0
 AreEditPlaces d p places = (w : Path) → Contains places w ↔ IsEditPlace d p w
 
--- each edit of d and p, in the order of paths
+-- the guarded edits of d and p: first the tests, then each edit, both in the order of paths
 pub record IsRewriting (d p : Document) (operations : List Operation) : Type 0 where
   pub places : List Path
   pub rising : IsStrictlySortedBy path_cmp places
   pub all : AreEditPlaces d p places
-  pub edits : operations ≡ map (edit d p) places
+  pub guarded : operations ≡ guards d places ++ map (edit d p) places
 
 abbrev pub HasNoRepeats : List Path → Type 0
 HasNoRepeats [] = ⊤
 HasNoRepeats (w ∷ places) = ¬ Contains places w × HasNoRepeats places
 
--- each edit of d and p once and nothing else, in whatever order
+-- the tests in their order, and then each edit of d and p once and nothing else, in whatever order
 pub record ListsEdits (d p : Document) (operations : List Operation) : Type 0 where
   pub places : List Path
-  pub once : HasNoRepeats places
+  pub rising : IsStrictlySortedBy path_cmp places
   pub all : AreEditPlaces d p places
-  pub edits : operations ≡ map (edit d p) places
+  pub taken : List Path
+  pub once : HasNoRepeats taken
+  pub same : AreEditPlaces d p taken
+  pub guarded : operations ≡ guards d places ++ map (edit d p) taken

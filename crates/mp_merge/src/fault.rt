@@ -1,6 +1,7 @@
 //! What a join of two patches, or of a list, can be refused for.
 ghost use Rattle.std.specs.Prelude.{◌≡◌};
 
+use mp_patch::Cause;
 use mp_pointer::Pointer;
 use std::alloc::AllocError;
 use thiserror::Error;
@@ -52,5 +53,29 @@ impl From<AllocError> for ListFault {
 
     fn from(_refused: AllocError) -> ListFault {
         ListFault::OutOfMemory
+    }
+}
+
+/// Why two replicas did not come to one document.
+#[derive(Debug, Drop, Error)]
+pub enum ConvergeFault {
+    /// Patches have no join, or can't be replayed.
+    #[error("{0}")]
+    Lists(ListFault),
+    /// This operation of the JSON Patch that the join is rewritten as was refused, by this cause.
+    #[error("operation {op}: {cause}")]
+    Patch { op: usize, cause: Cause },
+    /// Memory ran out.
+    #[error("out of memory")]
+    OutOfMemory,
+}
+
+impl From<AllocError> for ConvergeFault {
+    ghost use Rattle.mp_merge.specs.declared.fault.ConvergeFault.TheVariants.{OutOfMemory};
+
+    ghost from_gives = { λ _ fault. fault ≡ OutOfMemory };
+
+    fn from(_refused: AllocError) -> ConvergeFault {
+        ConvergeFault::OutOfMemory
     }
 }

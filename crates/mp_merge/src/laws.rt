@@ -1,6 +1,6 @@
 //! Laws over documents and merge patches alone: each function runs nothing, and its contract is the law.
 ghost use Rattle.mp_merge.specs.Headline.{ReplicasConverge};
-ghost use Rattle.mp_merge.specs.Laws.{AppliesAtEachName, OthersReplace, ApplicationIsOutcome, HasOneOutcome, AppliedInTurn, OutcomeExists, ReplicasAgree, Exchange, ClashesExist, HaveOneList, EmptyIfCompatible, CompatibleOrTold, CompatibleHaveNone, HasOneToldPair, ClashWithAJoin, CompatibleByNames, CompatibleIfEqual, JoinByNames, JoinOfEqual, JoinIsIdempotent, JoinIsCommutative, JoinIsAssociative, JoinGrows, HasOneJoin, EmptyHasNoJoin, JoinExists, PairHasJoin, JoinIsNoDeeper, JoinGivesOutcome, RewritingExists, HasOneRewriting, RewritingHasDocuments, EmptyRewriting, EditsInAnyOrder, RewritingRuns};
+ghost use Rattle.mp_merge.specs.Laws.{AppliesAtEachName, OthersReplace, MergesIntoNull, AppliedOnce, TriesResume, ApplicationIsOutcome, HasOneOutcome, AppliedInTurn, OutcomeExists, ReplicasAgree, Exchange, ClashesExist, HaveOneList, EmptyIfCompatible, CompatibleOrTold, CompatibleHaveNone, HasOneToldPair, ClashWithAJoin, CompatibleByNames, CompatibleIfEqual, JoinByNames, JoinOfEqual, JoinIsIdempotent, JoinIsCommutative, JoinIsAssociative, JoinGrows, HasOneJoin, EmptyHasNoJoin, JoinExists, PairHasJoin, JoinIsNoDeeper, JoinGivesOutcome, RewritingExists, HasOneRewriting, RewritingHasDocuments, GuardedList, RefusedGuardTells, EmptyRewriting, EditsInAnyOrder, RewritingRuns};
 
 /// Application in the words of RFC 7396 section 2: a patch that is no object is the result. An object makes an object of
 /// every target, in which a name that the patch does not carry stays as it was, a null removes it, and any other value
@@ -8,6 +8,14 @@ ghost use Rattle.mp_merge.specs.Laws.{AppliesAtEachName, OthersReplace, Applicat
 pub fn applies_at_each_name()
     ensures objects { AppliesAtEachName }
     ensures others { OthersReplace }
+{}
+
+/// Merging a patch into null gives what merging it into nothing gives, and applying it twice is applying it once. So a
+/// merge in place that was refused for want of memory, however often, is made whole by one that succeeds.
+pub fn merging_again()
+    ensures into_null { MergesIntoNull }
+    ensures twice { AppliedOnce }
+    ensures tries { TriesResume }
 {}
 
 /// One application of a patch is what the outcome of that patch alone asks for at every path: its values are set, its
@@ -144,12 +152,24 @@ pub fn rewritings_have_documents()
     ensures { RewritingHasDocuments }
 {}
 
+/// The tests at the head of a rewriting guard it: where it runs on another document, each place that it changes has
+/// there what it has in the document of the rewriting. And where a test is refused, that document differs at its place,
+/// and nothing of it was changed: the number of the operation tells where.
+///
+/// Not promised: that a document which passes the tests takes every add, as `{"a":5}` does not take one at `/a/b`, where
+/// the start has `{"a":{}}`; nor what the edits do to one that has an array where the start has an object with names
+/// that spell indices, as `{"a":[1,2]}` for `{"a":{"0":1}}`.
+pub fn guards_tell()
+    ensures passed { GuardedList }
+    ensures refused { RefusedGuardTells }
+{}
+
 /// The rewriting has no operation exactly if the patch leaves the document as it is.
 pub fn empty_rewriting()
     ensures { EmptyRewriting }
 {}
 
-/// Every list that has each edit once and nothing else runs, in whatever order, from the document to what the patch
+/// The tests and then each edit once and nothing else, in whatever order, run from the document to what the patch
 /// makes of it: no edit is refused, and none undoes another.
 pub fn edits_in_any_order()
     ensures { EditsInAnyOrder }

@@ -2,7 +2,9 @@
 #![tactic(auto)]
 
 pub mod comparing;
+pub mod converging;
 pub mod fault;
+pub mod in_place;
 pub mod joining;
 pub mod laws;
 pub mod lists;
@@ -10,12 +12,16 @@ pub mod merging;
 pub mod rewriting;
 
 pub use comparing::{compatible, conflict};
-pub use fault::{JoinFault, ListFault};
+pub use converging::{Converged, converge};
+pub use fault::{ConvergeFault, JoinFault, ListFault};
+pub use in_place::merge_into;
 pub use joining::join;
 pub use lists::{join_all, replay, replay_owned};
 pub use merging::{merge, merge_owned};
 pub use rewriting::rewrite;
 
+#[cfg(test)]
+mod in_place_tests;
 #[cfg(test)]
 mod rewriting_tests;
 #[cfg(test)]

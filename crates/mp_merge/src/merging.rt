@@ -4,6 +4,7 @@ ghost use Rattle.mp_tree.specs.Document.{null, find, depth};
 ghost use Rattle.mp_tree.specs.View.{document, members};
 ghost use Rattle.mp_merge.specs.Application.{changed, depth_of, mp, mp_members, target_members};
 
+use crate::in_place::merge_into;
 use mp_tree::Doc;
 use std::alloc::{AllocError, Global};
 use std::collections::BTreeMap;
@@ -24,11 +25,13 @@ pub fn merge(alloc: Global, target: Option<&Doc>, patch: &Doc) -> Result<Doc, Al
     ensures depth { IfOk result (λ d. depth (document d)
         ≤ max (depth_of (option_map (λ t. document t.now) target.entry)) (depth (document patch.now))) }
 {
-    let start = match target {
-        Some(doc) => Some(doc.copy(alloc)?),
-        None => None,
+    // Merging into null gives what merging into nothing gives.
+    let mut merged = match target {
+        Some(doc) => doc.copy(alloc)?,
+        None => Doc::Null,
     };
-    merge_owned(alloc, start, patch.copy(alloc)?)
+    merge_into(alloc, &mut merged, patch)?;
+    Ok(merged)
 }
 
 /// As `merge`, of a target and a patch that are owned: their parts are moved and not copied.
@@ -55,7 +58,7 @@ fn merged(patch: Doc, target: Option<Doc>, alloc: Global) -> Result<Doc, AllocEr
 }
 
 // An absent target, or one that is no object, counts as the empty object.
-fn entries_of(target: Option<Doc>, alloc: Global) -> BTreeMap<String, Doc>
+pub(crate) fn entries_of(target: Option<Doc>, alloc: Global) -> BTreeMap<String, Doc>
     ensures { members result.entries ≡ target_members (option_map document target) }
 {
     match target {

@@ -1,11 +1,13 @@
 //! Merge patches rewritten as JSON Patches.
-ghost use Rattle.std.specs.Prelude.{◌≡◌, ◌≤◌, ◌++◌, ◌∷◌, [], Some, IfOk, OnOk, option_map};
+ghost use Rattle.std.specs.Prelude.{◌≡◌, ◌≤◌, ◌++◌, ◌∷◌, [], Some, IfOk, OnOk, map, option_map};
+ghost use Rattle.std.specs.List.{flat_map};
+ghost use Rattle.mp_patch.specs.Operation.{test};
 ghost use Rattle.mp_tree.specs.Document.{depth, depth_limit};
 ghost use Rattle.mp_tree.specs.View.{document, members};
 ghost use Rattle.mp_patch.specs.Run.{Runs};
-ghost use Rattle.mp_patch.specs.View.{operations_of};
+ghost use Rattle.mp_patch.specs.View.{operation_of, operations_of};
 ghost use Rattle.mp_merge.specs.Application.{mp};
-ghost use Rattle.mp_merge.specs.EditWalk.{IsOneEdit, NotBothMaps, AreEdits, AreMemberEdits};
+ghost use Rattle.mp_merge.specs.EditWalk.{IsOneEdit, NotBothMaps, AreEdits, AreMemberEdits, all_guarded, guarded_of};
 ghost use Rattle.mp_merge.specs.Rewriting.{IsRewriting};
 ghost use Rattle.mp_merge.specs.Walks.{Grew};
 
@@ -16,8 +18,12 @@ use mp_tree::Doc;
 use std::alloc::{AllocError, Global};
 use std::collections::BTreeMap;
 
-/// The merge patch as a JSON Patch for this document: one operation for each place at which the patch changes it, in
-/// the order of paths, and none where it changes nothing.
+/// The merge patch as a JSON Patch for this document: first a test of what the document has at each place that the
+/// patch changes and where it has something, then one edit for each place that changes, both in the order of paths. It
+/// is empty where the patch changes nothing.
+///
+/// So a peer that holds another document is refused before anything changes, and is told at which test. A place that is
+/// added has no test.
 ///
 /// A place is reached through objects in both. Where the patch has a null below its root and the document has
 /// something, that is removed. Where the patch has another value that is no object and the document has another one
@@ -28,21 +34,55 @@ use std::collections::BTreeMap;
 /// `AllocError` where memory ran out.
 ///
 /// ```text
-/// rewrite(alloc, &doc, &patch)  // [{"op":"remove","path":"/b/c"}], for {"a":1,"b":{"c":2}} and {"a":1,"b":{"c":null}}
+/// // [{"op":"test","path":"/b/c","value":2},{"op":"remove","path":"/b/c"}], for {"a":1,"b":{"c":2}} and {"b":{"c":null}}
+/// rewrite(alloc, &doc, &patch)
 /// ```
 pub fn rewrite(alloc: Global, doc: &Doc, patch: &Doc) -> Result<JsonPatch, AllocError>
     ensures rewriting { IfOk result (λ ops. IsRewriting (document doc.now) (document patch.now) (operations_of ops)) }
     ensures runs { IfOk result (λ ops. depth (document patch.now) ≤ depth_limit
         → Runs (document doc.now) (operations_of ops) (mp (Some (document doc.now)) (document patch.now))) }
 {
-    let mut edits = JsonPatch::new(alloc);
+    let mut edits = Vec::new(alloc);
     push_all(patch, doc, &mut edits, alloc)?;
-    Ok(edits)
+    guards_first(edits, alloc)
+}
+
+// An edit, and the test that guards it: none where the document has nothing there.
+#[derive(Drop)]
+struct Edit {
+    guard: Option<Op>,
+    op: Op,
+}
+
+fn guards_first(found: Vec<Edit>, alloc: Global) -> Result<JsonPatch, AllocError>
+    ensures { IfOk result (λ ops. let all = all_guarded found.items in
+        operations_of ops ≡ flat_map (λ g. g.0) all ++ map (λ g. g.1) all) }
+{
+    let mut patch = JsonPatch::new(alloc);
+    let mut edits = Vec::with_capacity(alloc, found.len())?;
+    for edit in found {
+        let Edit { guard, op } = edit;
+        if let Some(test) = guard {
+            patch.push(test)?;
+        }
+        edits.push(op)?;
+    }
+    push_ops(edits, &mut patch)?;
+    Ok(patch)
+}
+
+fn push_ops(ops: Vec<Op>, patch: &mut JsonPatch) -> Result<(), AllocError>
+    ensures { OnOk result (patch.new ≡ patch.old ++ ops.items) }
+{
+    for op in ops {
+        patch.push(op)?;
+    }
+    Ok(())
 }
 
 // Each function adds to the edits at their end, in the order of paths.
-fn push_all(patch: &Doc, doc: &Doc, edits: &mut JsonPatch, alloc: Global) -> Result<(), AllocError>
-    ensures { OnOk result (Grew (operations_of edits.old) (operations_of edits.new)
+fn push_all(patch: &Doc, doc: &Doc, edits: &mut Vec<Edit>, alloc: Global) -> Result<(), AllocError>
+    ensures { OnOk result (Grew (all_guarded edits.old.items) (all_guarded edits.new.items)
         (AreEdits [] (document patch.now) (Some (document doc.now)))) }
 {
     match patch {
@@ -60,17 +100,19 @@ fn push_all(patch: &Doc, doc: &Doc, edits: &mut JsonPatch, alloc: Global) -> Res
 fn push_root_edit(
     patch: &Doc,
     doc: &Doc,
-    edits: &mut JsonPatch,
+    edits: &mut Vec<Edit>,
     alloc: Global,
 ) -> Result<(), AllocError>
     ensures { OnOk result (NotBothMaps (document patch.now) (Some (document doc.now))
-        → Grew (operations_of edits.old) (operations_of edits.new)
+        → Grew (all_guarded edits.old.items) (all_guarded edits.new.items)
         (IsOneEdit [] (document patch.now) (Some (document doc.now)))) }
 {
     if patch.same(doc) {
         return Ok(());
     }
-    edits.push(Op::Replace(Pointer::empty(alloc), merge(alloc, None, patch)?))
+    let op = Op::Replace(Pointer::empty(alloc), merge(alloc, None, patch)?);
+    edits.push(guarded(&Pointer::empty(alloc), doc, op, alloc)?)?;
+    Ok(())
 }
 
 #[cycle(push_edits)]
@@ -78,10 +120,10 @@ fn push_member_edits(
     changes: &BTreeMap<String, Doc>,
     entries: &BTreeMap<String, Doc>,
     path: &Pointer,
-    edits: &mut JsonPatch,
+    edits: &mut Vec<Edit>,
     alloc: Global,
 ) -> Result<(), AllocError>
-    ensures { OnOk result (Grew (operations_of edits.old) (operations_of edits.new)
+    ensures { OnOk result (Grew (all_guarded edits.old.items) (all_guarded edits.new.items)
         (AreMemberEdits path.now (members changes.now.entries) (members entries.now.entries))) }
 {
     for (name, change) in changes.iter() {
@@ -98,10 +140,10 @@ fn push_edits(
     value: Option<&Doc>,
     path: &Pointer,
     name: &str,
-    edits: &mut JsonPatch,
+    edits: &mut Vec<Edit>,
     alloc: Global,
 ) -> Result<(), AllocError>
-    ensures { OnOk result (Grew (operations_of edits.old) (operations_of edits.new)
+    ensures { OnOk result (Grew (all_guarded edits.old.items) (all_guarded edits.new.items)
         (AreEdits (path.now ++ name.now ∷ []) (document change.now)
         (option_map (λ v. document v.now) value.entry))) }
 {
@@ -126,31 +168,47 @@ fn push_edit(
     value: Option<&Doc>,
     path: &Pointer,
     name: &str,
-    edits: &mut JsonPatch,
+    edits: &mut Vec<Edit>,
     alloc: Global,
 ) -> Result<(), AllocError>
     ensures { OnOk result (let t = option_map (λ v. document v.now) value.entry in
         NotBothMaps (document change.now) t
-        → Grew (operations_of edits.old) (operations_of edits.new)
+        → Grew (all_guarded edits.old.items) (all_guarded edits.new.items)
         (IsOneEdit (path.now ++ name.now ∷ []) (document change.now) t)) }
 {
     match value {
         Some(there) => {
             if is_null(change) {
-                return edits.push(Op::Remove(path.child(alloc, name)?));
+                let place = path.child(alloc, name)?;
+                let op = Op::Remove(place.copy(alloc)?);
+                edits.push(guarded(&place, there, op, alloc)?)?;
+                return Ok(());
             }
             if change.same(there) {
                 return Ok(());
             }
             let place = path.child(alloc, name)?;
-            edits.push(Op::Replace(place, merge(alloc, None, change)?))
+            let op = Op::Replace(place.copy(alloc)?, merge(alloc, None, change)?);
+            edits.push(guarded(&place, there, op, alloc)?)?;
+            Ok(())
         }
         None => {
             if is_null(change) {
                 return Ok(());
             }
             let place = path.child(alloc, name)?;
-            edits.push(Op::Add(place, merge(alloc, None, change)?))
+            let op = Op::Add(place, merge(alloc, None, change)?);
+            edits.push(Edit { guard: None, op })?;
+            Ok(())
         }
     }
+}
+
+// The edit, with the test of what is there.
+fn guarded(place: &Pointer, there: &Doc, op: Op, alloc: Global) -> Result<Edit, AllocError>
+    ensures { IfOk result (λ e. guarded_of e
+        ≡ (test place.now (document there.now) ∷ [], operation_of op)) }
+{
+    let guard = Some(Op::Test(place.copy(alloc)?, there.copy(alloc)?));
+    Ok(Edit { guard, op })
 }

@@ -1,6 +1,6 @@
 //! Worked values: merge patches rewritten for a document, and what the rewritings make of it.
 use crate::{merge, rewrite};
-use mp_patch::apply;
+use mp_patch::{ApplyFault, Cause, apply};
 use mp_tree::{read_doc, write_doc};
 use std::test::Fail;
 
@@ -9,12 +9,12 @@ const REWRITTEN: &[(&str, &str, &str)] = &[
     (
         r#"{"a":1,"b":{"c":2}}"#,
         r#"{"a":1,"b":{"c":null,"d":{"e":null}},"x":null}"#,
-        r#"[{"op":"remove","path":"/b/c"},{"op":"add","path":"/b/d","value":{}}]"#,
+        r#"[{"op":"test","path":"/b/c","value":2},{"op":"remove","path":"/b/c"},{"op":"add","path":"/b/d","value":{}}]"#,
     ),
     (
         r#"{"a":1}"#,
         "null",
-        r#"[{"op":"replace","path":"","value":null}]"#,
+        r#"[{"op":"test","path":"","value":{"a":1}},{"op":"replace","path":"","value":null}]"#,
     ),
     ("5", "5", "[]"),
 ];
@@ -32,5 +32,28 @@ fn rewritten(rt: HostRuntime) -> Result<(), Fail> {
         let edited = apply(rt.alloc(), &doc, &edits)?;
         assert!(rt; edited.same(&merged), "{wanted} gives what the merge gives");
     }
+    Ok(())
+}
+
+/// A peer that holds another document is told which test refused it.
+#[test]
+fn guarded(rt: HostRuntime) -> Result<(), Fail> {
+    let start = read_doc(rt.alloc(), br#"{"a":1,"b":{"c":2}}"#)?;
+    let patch = read_doc(rt.alloc(), br#"{"a":[],"b":{"c":null}}"#)?;
+    let edits = rewrite(rt.alloc(), &start, &patch)?;
+    let other = read_doc(rt.alloc(), br#"{"a":1,"b":{"c":3}}"#)?;
+    let refused = apply(rt.alloc(), &other, &edits);
+    let wanted = ApplyFault::Refused {
+        op: 1,
+        cause: Cause::TestFailed,
+    };
+    assert!(rt; refused.err() == Some(wanted), "the test that refuses");
+    let emptied = read_doc(rt.alloc(), br#"{"b":{"c":2}}"#)?;
+    let refused = apply(rt.alloc(), &emptied, &edits);
+    let wanted = ApplyFault::Refused {
+        op: 0,
+        cause: Cause::Missing,
+    };
+    assert!(rt; refused.err() == Some(wanted), "the test that refuses");
     Ok(())
 }

@@ -5,7 +5,6 @@ pub mod Laws
 pub mod Operation
 pub mod Read
 pub mod Refusal
-pub mod Rows
 pub mod Run
 pub mod Steps
 pub mod View

@@ -6,9 +6,8 @@ ghost use Rattle.mp_tree.specs.declared.doc.Doc.TheVariants.{Items, Members};
 ghost use Rattle.mp_pointer.specs.Part.{part};
 ghost use Rattle.mp_patch.specs.Edit.{EditsAt};
 
-use crate::container::{items_mut, members_mut};
 use mp_pointer::{Pointer, index_of};
-use mp_tree::Doc;
+use mp_tree::{Doc, items_mut, members_mut};
 use std::collections::BTreeMap;
 
 // Edits the part that the tokens from `place` up to `end` name; None where there is no such part.

@@ -10,12 +10,11 @@ ghost use Rattle.mp_patch.specs.Run.{IsRefused};
 ghost use Rattle.mp_patch.specs.Steps.{Answers, Inserts, Takes, fault_at};
 ghost use Rattle.mp_patch.specs.View.{operation_of};
 
-use crate::container::{items_mut, members_mut};
 use crate::edit::edit_part;
 use crate::fault::{ApplyFault, Cause};
 use crate::op::Op;
 use mp_pointer::{Pointer, get, index_of};
-use mp_tree::Doc;
+use mp_tree::{Doc, items_mut, members_mut};
 use std::alloc::{AllocError, AllocFailed, Global};
 
 /// The number of tokens of a place and the depth of a value that is put there are together at most this.

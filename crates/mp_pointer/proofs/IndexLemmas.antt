@@ -14,10 +14,11 @@ use denote.Ref.{Bor}
 use Rattle.std.specs.Result.{result_ok}
 use Rattle.std.specs.Str.{bytes_eq}
 use Rattle.std.specs.Str.Parse.{AllDigits, digits_value, ParsesUnsigned}
-use Rattle.mp_tree.specs.Document.{Document, Items, no_items, item, list}
+use Rattle.mp_tree.specs.Document.{Items, no_items, item, list}
 use Rattle.mp_tree.specs.View.{document, items}
 use Rattle.mp_tree.specs.declared.doc.Doc.{Doc}
-use Rattle.mp_pointer.specs.Part.{numeral, element_from, child, count_of}
+use Rattle.mp_pointer.specs.Laws.{NamesElements}
+use Rattle.mp_pointer.specs.Part.{numeral, element_from, child, count_of, nth}
 
 pub numeral-decimal : (n : ℕ) → n < 2 ^ 64 → numeral n ≡ decimal n
 unfolding numeral
@@ -104,11 +105,6 @@ bytes_differ xs ys b is differ same = true≢false (sym ((bytes_eq-Decides xs ys
 
 -- ---- the element at an index
 
-abbrev pub nth : ℕ → Items → Option Document
-nth i no_items = None
-nth zero (item d ds) = Some d
-nth (suc i) (item d ds) = nth i ds
-
 here : (token : List ℕ) (i : ℕ) → token ≡ numeral i → bytes_eq token (numeral i) ≡ true
 here token i is = (bytes_eq-Decides token (numeral i)).1 is
 
@@ -159,3 +155,11 @@ item_at xs i (Some x) read = sym (slice_get_read xs (length xs) i x.now refl rea
 pub count_of-items : (docs : List Doc) → count_of (items docs) ≡ length docs
 count_of-items [] = refl
 count_of-items (d ∷ docs) = ap suc (count_of-items docs)
+
+nth_past : (i : ℕ) (ds : Items) → count_of ds ≤ i → nth i ds ≡ None
+nth_past i no_items past = refl
+nth_past zero (item d ds) past = absurd (omega arith)
+nth_past (suc i) (item d ds) past = nth_past i ds (omega arith)
+
+pub names_elements : NamesElements
+names_elements i ds = (child-numeral (numeral i) i ds refl, λ past. child-numeral (numeral i) i ds refl ∙ nth_past i ds past)

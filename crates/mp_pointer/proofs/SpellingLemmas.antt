@@ -1,13 +1,13 @@
 -- Spellings: a list of tokens is read back from its spelling, and each text that is read is a spelling.
-use Rattle.std.proofs.Common.{◌≡◌, ◌≢◌, ℕ, zero, suc, ◌+◌, ◌<◌, List, [], ◌∷◌, ◌++◌, length, get_or, map, Bool, true, false, cond, eqb, ltb, ◌≤◌, Option, None, Some, option_map, Result, Ok, Err, refl, sym, ap, ap₂, ◌∙◌, subst, arith, append_assoc, append-nil, ne_eqb, eqb-true}
+use Rattle.std.proofs.Common.{◌≡◌, ◌≢◌, ℕ, zero, suc, ◌+◌, ◌<◌, List, [], ◌∷◌, ◌++◌, length, get_or, map, Bool, true, false, cond, eqb, ltb, ◌≤◌, Option, None, Some, option_map, Result, Ok, Err, refl, sym, ap, ap₂, ◌∙◌, subst, arith, append_assoc, append-nil, ne_eqb, eqb-true, eq-eqb, true≢false}
 use Rattle.std.proofs.lemmas.List.{get_or_past}
 use borrow.Author.Tests.{ltb-true, ltb-false}
 use Rattle.std.proofs.lemmas.List.Concat.{flat_map-append}
 use Rattle.std.proofs.lemmas.Bool.Decides.{nat_tests}
-use Rattle.mp_pointer.specs.Laws.{HasOneSpelling, ReadsSpellings}
-use Rattle.mp_pointer.specs.Spelling.{Tokens, escaped_byte, escape, spell, LacksSlash, IsBadTilde, IsFirstBadTilde, unescape, on_first, parts_of, starts_badly, first_bad_tilde, unless_bad, tokens_in}
+use Rattle.mp_pointer.specs.Laws.{HasOneSpelling, ReadsSpellings, RefusesFaults}
+use Rattle.mp_pointer.specs.Spelling.{Tokens, escaped_byte, escape, spell, LacksSlash, IsBadTilde, IsFirstBadTilde, IsFaultOf, unescape, on_first, parts_of, starts_badly, first_bad_tilde, unless_bad, tokens_in}
 use Rattle.mp_pointer.specs.declared.fault.PointerFault.{PointerFault}
-use Rattle.mp_pointer.specs.declared.fault.PointerFault.TheVariants.{NoSlash, BadTilde}
+use Rattle.mp_pointer.specs.declared.fault.PointerFault.TheVariants.{NoSlash, BadTilde, OutOfMemory}
 
 -- ---- bytes that are written as they are
 
@@ -148,6 +148,27 @@ first_bad-some (c ∷ rest) (suc n) first =
     rw (good_from c rest (first.before 0 (omega arith)))
     (ap (option_map suc) (first_bad-some rest n (record { here = bad-tail c rest n first.here; before = λ k below bad. first.before (suc k) (omega arith) (bad-cons c rest k bad) })))
 
+-- a first bad tilde after a byte that is none
+first_bad-later : (c : ℕ) (rest : List ℕ) (n : ℕ) → starts_badly c rest ≡ false → IsFirstBadTilde rest n → IsFirstBadTilde (c ∷ rest) (suc n)
+first_bad-later c rest n good first = record { here = bad-cons c rest n first.here; before = before }
+  where
+    before : (k : ℕ) → k < suc n → ¬ IsBadTilde (c ∷ rest) k
+    before zero below bad = true≢false (sym (test_from_bad c rest bad) ∙ good)
+    before (suc k) below bad = first.before k (omega arith) (bad-tail c rest k bad)
+
+first_bad-found : (text : List ℕ) (n : ℕ) → first_bad_tilde text ≡ Some n → IsFirstBadTilde text n
+first_bad-found [] n e = cc
+first_bad-found (c ∷ rest) n e = split (starts_badly c rest) (first_bad_tilde rest) n refl (λ k is. first_bad-found rest k is) e
+  where
+    split : (b : Bool) (o : Option ℕ) (n : ℕ) → starts_badly c rest ≡ b → ((k : ℕ) → o ≡ Some k → IsFirstBadTilde rest k) → cond b (Some 0) (option_map suc o) ≡ Some n → IsFirstBadTilde (c ∷ rest) n
+    split true o n bad found e =
+        let zeroth : 0 ≡ n = cc in
+        subst (IsFirstBadTilde (c ∷ rest)) zeroth (record { here = bad_from_test c rest bad; before = λ k below. absurd (omega arith) })
+    split false None n good found e = cc
+    split false (Some k) n good found e =
+        let next : suc k ≡ n = cc in
+        subst (IsFirstBadTilde (c ∷ rest)) next (first_bad-later c rest k good (found k refl))
+
 -- ---- a spelling is read back
 
 first_bad-escaped : (c : ℕ) (rest : List ℕ) → first_bad_tilde rest ≡ None → first_bad_tilde (escaped_byte c ++ rest) ≡ None
@@ -216,6 +237,28 @@ tokens_in-no_slash (c ∷ rest) lacks = rw (ne_eqb c 47 lacks.1)
 pub tokens_in-bad_tilde : (rest : List ℕ) (place : ℕ) → IsFirstBadTilde (47 ∷ rest) place → tokens_in (47 ∷ rest) ≡ Err (BadTilde place)
 unfolding tokens_in
 tokens_in-bad_tilde rest place first = ap (λ o. unless_bad o (map unescape (parts_of rest))) (first_bad-some (47 ∷ rest) place first)
+
+refused_from_fault : (text : List ℕ) (fault : PointerFault) → fault ≢ OutOfMemory → IsFaultOf fault text → tokens_in text ≡ Err fault
+refused_from_fault text NoSlash known holds = tokens_in-no_slash text holds
+refused_from_fault [] (BadTilde place) known holds = absurd (omega (arith, holds.0))
+refused_from_fault (c ∷ rest) (BadTilde place) known holds =
+    let slash : c ∷ rest ≡ 47 ∷ rest = ap (λ x. x ∷ rest) holds.0 in
+    ap tokens_in slash ∙ tokens_in-bad_tilde rest place (subst (λ xs. IsFirstBadTilde xs place) slash holds.1)
+refused_from_fault text OutOfMemory known holds = absurd (known refl)
+
+fault_from_refused : (text : List ℕ) (fault : PointerFault) → tokens_in text ≡ Err fault → (fault ≢ OutOfMemory) × IsFaultOf fault text
+unfolding tokens_in
+fault_from_refused [] fault e = cc
+fault_from_refused (c ∷ rest) fault e = split (eqb c 47) refl (first_bad_tilde (c ∷ rest)) refl fault e
+  where
+    split : (b : Bool) → eqb c 47 ≡ b → (o : Option ℕ) → first_bad_tilde (c ∷ rest) ≡ o → (fault : PointerFault) → cond b (unless_bad o (map unescape (parts_of rest))) (Err NoSlash) ≡ Err fault → (fault ≢ OutOfMemory) × IsFaultOf fault (c ∷ rest)
+    split true slash None is fault e = cc
+    split true slash (Some place) is fault e =
+        let found : BadTilde place ≡ fault = cc in
+        subst (λ f. (f ≢ OutOfMemory) × IsFaultOf f (c ∷ rest)) found ((λ same. cc), (eqb-true c 47 slash, first_bad-found (c ∷ rest) place is))
+    split false other o is fault e =
+        let found : NoSlash ≡ fault = cc in
+        subst (λ f. (f ≢ OutOfMemory) × IsFaultOf f (c ∷ rest)) found ((λ same. cc), ((λ none. cc), λ is. true≢false (sym (eq-eqb c 47 is) ∙ other)))
 
 -- ---- what is read is a spelling
 
@@ -290,3 +333,6 @@ has_one_spelling s t e = let both : ◌≡◌ {A = Result Tokens PointerFault} (
 
 pub reads_spellings : ReadsSpellings
 reads_spellings text t = (spell_from_tokens_in text t, λ is. ap tokens_in is ∙ tokens_in-spell t)
+
+pub refuses_faults : RefusesFaults
+refuses_faults text fault = (fault_from_refused text fault, λ (known, holds). refused_from_fault text fault known holds)

@@ -24,6 +24,12 @@ child token (string s) = None
 child token (list ds) = element_from 0 token ds
 child token (object ms) = find token ms
 
+-- the element at a place of a list, where the first place is 0
+abbrev pub nth : ℕ → Items → Option Document
+nth i no_items = None
+nth zero (item d ds) = Some d
+nth (suc i) (item d ds) = nth i ds
+
 abbrev pub part : Document → Tokens → Option Document
 part d [] = Some d
 part d (token ∷ rest) = option_and_then (λ e. part e rest) (child token d)

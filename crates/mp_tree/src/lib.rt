@@ -2,6 +2,7 @@
 #![tactic(auto)]
 
 mod built;
+pub mod container;
 pub mod doc;
 mod fits;
 pub mod laws;
@@ -14,6 +15,7 @@ mod tests;
 pub mod whole;
 pub mod write;
 
+pub use container::{items_mut, members_mut};
 pub use doc::Doc;
 pub use owned::write_owned;
 pub use read::{DocsFault, ReadFault, read_doc, read_docs};

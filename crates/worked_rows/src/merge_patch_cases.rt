@@ -2,6 +2,8 @@
 use crate::rewrite_rows::line;
 use crate::rows::check;
 use mp_cli::Command;
+use mp_merge::merge_into;
+use mp_tree::{read_doc, write_doc};
 use std::test::Fail;
 
 /// The original, the patch and the result.
@@ -34,6 +36,18 @@ fn merge(rt: HostRuntime) -> Result<(), Fail> {
     for (original, patch, result) in CASES {
         let input = format!(in rt.alloc(); "[{original},{patch}]")?;
         check(&rt, &Command::Merge, input.as_bytes(), result, 0);
+    }
+    Ok(())
+}
+
+#[test]
+fn merge_in_place(rt: HostRuntime) -> Result<(), Fail> {
+    for (original, patch, result) in CASES {
+        let mut target = read_doc(rt.alloc(), original.as_bytes())?;
+        let patch = read_doc(rt.alloc(), patch.as_bytes())?;
+        merge_into(rt.alloc(), &mut target, &patch)?;
+        let found = write_doc(rt.alloc(), &target)?;
+        assert_eq!(rt; found.as_str(), *result);
     }
     Ok(())
 }

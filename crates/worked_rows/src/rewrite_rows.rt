@@ -8,7 +8,7 @@ use std::test::Fail;
 const REWRITTEN: &[Row] = &[
     (
         r#"[{"a":1,"b":{"c":2}},{"a":1,"b":{"c":null,"d":{"e":null}},"x":null}]"#,
-        r#"[{"op":"remove","path":"/b/c"},{"op":"add","path":"/b/d","value":{}}]"#,
+        r#"[{"op":"test","path":"/b/c","value":2},{"op":"remove","path":"/b/c"},{"op":"add","path":"/b/d","value":{}}]"#,
         0,
     ),
     (
@@ -18,33 +18,47 @@ const REWRITTEN: &[Row] = &[
     ),
     (
         r#"[5,{"a":1}]"#,
-        r#"[{"op":"replace","path":"","value":{"a":1}}]"#,
+        r#"[{"op":"test","path":"","value":5},{"op":"replace","path":"","value":{"a":1}}]"#,
         0,
     ),
     (
         r#"[{"a":1},null]"#,
-        r#"[{"op":"replace","path":"","value":null}]"#,
+        r#"[{"op":"test","path":"","value":{"a":1}},{"op":"replace","path":"","value":null}]"#,
         0,
     ),
     ("[null,null]", "[]", 0),
     (
         r#"[{"a":null},{"a":{"b":null}}]"#,
-        r#"[{"op":"replace","path":"/a","value":{}}]"#,
+        r#"[{"op":"test","path":"/a","value":null},{"op":"replace","path":"/a","value":{}}]"#,
         0,
     ),
     (
         r#"[{"a":[1]},{"a":[1,null]}]"#,
-        r#"[{"op":"replace","path":"/a","value":[1,null]}]"#,
+        r#"[{"op":"test","path":"/a","value":[1]},{"op":"replace","path":"/a","value":[1,null]}]"#,
         0,
     ),
     (
         r#"[{"a":1},{"a":null,"b":null}]"#,
-        r#"[{"op":"remove","path":"/a"}]"#,
+        r#"[{"op":"test","path":"/a","value":1},{"op":"remove","path":"/a"}]"#,
+        0,
+    ),
+    // All tests stand first, each group in the order of paths, and a place that is added has none.
+    (
+        r#"[{"a":1,"b":2},{"a":null,"b":3,"c":4}]"#,
+        r#"[{"op":"test","path":"/a","value":1},{"op":"test","path":"/b","value":2},{"op":"remove","path":"/a"},{"op":"replace","path":"/b","value":3},{"op":"add","path":"/c","value":4}]"#,
         0,
     ),
     ("[5,5]", "[]", 0),
     ("[5]", "input: wrong shape", 2),
     ("[1,2,3]", "input: wrong shape", 2),
+];
+
+/// The rewriting of one document, tried on others: each answer is the document, or names the test that refused.
+const GUARDED: &[(&str, &str, u8)] = &[
+    (r#"{"a":1,"b":2}"#, r#"{"b":3,"c":4}"#, 0),
+    (r#"{"a":1,"b":9}"#, "operation 1: test failed", 1),
+    (r#"{"b":2}"#, "operation 0: missing", 1),
+    (r#"{"a":1,"b":2,"c":0,"z":5}"#, r#"{"b":3,"c":4,"z":5}"#, 0),
 ];
 
 /// A start, and compatible patches in two orders.
@@ -60,6 +74,17 @@ const END: &str = r#"{"a":{"x":1},"s":{"t":[null]}}"#;
 #[test]
 fn rewritten(rt: HostRuntime) -> Result<(), Fail> {
     check_rows(&rt, &Command::Rewrite, REWRITTEN);
+    Ok(())
+}
+
+#[test]
+fn guarded(rt: HostRuntime) -> Result<(), Fail> {
+    let input = r#"[{"a":1,"b":2},{"a":null,"b":3,"c":4}]"#;
+    let edits = line(&rt, &Command::Rewrite, input)?;
+    for (document, text, status) in GUARDED {
+        let patched = format!(in rt.alloc(); "[{document},{edits}]")?;
+        check(&rt, &Command::Patch, patched.as_bytes(), text, *status);
+    }
     Ok(())
 }
 

@@ -2,7 +2,7 @@ use Rattle.std.proofs.Common.{string_cmp}
 use Rattle.std.specs.List.Sorted.{IsStrictlySortedBy}
 use Rattle.std.specs.Map.{keys_of}
 use Rattle.mp_tree.specs.View.{members}
-use Rattle.mp_patch.specs.View.{operations_of}
+use Rattle.mp_merge.specs.EditWalk.{all_guarded}
 use Rattle.mp_merge.proofs.EditWalks.{IsEditsRest}
 use Rattle.mp_merge.proofs.rewriting.+push_edits.Given as goal
 
@@ -10,4 +10,4 @@ use Rattle.mp_merge.proofs.rewriting.+push_edits.Given as goal
 abbrev pub invariant-push_member_edits-loop-name : goal.invariant-push_member_edits-loop-name
 invariant-push_member_edits-loop-name l =
     IsStrictlySortedBy string_cmp (keys_of l.name-iterator)
-    × IsEditsRest (operations_of l.initial.edits) (operations_of l.edits) l.path (members l.changes.entries) (members l.name-iterator) (members l.entries.entries)
+    × IsEditsRest (all_guarded l.initial.edits.items) (all_guarded l.edits.items) l.path (members l.changes.entries) (members l.name-iterator) (members l.entries.entries)

@@ -1,21 +1,44 @@
-use Rattle.std.proofs.Common.{◌≡◌, ◌++◌, ap, ◌∙◌, sym, subst}
+use Rattle.std.proofs.Common.{◌≡◌, ◌≤◌, [], ◌++◌, map, List, Some, ap, ◌∙◌, sym, subst}
+use Rattle.std.proofs.lemmas.Result.{IfOk-weaker}
+use Rattle.std.specs.List.{flat_map}
+use Rattle.mp_tree.specs.Document.{Document, IsDocument, depth, depth_limit}
 use Rattle.mp_tree.specs.View.{document}
 use Rattle.mp_tree.proofs.Facts.{IsDocument-document}
+use Rattle.mp_patch.specs.Operation.{Operation}
+use Rattle.mp_patch.specs.Run.{Runs}
 use Rattle.mp_patch.specs.View.{operations_of}
+use Rattle.mp_merge.specs.Application.{mp}
+use Rattle.mp_merge.specs.EditWalk.{AreEdits, Guarded, all_guarded}
 use Rattle.mp_merge.specs.Rewriting.{IsRewriting}
+use Rattle.mp_merge.specs.Walks.{Grew}
 use Rattle.mp_merge.proofs.AnyOrder.{rewriting_runs}
 use Rattle.mp_merge.proofs.Listings.{walk_is_rewriting}
 use Rattle.mp_merge.proofs.rewriting.rewrite.Goals as goal
 
-abbrev the_rewriting : (c : goal.In_ok-push_all) → IsRewriting (document c.args.doc.now) (document c.args.patch.now) (operations_of c.push_all.new.edits)
-the_rewriting c =
-    let grew = c.in_ok-push_all.ensures in
-    let is : operations_of c.push_all.new.edits ≡ grew.0 = grew.1 ∙ ap (λ os. operations_of os ++ grew.0) c.new-edits.ensures in
-    subst (IsRewriting (document c.args.doc.now) (document c.args.patch.now)) (sym is)
-    (walk_is_rewriting (document c.args.doc.now) (document c.args.patch.now) grew.0 (IsDocument-document c.args.patch.now) grew.2)
+-- the tests of what the walk found, and then its edits
+abbrev in_order : List Guarded → List Operation
+in_order found = flat_map (λ g. g.0) found ++ map (λ g. g.1) found
+
+the_rewriting : (d p : Document) (before found : List Guarded) (operations : List Operation) → IsDocument p → before ≡ [] → Grew before found (AreEdits [] p (Some d)) → operations ≡ in_order found → IsRewriting d p operations
+the_rewriting d p before found operations good none walk is =
+    let same : found ≡ walk.0 = walk.1 ∙ ap (λ gs. gs ++ walk.0) none in
+    walk_is_rewriting d p walk.0 operations good walk.2 (is ∙ ap in_order same)
 
 pub returns-clause-rewriting : goal.returns-clause-rewriting
-returns-clause-rewriting c = the_rewriting c
+returns-clause-rewriting c =
+    let d = document c.args.doc.now in
+    let p = document c.args.patch.now in
+    let found = all_guarded c.push_all.new.edits.items in
+    IfOk-weaker c.guards_first.result (λ ops. operations_of ops ≡ in_order found) (λ ops. IsRewriting d p (operations_of ops))
+    (λ ops is. the_rewriting d p _ found (operations_of ops) (IsDocument-document c.args.patch.now) (ap all_guarded c.new-edits.ensures.items) c.in_ok-push_all.ensures is)
+    c.guards_first.ensures
 
 pub returns-clause-runs : goal.returns-clause-runs
-returns-clause-runs c shallow = rewriting_runs _ _ _ (IsDocument-document c.args.doc.now) (IsDocument-document c.args.patch.now) shallow (the_rewriting c)
+returns-clause-runs c =
+    let d = document c.args.doc.now in
+    let p = document c.args.patch.now in
+    let found = all_guarded c.push_all.new.edits.items in
+    IfOk-weaker c.guards_first.result (λ ops. operations_of ops ≡ in_order found) (λ ops. depth p ≤ depth_limit → Runs d (operations_of ops) (mp (Some d) p))
+    (λ ops is shallow. rewriting_runs d p (operations_of ops) (IsDocument-document c.args.doc.now) (IsDocument-document c.args.patch.now) shallow
+    (the_rewriting d p _ found (operations_of ops) (IsDocument-document c.args.patch.now) (ap all_guarded c.new-edits.ensures.items) c.in_ok-push_all.ensures is))
+    c.guards_first.ensures

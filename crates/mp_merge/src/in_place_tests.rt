@@ -1,0 +1,108 @@
+//! Worked values of merging in place, and the promise run on lists in several orders and with repeats.
+use crate::{converge, merge_into};
+use mp_tree::{Doc, read_doc, read_docs, write_doc};
+use std::process::Abort;
+use std::test::Fail;
+
+/// Targets, patches, and what the targets become.
+const MERGED: &[(&str, &str, &str)] = &[
+    (
+        r#"{"a":5}"#,
+        r#"{"a":{"b":1,"c":null}}"#,
+        r#"{"a":{"b":1}}"#,
+    ),
+    (
+        r#"{"a":{"x":[1],"y":2},"k":0}"#,
+        r#"{"a":{"x":null}}"#,
+        r#"{"a":{"y":2},"k":0}"#,
+    ),
+    (
+        r#"{"a":5,"k":0}"#,
+        r#"{"a":{"b":1,"c":null},"z":{"y":2}}"#,
+        r#"{"a":{"b":1},"k":0,"z":{"y":2}}"#,
+    ),
+    (
+        r#"{"e":null}"#,
+        r#"{"a":[null]}"#,
+        r#"{"a":[null],"e":null}"#,
+    ),
+    ("5", "{}", "{}"),
+    (r#"{"a":1}"#, "null", "null"),
+];
+
+/// A start, what two replicas receive, the document that both show, and the join of the patches.
+type Replicas = (
+    &'static str,
+    &'static str,
+    &'static str,
+    &'static str,
+    &'static str,
+);
+
+const REPLICAS: &[Replicas] = &[
+    (
+        r#"{"k":0}"#,
+        r#"[{"a":{"x":1}},{"a":{"y":null}},{"k":null}]"#,
+        r#"[{"k":null},{"a":{"y":null}},{"a":{"x":1}},{"a":{"y":null}},{"k":null}]"#,
+        r#"{"a":{"x":1}}"#,
+        r#"{"a":{"x":1,"y":null},"k":null}"#,
+    ),
+    (
+        r#"{"a":{"b":[1]},"c":1}"#,
+        r#"[{"c":2},{"a":{"b":[2]}},{"c":2},{"d":{}}]"#,
+        r#"[{"d":{}},{"a":{"b":[2]}},{"d":{}},{"c":2}]"#,
+        r#"{"a":{"b":[2]},"c":2,"d":{}}"#,
+        r#"{"a":{"b":[2]},"c":2,"d":{}}"#,
+    ),
+    ("[1,2]", "[{}]", "[{},{},{}]", "{}", "{}"),
+    ("7", "[null,null]", "[null]", "null", "null"),
+];
+
+fn is_text<R: Abort + AllocGlobal>(rt: &R, doc: &Doc, wanted: &str) -> Result<(), Fail> {
+    let found = write_doc(rt.alloc(), doc)?;
+    assert_eq!(rt; found.as_str(), wanted);
+    Ok(())
+}
+
+#[test]
+fn merged_in_place(rt: HostRuntime) -> Result<(), Fail> {
+    for (start, change, wanted) in MERGED {
+        let mut target = read_doc(rt.alloc(), start.as_bytes())?;
+        let patch = read_doc(rt.alloc(), change.as_bytes())?;
+        merge_into(rt.alloc(), &mut target, &patch)?;
+        is_text(&rt, &target, wanted)?;
+        merge_into(rt.alloc(), &mut target, &patch)?;
+        is_text(&rt, &target, wanted)?;
+    }
+    Ok(())
+}
+
+#[test]
+fn replicas(rt: HostRuntime) -> Result<(), Fail> {
+    for (start, here, there, document, join) in REPLICAS {
+        let start = read_doc(rt.alloc(), start.as_bytes())?;
+        let here = read_docs(rt.alloc(), here.as_bytes())?;
+        let there = read_docs(rt.alloc(), there.as_bytes())?;
+        let end = converge(rt.alloc(), &start, here.as_slice(), there.as_slice())?;
+        for doc in [&end.here, &end.there, &end.merged, &end.patched] {
+            is_text(&rt, doc, document)?;
+        }
+        for joined in [&end.joined_here, &end.joined_there] {
+            is_text(&rt, joined, join)?;
+        }
+    }
+    Ok(())
+}
+
+#[test]
+fn replicas_that_clash(rt: HostRuntime) -> Result<(), Fail> {
+    let patches = read_docs(rt.alloc(), br#"[{"a":1},{"a":2}]"#)?;
+    let refused = converge(rt.alloc(), &Doc::Null, patches.as_slice(), &[]);
+    assert!(rt; refused.is_err(), "patches that clash");
+    let Err(fault) = refused else {
+        return Ok(());
+    };
+    let text = format!(in rt.alloc(); "{fault}")?;
+    assert_eq!(rt; text.as_str(), "conflict of patches 0 and 1");
+    Ok(())
+}

@@ -1,0 +1,5 @@
+use Rattle.mp_pointer.proofs.SpellingLemmas.{refuses_faults}
+use Rattle.mp_pointer.proofs.laws.faults_are_refused.Goals as goal
+
+pub returns : goal.returns
+returns c = refuses_faults

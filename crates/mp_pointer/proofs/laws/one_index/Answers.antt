@@ -1,0 +1,5 @@
+use Rattle.mp_pointer.proofs.IndexLemmas.{same_numeral}
+use Rattle.mp_pointer.proofs.laws.one_index.Goals as goal
+
+pub returns : goal.returns
+returns c = same_numeral
