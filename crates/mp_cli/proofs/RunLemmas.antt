@@ -24,6 +24,7 @@ pub ReadSoFar-read : {R : Type 0} (remaining : R → Option (List ℕ)) (old mid
 ReadSoFar-read remaining old mid new reads count bytes more fresh before counts is consumes = record {
   consumed = Consumes-trans _ _ _ _ _ before.consumed consumes;
   counted = omega (arith, length-append bytes more);
+  calls = omega (arith, length-append bytes more, before.calls, counts.calls, before.each_gave);
 }
 
 -- the front of the text was written, and the rest is left

@@ -1,5 +1,5 @@
 -- The program has an answer to each command and its input bytes.
-use Rattle.std.proofs.Common.{◌≡◌, ◌≢◌, zero, suc, arith, List, [], ◌∷◌, Result, Ok, Err, inl, inr, refl}
+use Rattle.std.proofs.Common.{◌≡◌, zero, suc, arith, List, [], ◌∷◌, Result, Ok, Err, inl, inr, refl}
 use Rattle.std.specs.List.{All}
 use Rattle.mp_tree.specs.Document.{Document, Items, no_items, item, IsDocument, AreDocuments}
 use Rattle.mp_tree.specs.Text.{documents_in}
@@ -10,7 +10,7 @@ use Rattle.mp_patch.specs.Operation.{Operation}
 use Rattle.mp_patch.specs.declared.fault.ApplyFault.TheVariants.{Refused}
 use Rattle.mp_patch.proofs.Facts.{forms_have_documents, is_form_or_faulty, runs_or_is_refused}
 use Rattle.mp_merge.proofs.Facts.{compatible_or_told, join_exists, outcome_exists, rewriting_exists}
-use Rattle.mp_cli.specs.Answered.{Answered, listed, result_line, conflict_line, form_fault, run_fault, get_answer, merge_answer, no_patches, wrong_shape, input_fault, IsRunAnswer, ran, halted, IsPatchAnswer, malformed, formed, IsJoinAnswer, joined, none_joined, join_refused, IsReplayAnswer, replayed, replay_refused, IsRewriteAnswer, rewritten, IsPatchAnswerTo, IsReplayAnswerTo, IsRewriteAnswerTo, IsAnswerTo, IsChecked, IsAnswered}
+use Rattle.mp_cli.specs.Answered.{Answered, listed, result_line, conflict_line, form_fault, run_fault, merge_answer, no_patches, wrong_shape, input_fault, IsRunAnswer, ran, halted, IsPatchAnswer, malformed, formed, IsJoinAnswer, joined, none_joined, join_refused, IsReplayAnswer, replayed, replay_refused, IsRewriteAnswer, rewritten, IsPatchAnswerTo, IsReplayAnswerTo, IsRewriteAnswerTo, IsAnswerTo, IsChecked, IsAnswered}
 use Rattle.mp_cli.specs.Laws.{AnswerExists}
 use Rattle.mp_cli.specs.declared.command.Command.{Command}
 use Rattle.mp_cli.specs.declared.command.Command.TheVariants.{Get, Patch, Merge, Join, Replay, Rewrite}

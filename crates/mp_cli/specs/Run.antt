@@ -5,10 +5,12 @@ use Rattle.mp_cli.specs.declared.counted.Counted.{Counted}
 use Rattle.mp_cli.specs.Answered.{Answered}
 use Rattle.mp_cli.specs.Counted.{device_of, calls_of, failures_of, bytes_of, IsFlushed}
 
--- The reads gave these bytes. `remaining` says which bytes a reader has left, where it says so.
+-- The reads gave these bytes, and but for one each gave some. `remaining` says which bytes a reader
+-- has left, where it says so.
 pub record ReadsBytes {R : Type 0} (remaining : R → Option (List ℕ)) (old new : Counted R) (bytes : List ℕ) : Type 0 where
   pub consumed : Consumes (remaining (device_of old)) (remaining (device_of new)) bytes
   pub counted : bytes_of new ≡ bytes_of old + length bytes
+  pub calls : calls_of new ≤ calls_of old + length bytes + 1
 
 -- The reads gave these bytes and then the end, none failed, and the bytes are within the limit. So
 -- where the reader says which bytes it has, they are these.

@@ -92,7 +92,7 @@ pub fn run<R: Read, W: Write, E: Write>(
     requires fresh_out { calls_of out.old ≡ 0 }
     requires fresh_err { calls_of err.old ≡ 0 }
 
-    // When each fault comes; the other is OutOfMemory.
+    // When a fault of the input comes.
     ensures read_failed { IsErrOf result RunFault.ReadFailed ↔ (0 < failures_of input.new) }
     ensures too_long { IsErrOf result RunFault.TooLong ↔ (1_048_576 < bytes_of input.new) }
 
