@@ -4,7 +4,7 @@ use Rattle.std.proofs.Math.Seq.{take-append_seam}
 use Rattle.std.proofs.lemmas.List.{length-append, map-append}
 use Rattle.std.specs.List.{Contains}
 use Rattle.mp_tree.specs.Document.{Document, null, flag, whole, string, list, object, Members, no_members, member, is_name, find, IsBelow, IsDocument, IsMap}
-use Rattle.mp_tree.specs.Look.{Path, nothing, an_object, look, look_of}
+use Rattle.mp_tree.specs.Look.{Path, an_object, look, look_of}
 use Rattle.mp_tree.proofs.Facts.{is_here, find-below, cases_same}
 use Rattle.mp_merge.specs.Clash.{Clash, Compatible, AreAllClashes, AreConflicts}
 use Rattle.mp_merge.specs.ClashWalk.{IsOneClash, WalksClashes, WalksMembers}

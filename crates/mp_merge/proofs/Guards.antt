@@ -1,12 +1,12 @@
 -- The tests of a rewriting: they pass on its document, and where they pass elsewhere, the same stands there.
-use Rattle.std.proofs.Common.{◌≡◌, ◌≢◌, ◌<◌, ◌⊎◌, inl, inr, ℕ, zero, suc, List, [], ◌∷◌, ◌++◌, map, take, Option, None, Some, slice_get, refl, sym, ap, ◌∙◌, subst}
-use Rattle.std.specs.List.{Contains, flat_map}
+use Rattle.std.proofs.Common.{◌≡◌, ◌≢◌, ◌⊎◌, inl, inr, ℕ, zero, suc, List, [], ◌∷◌, ◌++◌, map, take, Option, None, Some, slice_get, refl, sym, ap, ◌∙◌, subst}
+use Rattle.std.specs.List.{Contains}
 use Rattle.mp_tree.specs.Document.{Document}
 use Rattle.mp_tree.specs.Look.{Path, Look, nothing, an_object, plain, look}
 use Rattle.mp_pointer.specs.Part.{part}
-use Rattle.mp_patch.specs.Operation.{Operation, add, remove, replace, test}
+use Rattle.mp_patch.specs.Operation.{Operation, test}
 use Rattle.mp_patch.specs.Refusal.{RefusedBy}
-use Rattle.mp_patch.specs.Run.{IsRefused, RefusedAt, Runs}
+use Rattle.mp_patch.specs.Run.{IsRefused, Runs}
 use Rattle.mp_patch.specs.declared.fault.Cause.{Cause}
 use Rattle.mp_merge.specs.Laws.{GuardedList, RefusedGuardTells}
 use Rattle.mp_merge.specs.Rewriting.{edit, guard_of, guards, leaving, part_left}

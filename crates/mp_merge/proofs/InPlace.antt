@@ -1,19 +1,19 @@
 -- Merging in place: what one name of an object comes to, and that a try that was refused can be made again.
-use Rattle.std.proofs.Common.{◌≡◌, ◌≢◌, ◌⊎◌, inl, inr, ◌↔◌, ℕ, List, [], ◌∷◌, false, cond, Option, Some, None, IfSome, refl, sym, ap, ◌∙◌, subst}
+use Rattle.std.proofs.Common.{◌≡◌, inl, inr, ℕ, List, [], ◌∷◌, false, cond, Option, Some, None, IfSome, refl, sym, ap, ◌∙◌, subst}
 use Rattle.std.proofs.lemmas.List.Elements.{All-contains_itself, All-weaker}
 use Rattle.std.specs.List.{All, Contains}
-use Rattle.mp_tree.specs.Document.{Document, null, flag, whole, string, list, object, Members, no_members, member, is_name, find, put, IsDocument, IsMap, IsBelow}
+use Rattle.mp_tree.specs.Document.{Document, null, flag, whole, string, list, object, Members, member, is_name, find, put, IsDocument, IsMap, IsBelow}
 use Rattle.mp_tree.specs.Look.{Path, nothing, an_object, plain, look, look_of}
 use Rattle.mp_tree.proofs.Facts.{IsDocument-find, cases_same, find-below, find-put, is_name-self, members_same}
 use Rattle.mp_merge.specs.Application.{after_patch, changed, in_turn, mp, mp_members, target_members, unless_null}
 use Rattle.mp_merge.specs.Laws.{AppliedOnce, HaveSameMembers, MergesIntoNull, TriesResume}
 use Rattle.mp_merge.specs.Lists.{PairwiseCompatible}
 use Rattle.mp_merge.specs.MergeWalk.{NeedsNoneAt, NeedsNoneIn, ResumesAt}
-use Rattle.mp_merge.specs.Resumption.{AreTries, NeedsNoMemory, last_of}
-use Rattle.mp_merge.proofs.ApplicationLemmas.{IsDocument-mp, IsMap-changed, IsMap-mp_members, find-changed, find-mp_members}
+use Rattle.mp_merge.specs.Resumption.{NeedsNoMemory}
+use Rattle.mp_merge.proofs.ApplicationLemmas.{IsDocument-mp, IsMap-mp_members, find-changed, find-mp_members}
 use Rattle.mp_merge.proofs.ClashesByName.{compatible-self}
 use Rattle.mp_merge.proofs.Elements.{Contains-head, Contains-tail, Contains-cases, Contains-one}
-use Rattle.mp_merge.proofs.InTurn.{IsDocument-in_turn, applied_in_turn}
+use Rattle.mp_merge.proofs.InTurn.{applied_in_turn}
 use Rattle.mp_merge.proofs.Outcomes.{application_is_outcome, replicas_agree}
 
 -- ---- a patch that is applied twice

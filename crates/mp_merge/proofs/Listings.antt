@@ -1,13 +1,11 @@
 -- The operations that the walk over a patch and a document adds are the rewriting.
 use Rattle.std.proofs.Common.{◌≡◌, ◌≢◌, ◌⊎◌, inl, inr, ◌↔◌, ℕ, List, [], ◌∷◌, ◌++◌, map, Less, cond, false, Option, Some, None, refl, sym, ap, ap₂, ◌∙◌, subst, append-nil, append_assoc}
 use Rattle.std.proofs.lemmas.List.{map-append}
-use Rattle.std.proofs.lemmas.List.Elements.{Contains-append_left, Contains-append_right, Contains-append_cases}
 use Rattle.std.specs.List.{Contains, flat_map}
 use Rattle.std.specs.List.Sorted.{IsStrictlySortedBy}
-use Rattle.std.specs.Ordering.{ordering_then}
 use Rattle.mp_tree.specs.Document.{Document, null, flag, whole, string, list, object, Members, no_members, member, name_cmp, is_name, find, IsBelow, IsDocument, IsMap}
 use Rattle.mp_tree.specs.Look.{Path, Look, nothing, an_object, plain, look, look_of}
-use Rattle.mp_tree.proofs.Facts.{is_here, find-below, cases_same, is_name-self, name_cmp-self}
+use Rattle.mp_tree.proofs.Facts.{is_here, find-below, cases_same, is_name-self}
 use Rattle.mp_pointer.specs.Part.{part}
 use Rattle.mp_patch.specs.Operation.{Operation}
 use Rattle.mp_merge.specs.Clash.{path_cmp}
@@ -15,7 +13,7 @@ use Rattle.mp_merge.specs.EditWalk.{Guarded, IsOneEdit, NotBothMaps, AreEdits, A
 use Rattle.mp_merge.specs.Rewriting.{guard_of, guards, part_left, leaving, edit, IsRewriting}
 use Rattle.mp_merge.proofs.ClashesByName.{same_plain}
 use Rattle.mp_merge.proofs.EditPlaces.{differs_at_edit, edit_where_differs, left_by-no_map}
-use Rattle.mp_merge.proofs.Elements.{Contains-nil, Contains-head, Contains-tail, Contains-cases, Contains-one}
+use Rattle.mp_merge.proofs.Elements.{Contains-nil, Contains-head, Contains-tail, Contains-one}
 use Rattle.mp_merge.proofs.Places.{MapsAbove, at_path, part-at_path}
 use Rattle.mp_merge.proofs.RisingPlaces.{BeginsAbove, Lists, lists_both, name_above, under_all}
 use Rattle.mp_merge.proofs.Says.{left_of}

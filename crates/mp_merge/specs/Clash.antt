@@ -1,5 +1,5 @@
 -- Where two merge patches clash: their conflicts.
-use Rattle.std.specs.Prelude.{◌≡◌, ◌≢◌, ◌↔◌, List, []}
+use Rattle.std.specs.Prelude.{◌≢◌, ◌↔◌, List, []}
 use Rattle.std.specs.List.{Contains}
 use Rattle.std.specs.List.Sorted.{IsStrictlySortedBy}
 use Rattle.std.specs.declared.cmp.Ordering.{Ordering}

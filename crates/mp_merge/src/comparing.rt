@@ -35,7 +35,8 @@ pub fn compatible(p: &Doc, q: &Doc) -> bool
 
 #[cycle(compatible)]
 fn are_members_compatible(changes: &BTreeMap<String, Doc>, others: &BTreeMap<String, Doc>) -> bool
-    ensures { IsTrue result ↔ Compatible (object (members changes.now.entries)) (object (members others.now.entries)) }
+    ensures { IsTrue result ↔ Compatible (object (members changes.now.entries))
+        (object (members others.now.entries)) }
 {
     for (name, change) in changes.iter() {
         if let Some(other) = others.get(name.as_str()) {

@@ -24,9 +24,11 @@ use std::mem;
 /// join(alloc, &p, &q)  // Err(JoinFault::Conflict(..)) with /a for {"a":1} and {"a":2}
 /// ```
 pub fn join(alloc: Global, p: &Doc, q: &Doc) -> Result<Doc, JoinFault>
-    ensures joined { MatchResult result (λ j. IsJoin (document p.now ∷ document q.now ∷ []) (document j))
+    ensures joined { MatchResult result
+        (λ j. IsJoin (document p.now ∷ document q.now ∷ []) (document j))
         (λ fault. IsJoinFault fault (document p.now) (document q.now)) }
-    ensures depth { IfOk result (λ j. depth (document j) ≤ max (depth (document p.now)) (depth (document q.now))) }
+    ensures depth { IfOk result (λ j.
+        depth (document j) ≤ max (depth (document p.now)) (depth (document q.now))) }
 {
     if !compatible(p, q) {
         return Err(JoinFault::Conflict(conflict(alloc, p, q)?));
@@ -71,7 +73,8 @@ fn unite_entry(
     alloc: Global,
 ) -> Result<(), AllocError>
     ensures { OnOk result (let js = members entries.old.entries in
-        members entries.new.entries ≡ put name.now (united_at (document change.now) (find name.now js)) js) }
+        members entries.new.entries
+        ≡ put name.now (united_at (document change.now) (find name.now js)) js) }
 {
     match entries.get_mut(name) {
         Some(slot) => {

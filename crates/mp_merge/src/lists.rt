@@ -27,7 +27,8 @@ use std::alloc::{AllocError, Global};
 pub fn join_all(alloc: Global, patches: &[Doc]) -> Result<Doc, ListFault>
     ensures joined { MatchResult result (λ j. IsJoin (map document patches.now) (document j))
         (λ fault. IsListFault fault (map document patches.now)) }
-    ensures depth { IfOk result (λ j. (n : ℕ) → AreWithin n (map document patches.now) → depth (document j) ≤ n) }
+    ensures depth { IfOk result (λ j. (n : ℕ)
+        → AreWithin n (map document patches.now) → depth (document j) ≤ n) }
 {
     let Some(first) = patches.first() else {
         return Err(ListFault::NoPatches);
@@ -43,7 +44,8 @@ pub fn join_all(alloc: Global, patches: &[Doc]) -> Result<Doc, ListFault>
 fn joined_with(alloc: Global, patches: &[Doc], second: usize, joined: Doc) -> Result<Doc, ListFault>
     requires within { second < length patches.now }
     requires joined { IsJoin (take second (map document patches.now)) (document joined) }
-    ensures { MatchResult result (λ j. IsJoin (take (second + 1) (map document patches.now)) (document j))
+    ensures { MatchResult result
+        (λ j. IsJoin (take (second + 1) (map document patches.now)) (document j))
         (λ fault. IsReplayFault fault (map document patches.now)) }
 {
     let patch = &patches[second];
@@ -66,7 +68,8 @@ fn clash_before(
     second: usize,
 ) -> Result<Option<(usize, Vec<Pointer>)>, AllocError>
     requires { second < length patches.now }
-    ensures { IfOk result (λ found. MatchOption found (IsFreeBelow (map document patches.now) second)
+    ensures { IfOk result (λ found.
+        MatchOption found (IsFreeBelow (map document patches.now) second)
         (λ c. IsClashBelow (map document patches.now) c.0 second c.1.items)) }
 {
     let patch = &patches[second];
@@ -89,10 +92,11 @@ fn clash_before(
 /// replay(alloc, &start, &patches)  // {"a":{"x":1}} for {"k":0} and {"a":{"x":1}}, {"a":{"y":null}}, {"k":null}
 /// ```
 pub fn replay(alloc: Global, start: &Doc, patches: &[Doc]) -> Result<Doc, ListFault>
-    ensures outcome { MatchResult result (λ e. IsOutcome (document start.now) (map document patches.now) (document e))
+    ensures outcome { MatchResult result
+        (λ e. IsOutcome (document start.now) (map document patches.now) (document e))
         (λ fault. IsReplayFault fault (map document patches.now)) }
-    ensures depth { IfOk result (λ e. (n : ℕ) → depth (document start.now) ≤ n → AreWithin n (map document patches.now)
-        → depth (document e) ≤ n) }
+    ensures depth { IfOk result (λ e. (n : ℕ) → depth (document start.now) ≤ n
+        → AreWithin n (map document patches.now) → depth (document e) ≤ n) }
     ensures none { patches.now ≡ [] → IfOk result (λ e. document e ≡ document start.now) }
 {
     replay_owned(alloc, start.copy(alloc)?, patches)
@@ -100,10 +104,11 @@ pub fn replay(alloc: Global, start: &Doc, patches: &[Doc]) -> Result<Doc, ListFa
 
 /// As `replay`, of a start that is owned: its parts are moved and not copied.
 pub fn replay_owned(alloc: Global, start: Doc, patches: &[Doc]) -> Result<Doc, ListFault>
-    ensures outcome { MatchResult result (λ e. IsOutcome (document start) (map document patches.now) (document e))
+    ensures outcome { MatchResult result
+        (λ e. IsOutcome (document start) (map document patches.now) (document e))
         (λ fault. IsReplayFault fault (map document patches.now)) }
-    ensures depth { IfOk result (λ e. (n : ℕ) → depth (document start) ≤ n → AreWithin n (map document patches.now)
-        → depth (document e) ≤ n) }
+    ensures depth { IfOk result (λ e. (n : ℕ) → depth (document start) ≤ n
+        → AreWithin n (map document patches.now) → depth (document e) ≤ n) }
     ensures none { patches.now ≡ [] → IfOk result (λ e. document e ≡ document start) }
 {
     if patches.is_empty() {

@@ -21,9 +21,11 @@ use std::mem;
 /// merge(alloc, None, &patch)        // {"a":{}} for {"a":{"b":null},"c":null}
 /// ```
 pub fn merge(alloc: Global, target: Option<&Doc>, patch: &Doc) -> Result<Doc, AllocError>
-    ensures merged { IfOk result (λ d. document d ≡ mp (option_map (λ t. document t.now) target.entry) (document patch.now)) }
+    ensures merged { IfOk result (λ d. document d
+        ≡ mp (option_map (λ t. document t.now) target.entry) (document patch.now)) }
     ensures depth { IfOk result (λ d. depth (document d)
-        ≤ max (depth_of (option_map (λ t. document t.now) target.entry)) (depth (document patch.now))) }
+        ≤ max (depth_of (option_map (λ t. document t.now) target.entry))
+        (depth (document patch.now))) }
 {
     // Merging into null gives what merging into nothing gives.
     let mut merged = match target {
@@ -36,7 +38,8 @@ pub fn merge(alloc: Global, target: Option<&Doc>, patch: &Doc) -> Result<Doc, Al
 
 /// As `merge`, of a target and a patch that are owned: their parts are moved and not copied.
 pub fn merge_owned(alloc: Global, target: Option<Doc>, patch: Doc) -> Result<Doc, AllocError>
-    ensures merged { IfOk result (λ d. document d ≡ mp (option_map document target) (document patch)) }
+    ensures merged { IfOk result (λ d.
+        document d ≡ mp (option_map document target) (document patch)) }
     ensures depth { IfOk result (λ d. depth (document d)
         ≤ max (depth_of (option_map document target)) (depth (document patch))) }
 {

@@ -38,9 +38,11 @@ use std::collections::BTreeMap;
 /// rewrite(alloc, &doc, &patch)
 /// ```
 pub fn rewrite(alloc: Global, doc: &Doc, patch: &Doc) -> Result<JsonPatch, AllocError>
-    ensures rewriting { IfOk result (λ ops. IsRewriting (document doc.now) (document patch.now) (operations_of ops)) }
+    ensures rewriting { IfOk result (λ ops.
+        IsRewriting (document doc.now) (document patch.now) (operations_of ops)) }
     ensures runs { IfOk result (λ ops. depth (document patch.now) ≤ depth_limit
-        → Runs (document doc.now) (operations_of ops) (mp (Some (document doc.now)) (document patch.now))) }
+        → Runs (document doc.now) (operations_of ops)
+        (mp (Some (document doc.now)) (document patch.now))) }
 {
     let mut edits = Vec::new(alloc);
     push_all(patch, doc, &mut edits, alloc)?;

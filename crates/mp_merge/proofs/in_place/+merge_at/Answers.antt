@@ -2,7 +2,7 @@ use Rattle.std.proofs.Common.{◌≡◌, ◌∷◌, Some, None, option_map, Stri
 use Rattle.std.proofs.lemmas.Result.{on_ok_weaker, on_err_weaker, err_from_is_err_and}
 use Rattle.std.specs.List.Sorted.{IsStrictlySortedBy}
 use Rattle.std.specs.Map.{keys_of}
-use Rattle.mp_tree.specs.Document.{Document, Members, member, null, object, find, put, without, IsMap}
+use Rattle.mp_tree.specs.Document.{Document, Members, member, null, object, find, put, IsMap}
 use Rattle.mp_tree.specs.View.{document, members}
 use Rattle.mp_tree.specs.declared.doc.Doc.{Doc}
 use Rattle.mp_tree.proofs.Facts.{IsMap-members, IsDocument-document, members-cons, find-members, members-inserted, members-removed, document-Members, document-Null}

@@ -1,5 +1,4 @@
-use Rattle.std.proofs.Common.{◌≡◌, map, Option, Some, MatchOption, slice_get, subst, arith}
-use Rattle.mp_tree.specs.Look.{Path}
+use Rattle.std.proofs.Common.{◌≡◌, map, Some, slice_get, subst, arith}
 use Rattle.mp_tree.specs.View.{document}
 use Rattle.mp_merge.specs.Clash.{Compatible}
 use Rattle.mp_merge.proofs.Numbered.{at_number, same_at, below_more}

@@ -1,4 +1,4 @@
-use Rattle.std.proofs.Common.{◌≡◌, ◌<◌, ◌+◌, ℕ, length, take, map, List, Vec, Global, Option, Some, MatchOption, slice_get, sym, subst, arith}
+use Rattle.std.proofs.Common.{◌≡◌, ◌<◌, ◌+◌, ℕ, length, take, map, Vec, Global, Option, Some, MatchOption, slice_get, sym, subst, arith}
 use Rattle.std.proofs.lemmas.List.{length-map}
 use Rattle.mp_tree.specs.Look.{Path}
 use Rattle.mp_tree.specs.View.{document}
