@@ -1,8 +1,6 @@
-pub mod ChildLemmas
 pub mod Decisions
 pub mod DepthLemmas
 pub mod DocumentLemmas
-pub mod EditLemmas
 pub mod Facts
 pub mod FaultLaws
 pub mod FirstLemmas
