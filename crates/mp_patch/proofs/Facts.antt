@@ -1,5 +1,5 @@
 -- What the proofs of the crates above may cite: facts about what an `Op` means, about runs, and about forms.
-pub use Rattle.mp_patch.proofs.ChildLemmas.{names_of-put}
+pub use Rattle.mp_pointer.proofs.Facts.{names_of-put}
 pub use Rattle.mp_patch.proofs.DepthLemmas.{part-depth, Step-depth}
 pub use Rattle.mp_patch.proofs.DocumentLemmas.{part-document, document-changed, Adds-document, Removes-document, Removes-once}
 pub use Rattle.mp_patch.proofs.FaultLaws.{forms_have_no_fault, has_one_fault}

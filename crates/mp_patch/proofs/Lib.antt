@@ -1,7 +1,5 @@
-pub mod ChildLemmas
 pub mod DepthLemmas
 pub mod DocumentLemmas
-pub mod EditLemmas
 pub mod Facts
 pub mod FaultLaws
 pub mod FirstLemmas

@@ -9,7 +9,7 @@ use Rattle.mp_pointer.specs.Spelling.{Tokens}
 use Rattle.mp_pointer.proofs.Facts.{nth, part-push, DifferOnlyAt-root, DifferOnlyAt-child}
 use Rattle.mp_patch.specs.Operation.{AddsTo, to_map, to_list, RemovesFrom, from_map, from_list, append, dash, Adds, Removes}
 use Rattle.mp_patch.specs.Refusal.{LacksPlace, HasNoPlace}
-use Rattle.mp_patch.proofs.ChildLemmas.{ChildChanges, set_item, element_changes, value_changes}
+use Rattle.mp_pointer.proofs.Facts.{ChildChanges, set_item, element_changes, value_changes}
 use Rattle.mp_tree.proofs.Facts.{decide_name}
 use Rattle.mp_patch.proofs.DocumentLemmas.{part-document}
 use Rattle.mp_patch.proofs.StepLemmas.{has_place, root_place}

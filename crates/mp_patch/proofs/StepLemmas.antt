@@ -1,8 +1,8 @@
 -- What an operation does, from what was done to the container of its place.
-use Rattle.std.proofs.Common.{◌≡◌, ◌≢◌, ◌<◌, ◌≤◌, ◌+◌, ◌-◌, ◌⊎◌, inl, inr, ℕ, suc, List, [], ◌∷◌, ◌++◌, length, get_or, take, drop, Bool, Option, None, Some, option_and_then, option_map, Result, Ok, Err, IsTrue, Vec, BTreeMap, String, Global, refl, sym, ap, ap₂, ◌∙◌, subst, arith, true≢false, add-one, MatchResult, MatchOption, IsFalse}
+use Rattle.std.proofs.Common.{◌≡◌, ◌≢◌, ◌<◌, ◌≤◌, ◌+◌, ◌⊎◌, inl, inr, ℕ, suc, List, [], ◌∷◌, ◌++◌, length, get_or, take, drop, Bool, Option, None, Some, option_and_then, option_map, Result, Ok, Err, IsTrue, Vec, BTreeMap, String, Global, refl, sym, ap, ap₂, ◌∙◌, subst, arith, true≢false, add-one, MatchResult, MatchOption, IsFalse}
 use Rattle.std.proofs.lemmas.List.{length-take-le, take_all, take-append-drop, drop_more}
 use Rattle.std.proofs.lemmas.Option.{slice_get_within, get_or_from_slice_get}
-use Rattle.std.specs.List.{slice_get, slice_range}
+use Rattle.std.specs.List.{slice_get}
 use Rattle.mp_tree.specs.Document.{Document, list, object, item, find, put, without, depth, depth_limit}
 use Rattle.mp_tree.specs.View.{document, items, members}
 use Rattle.mp_tree.specs.declared.doc.Doc
@@ -13,7 +13,7 @@ use Rattle.mp_pointer.specs.Part.{part, child, numeral, count_of}
 use Rattle.mp_pointer.specs.Spelling.{Tokens}
 use Rattle.mp_pointer.proofs.Facts.{child-numeral, count_of-items}
 use Rattle.mp_pointer.proofs.Facts.{child-object, part-push}
-use Rattle.mp_patch.proofs.EditLemmas.{nth-here}
+use Rattle.mp_pointer.proofs.Facts.{nth-here}
 use Rattle.mp_patch.proofs.FirstLemmas.{unrefused}
 use Rattle.mp_patch.specs.Operation.{add, remove, replace, ChangesContainer, AddsTo, to_map, to_list, RemovesFrom, from_map, from_list, append, dash, NamesPlace}
 use Rattle.mp_patch.specs.Refusal.{LacksPlace, HasNoPlace, IsTooDeep, IsMissing, RefusedBy}
@@ -54,21 +54,18 @@ not_empty [] n e = cc
 not_empty (x ∷ s) n e = cc
 
 -- the tokens of the container, and the last
-pub to_last : (t : Tokens) (last : ℕ) (token : List ℕ) → last + 1 ≡ length t → slice_get t last ≡ Some token → t ≡ slice_range t 0 last ++ token ∷ []
+pub to_last : (t : Tokens) (last : ℕ) (token : List ℕ) → last + 1 ≡ length t → slice_get t last ≡ Some token → t ≡ take last t ++ token ∷ []
 to_last t last token is here =
     let rest : drop last t ≡ token ∷ drop (last + 1) t = drop_more t last [] (slice_get_within t last token here) ∙ ap (λ x. x ∷ drop (last + 1) t) (get_or_from_slice_get t last token [] here) in
     let over : drop (last + 1) t ≡ [] = ap (λ n. drop n t) is ∙ drop_whole t in
-    sym (take-append-drop last t) ∙ ap₂ (λ xs ys. xs ++ ys) (sym (no_start last t)) (rest ∙ ap (λ xs. token ∷ xs) over)
+    sym (take-append-drop last t) ∙ ap (λ ys. take last t ++ ys) (rest ∙ ap (λ xs. token ∷ xs) over)
   where
     drop_whole : (xs : Tokens) → drop (length xs) xs ≡ []
     drop_whole [] = refl
     drop_whole (x ∷ xs) = drop_whole xs
 
-    no_start : (n : ℕ) (xs : Tokens) → take (n - 0) (drop 0 xs) ≡ take n xs
-    no_start n xs = let e : n - 0 ≡ n = omega arith in rw e refl
-
-pub to_end : (t : Tokens) → slice_range t 0 (length t) ≡ t
-to_end t = take_all (length t - 0) t (omega arith)
+pub to_end : (t : Tokens) → take (length t) t ≡ t
+to_end t = take_all (length t) t (omega arith)
 
 -- ---- elements
 

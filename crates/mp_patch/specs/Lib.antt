@@ -1,4 +1,3 @@
-pub mod Edit
 pub mod First
 pub mod Form
 pub mod Laws

@@ -2,7 +2,6 @@
 #![tactic(auto)]
 
 pub mod applying;
-mod edit;
 pub mod fault;
 pub mod laws;
 pub mod op;

@@ -10,10 +10,9 @@ ghost use Rattle.mp_patch.specs.Run.{IsRefused};
 ghost use Rattle.mp_patch.specs.Steps.{Answers, Inserts, Takes, fault_at};
 ghost use Rattle.mp_patch.specs.View.{operation_of};
 
-use crate::edit::edit_part;
 use crate::fault::{ApplyFault, Cause};
 use crate::op::Op;
-use mp_pointer::{Pointer, get, index_of};
+use mp_pointer::{Pointer, edit_part, get, index_of};
 use mp_tree::{Doc, items_mut, members_mut};
 use std::alloc::{AllocError, AllocFailed, Global};
 
@@ -99,7 +98,6 @@ fn add(doc: &mut Doc, path: &Pointer, value: Doc, alloc: Global) -> Result<(), S
     match edit_part(
         doc,
         path,
-        0,
         last,
         |container| insert(container, token, value, fits, alloc),
     ) {
@@ -121,7 +119,7 @@ fn remove(doc: &mut Doc, path: &Pointer) -> Result<Doc, StepFault>
     }
     let last = path.len() - 1;
     let token = path.token(last).unwrap();
-    let Some(taken) = edit_part(doc, path, 0, last, |container| take(container, token)) else {
+    let Some(taken) = edit_part(doc, path, last, |container| take(container, token)) else {
         return Err(StepFault::Refused(Cause::Missing));
     };
     match taken {
@@ -135,7 +133,7 @@ fn replace(doc: &mut Doc, path: &Pointer, value: Doc) -> Result<(), StepFault>
         (document doc.new) }
 {
     let fits = fits_below(&value, path.len());
-    match edit_part(doc, path, 0, path.len(), |part| set(part, value, fits)) {
+    match edit_part(doc, path, path.len(), |part| set(part, value, fits)) {
         Some(outcome) => outcome,
         None => Err(StepFault::Refused(Cause::Missing)),
     }

@@ -1,8 +1,10 @@
 pub mod ChildLemmas
+pub mod EditLemmas
 pub mod Facts
 pub mod Following
 pub mod IndexLemmas
 pub mod KindLemmas
+pub mod LentLemmas
 pub mod PartLemmas
 pub mod SpellingLemmas
 pub mod TokenLemmas

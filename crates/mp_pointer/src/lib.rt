@@ -1,6 +1,7 @@
 //! JSON Pointer (RFC 6901): pointers as lists of tokens, their spelling, and the part of a document that one names.
 #![tactic(auto)]
 
+pub mod edit;
 pub mod fault;
 pub mod laws;
 mod lent;
@@ -10,6 +11,7 @@ mod spelling;
 mod tests;
 pub mod walk;
 
+pub use edit::edit_part;
 pub use fault::PointerFault;
 pub use pointer::Pointer;
 pub use walk::{get, get_mut, index_of};

@@ -1,6 +1,7 @@
 //! Worked values: spellings, indices, and the example document of RFC 6901 section 5.
-use crate::{Pointer, PointerFault, get, get_mut, index_of};
+use crate::{Pointer, PointerFault, edit_part, get, get_mut, index_of};
 use mp_tree::{read_doc, read_docs, write_doc};
+use std::mem;
 use std::process::Abort;
 use std::test::Fail;
 
@@ -128,6 +129,29 @@ fn writes(rt: HostRuntime) -> Result<(), Fail> {
             Some(part) => *part = value,
             None => assert_eq!(rt; None, *wanted, "at {text} in {input}"),
         }
+        let after = write_doc(rt.alloc(), &doc)?;
+        assert_eq!(rt;
+            after.as_str(),
+            wanted.unwrap_or(before.as_str()),
+            "at {text} in {input}"
+        );
+    }
+    Ok(())
+}
+
+#[test]
+fn edits(rt: HostRuntime) -> Result<(), Fail> {
+    for (input, text, wanted) in WRITES {
+        let mut docs = read_docs(rt.alloc(), input.as_bytes())?;
+        let pointer = Pointer::parse(rt.alloc(), text)?;
+        let (Some(value), Some(mut doc)) = (docs.pop(), docs.pop()) else {
+            panic!(rt; "no document and value in {input}")
+        };
+        let before = write_doc(rt.alloc(), &doc)?;
+        let edited = edit_part(&mut doc, &pointer, pointer.len(), |part| {
+            mem::replace(part, value)
+        });
+        assert_eq!(rt; edited.is_some(), wanted.is_some(), "at {text} in {input}");
         let after = write_doc(rt.alloc(), &doc)?;
         assert_eq!(rt;
             after.as_str(),

@@ -1,4 +1,4 @@
-use Rattle.std.proofs.Common.{◌≡◌, Some, MatchResult, IsTrue, IsFalse, slice_range, arith, rules, sym, ap, ◌∙◌, subst}
+use Rattle.std.proofs.Common.{◌≡◌, Some, MatchResult, IsTrue, IsFalse, take, arith, rules, sym, ap, ◌∙◌, subst}
 use Rattle.mp_tree.specs.View.{document}
 use Rattle.mp_pointer.specs.Only.{DifferOnlyAt}
 use Rattle.mp_pointer.specs.Part.{part}
@@ -13,7 +13,7 @@ returns-in-Some c =
     let path = c.args.path.now in
     let r = c.in-Some.outcome in
     let fits = c.fits_below-fits.result in
-    let all : slice_range path 0 c.len-2.result ≡ path = ap (slice_range path 0) c.len-2.ensures ∙ to_end path in
+    let all : take c.len-2.result path ≡ path = ap (λ n. take n path) c.len-2.ensures ∙ to_end path in
     let edits = c.in-Some.ensures in
     let set : MatchResult r (λ _. IsTrue fits × (edits.edited.left.now ≡ c.args.value)) (λ fault. IsFalse fits × (fault ≡ Refused TooDeep)) = search rules in
     let will : document edits.after ≡ document edits.edited.left.now = ap document (sym edits.edited.leaves) in

@@ -1,5 +1,5 @@
 use Rattle.std.proofs.Common.{◌<◌, ◌^◌, length, arith}
-use Rattle.mp_patch.proofs.EditLemmas.{no_index_here, past_end}
+use Rattle.mp_pointer.proofs.Facts.{no_index_here, past_end}
 use Rattle.mp_patch.proofs.StepLemmas.{element_removed}
 use Rattle.mp_patch.proofs.steps.take_element.Goals as goal
 

@@ -49,7 +49,7 @@ use Rattle.mp_tree.proofs.doc.Doc.TheLaws as doc_laws
 use Rattle.mp_pointer.specs.contracts.pointer.Pointer as pointer
 use Rattle.mp_pointer.specs.Lent.{IsList, LendsPart, LendsPartOf, PartBecomes, one_token}
 use Rattle.mp_tree.specs.Rows.{doc_row, items_row, members_row}
-use Rattle.mp_pointer.proofs.ChildLemmas.{scalar_part}
+use Rattle.mp_pointer.proofs.LentLemmas.{scalar_part}
 use Rattle.mp_pointer.proofs.Following.{arm_of, when_true, when_false, cases, spelled, spelled_typed, option_spelled, some_apart, none_apart, none_so, then_so, shares_again, shared_back, Kept}
 use Rattle.mp_pointer.specs.contracts.lent.child_mut as f
 use Rattle.mp_pointer.proofs.lent.child_mut.Statement.{statement}

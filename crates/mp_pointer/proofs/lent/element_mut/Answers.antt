@@ -4,7 +4,7 @@ use Rattle.std.specs.Vec.{with_item}
 use Rattle.mp_tree.specs.View.{document}
 use Rattle.mp_tree.specs.declared.doc.Doc.TheVariants.{Items}
 use Rattle.mp_pointer.specs.Lent.{PartBecomes}
-use Rattle.mp_pointer.proofs.ChildLemmas.{one_token-is, part-at, element_lent, element_there, no_index_there}
+use Rattle.mp_pointer.proofs.LentLemmas.{one_token-is, part-at, element_lent, element_there, no_index_here}
 use Rattle.mp_pointer.proofs.lent.element_mut.Goals as goal
 
 pub returns-in_err-index : goal.returns-in_err-index
@@ -13,7 +13,7 @@ returns-in_err-index c =
     let token = c.in_ok-token.token.now in
     let short : length docs.items < 2 ^ 64 = omega (arith, docs.small, docs.ok.0) in
     rw c.from_residual-in_err-index.ensures
-    ((refl, (λ w. tt), refl), record { writes_back = tt; value = sym (part-at (document (Items docs)) c.args.pointer.now c.args.place token (sym c.in_ok-token.ensures) ∙ no_index_there token docs short c.in_err-index.ensures) })
+    ((refl, (λ w. tt), refl), record { writes_back = tt; value = sym (part-at (document (Items docs)) c.args.pointer.now c.args.place token (sym c.in_ok-token.ensures) ∙ no_index_here token docs short c.in_err-index.ensures) })
 
 pub returns : goal.returns
 returns c =
