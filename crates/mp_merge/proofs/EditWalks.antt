@@ -1,5 +1,5 @@
 -- What each arm of the walk over a patch and a document adds.
-use Rattle.std.proofs.Common.{◌≡◌, ◌≢◌, inr, ℕ, List, [], ◌∷◌, ◌++◌, Option, Some, None, option_map, Bor, refl, sym, ap, ap₂, ◌∙◌, subst}
+use Rattle.std.proofs.Common.{◌≡◌, ◌≢◌, inr, ℕ, List, [], ◌∷◌, ◌++◌, Option, Some, None, option_map, Bor, refl, sym, ap, ap₂, ◌∙◌}
 use Rattle.std.proofs.lemmas.List.{map-append}
 use Rattle.std.specs.Option.{option_copied}
 use Rattle.mp_tree.specs.Document.{Document, null, flag, whole, string, list, object, Members, member, find}
@@ -104,5 +104,5 @@ pub lent_part : (o : Option (Bor Doc)) → option_map (λ (v : Bor Doc). documen
 lent_part None = refl
 lent_part (Some v) = refl
 
-pub renamed : (now later : List Guarded) (s : Path) (m n : List ℕ) (p : Document) (t o : Option Document) → m ≡ n → t ≡ o → Grew now later (AreEdits (s ++ m ∷ []) p t) → Grew now later (AreEdits (s ++ n ∷ []) p o)
-renamed now later s m n p t o name part grew = subst (λ x. Grew now later (AreEdits (s ++ n ∷ []) p x)) part (subst (λ k. Grew now later (AreEdits (s ++ k ∷ []) p t)) name grew)
+pub renamed : (now later : List Guarded) (w s : Path) (m n : List ℕ) (p : Document) (t o : Option Document) → w ≡ s → m ≡ n → t ≡ o → Grew now later (AreEdits (w ++ m ∷ []) p t) → Grew now later (AreEdits (s ++ n ∷ []) p o)
+renamed now later w s m n p t o path name part grew = rw (← path, ← name, ← part) grew

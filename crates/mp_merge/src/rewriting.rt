@@ -90,7 +90,7 @@ fn push_all(patch: &Doc, doc: &Doc, edits: &mut Vec<Edit>, alloc: Global) -> Res
     match patch {
         Doc::Members(changes) => match doc {
             Doc::Members(entries) => {
-                push_member_edits(changes, entries, &Pointer::empty(alloc), edits, alloc)
+                push_member_edits(changes, entries, &mut Pointer::empty(alloc), edits, alloc)
             }
             _ => push_root_edit(patch, doc, edits, alloc),
         },
@@ -113,20 +113,22 @@ fn push_root_edit(
         return Ok(());
     }
     let op = Op::Replace(Pointer::empty(alloc), merge(alloc, None, patch)?);
-    edits.push(guarded(&Pointer::empty(alloc), doc, op, alloc)?)?;
+    edits.push(guarded(Pointer::empty(alloc), doc, op, alloc)?)?;
     Ok(())
 }
 
+// `path` leads to both objects, and is as it was at the end.
 #[cycle(push_edits)]
 fn push_member_edits(
     changes: &BTreeMap<String, Doc>,
     entries: &BTreeMap<String, Doc>,
-    path: &Pointer,
+    path: &mut Pointer,
     edits: &mut Vec<Edit>,
     alloc: Global,
 ) -> Result<(), AllocError>
-    ensures { OnOk result (Grew (all_guarded edits.old.items) (all_guarded edits.new.items)
-        (AreMemberEdits path.now (members changes.now.entries) (members entries.now.entries))) }
+    ensures path { OnOk result (path.new ≡ path.old) }
+    ensures edits { OnOk result (Grew (all_guarded edits.old.items) (all_guarded edits.new.items)
+        (AreMemberEdits path.old (members changes.now.entries) (members entries.now.entries))) }
 {
     for (name, change) in changes.iter() {
         let value = entries.get(name.as_str());
@@ -135,26 +137,30 @@ fn push_member_edits(
     Ok(())
 }
 
-// The patch comes first: the recursion goes down it. The path of the place itself is made only where it is needed.
+// The patch comes first: the recursion goes down it. `path` leads to what has the name; a copy of it is made only where
+// there is an edit.
 #[cycle(push_edits)]
 fn push_edits(
     change: &Doc,
     value: Option<&Doc>,
-    path: &Pointer,
+    path: &mut Pointer,
     name: &str,
     edits: &mut Vec<Edit>,
     alloc: Global,
 ) -> Result<(), AllocError>
-    ensures { OnOk result (Grew (all_guarded edits.old.items) (all_guarded edits.new.items)
-        (AreEdits (path.now ++ name.now ∷ []) (document change.now)
+    ensures path { OnOk result (path.new ≡ path.old) }
+    ensures edits { OnOk result (Grew (all_guarded edits.old.items) (all_guarded edits.new.items)
+        (AreEdits (path.old ++ name.now ∷ []) (document change.now)
         (option_map (λ v. document v.now) value.entry))) }
 {
     match change {
         Doc::Members(changes) => match value {
             Some(there) => match there {
                 Doc::Members(entries) => {
-                    let place = path.child(alloc, name)?;
-                    push_member_edits(changes, entries, &place, edits, alloc)
+                    path.push(alloc, name)?;
+                    push_member_edits(changes, entries, path, edits, alloc)?;
+                    path.pop();
+                    Ok(())
                 }
                 _ => push_edit(change, value, path, name, edits, alloc),
             },
@@ -183,7 +189,7 @@ fn push_edit(
             if is_null(change) {
                 let place = path.child(alloc, name)?;
                 let op = Op::Remove(place.copy(alloc)?);
-                edits.push(guarded(&place, there, op, alloc)?)?;
+                edits.push(guarded(place, there, op, alloc)?)?;
                 return Ok(());
             }
             if change.same(there) {
@@ -191,7 +197,7 @@ fn push_edit(
             }
             let place = path.child(alloc, name)?;
             let op = Op::Replace(place.copy(alloc)?, merge(alloc, None, change)?);
-            edits.push(guarded(&place, there, op, alloc)?)?;
+            edits.push(guarded(place, there, op, alloc)?)?;
             Ok(())
         }
         None => {
@@ -207,10 +213,10 @@ fn push_edit(
 }
 
 // The edit, with the test of what is there.
-fn guarded(place: &Pointer, there: &Doc, op: Op, alloc: Global) -> Result<Edit, AllocError>
+fn guarded(place: Pointer, there: &Doc, op: Op, alloc: Global) -> Result<Edit, AllocError>
     ensures { IfOk result (λ e. guarded_of e
-        ≡ (test place.now (document there.now) ∷ [], operation_of op)) }
+        ≡ (test place (document there.now) ∷ [], operation_of op)) }
 {
-    let guard = Some(Op::Test(place.copy(alloc)?, there.copy(alloc)?));
+    let guard = Some(Op::Test(place, there.copy(alloc)?));
     Ok(Edit { guard, op })
 }

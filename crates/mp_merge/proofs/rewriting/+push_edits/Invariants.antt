@@ -1,4 +1,4 @@
-use Rattle.std.proofs.Common.{string_cmp}
+use Rattle.std.proofs.Common.{◌≡◌, string_cmp}
 use Rattle.std.specs.List.Sorted.{IsStrictlySortedBy}
 use Rattle.std.specs.Map.{keys_of}
 use Rattle.mp_tree.specs.View.{members}
@@ -8,6 +8,8 @@ use Rattle.mp_merge.proofs.rewriting.+push_edits.Given as goal
 
 -- the edits of the changes that are left, added to those that are there, are the edits of all
 abbrev pub invariant-push_member_edits-loop-name : goal.invariant-push_member_edits-loop-name
-invariant-push_member_edits-loop-name l =
-    IsStrictlySortedBy string_cmp (keys_of l.name-iterator)
-    × IsEditsRest (all_guarded l.initial.edits.items) (all_guarded l.edits.items) l.path (members l.changes.entries) (members l.name-iterator) (members l.entries.entries)
+invariant-push_member_edits-loop-name l = record {
+  ascends : IsStrictlySortedBy string_cmp (keys_of l.name-iterator);
+  path : l.path ≡ l.initial.path;
+  rest : IsEditsRest (all_guarded l.initial.edits.items) (all_guarded l.edits.items) l.initial.path (members l.changes.entries) (members l.name-iterator) (members l.entries.entries);
+}

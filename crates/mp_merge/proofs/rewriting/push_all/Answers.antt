@@ -10,4 +10,4 @@ pub returns-in-Members-doc : goal.returns-in-Members-doc
 returns-in-Members-doc c =
     let patch : document c.args.patch.now ≡ object (members c.in-Members.changes.entries) = ap document c.in-Members.is ∙ document-Members c.in-Members.changes in
     let doc : document c.args.doc.now ≡ object (members c.in-Members-doc.entries.entries) = ap document c.in-Members-doc.is ∙ document-Members c.in-Members-doc.entries in
-    on_ok_weaker c.push_member_edits-in-Members-doc.result (both_maps _ _ _ _ _ _ _ _ patch (ap Some doc) c.empty.ensures) c.push_member_edits-in-Members-doc.ensures
+    on_ok_weaker c.push_member_edits.result (both_maps _ _ _ _ _ _ _ _ patch (ap Some doc) c.empty.ensures) c.push_member_edits.ensures.edits
