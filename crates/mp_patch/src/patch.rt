@@ -8,7 +8,7 @@ ghost use Rattle.mp_patch.specs.View.{operations_of};
 use crate::fault::FormFault;
 use crate::op::Op;
 use crate::reading::read_ops;
-use crate::writing::shapes_of;
+use crate::writing::{owned_shapes_of, shapes_of};
 use mp_tree::Doc;
 use std::alloc::{AllocError, Global};
 use std::marker::Model;
@@ -98,5 +98,14 @@ impl JsonPatch {
             depth (document d) ≤ 2 + deepest (operations_of self.now)) }
     {
         Ok(Doc::Items(shapes_of(self.ops(), alloc)?))
+    }
+
+    /// As `to_doc`, of a patch that is given away: its values are moved and not copied.
+    pub fn into_doc(self, alloc: Global) -> Result<Doc, AllocError>
+        ensures document { IfOk result (λ d. document d ≡ shapes (operations_of self)) }
+        ensures depth { IfOk result (λ d.
+            depth (document d) ≤ 2 + deepest (operations_of self)) }
+    {
+        Ok(Doc::Items(owned_shapes_of(self.ops, alloc)?))
     }
 }

@@ -26,23 +26,55 @@ fn shape_of(op: &Op, alloc: Global) -> Result<Doc, AllocError>
     ensures { IfOk result (λ d. document d ≡ shape (operation_of op.now)) }
 {
     match op {
-        Op::Add(path, value) => with_value(alloc, "add", path, value),
-        Op::Remove(path) => Ok(Doc::Members(named(alloc, "remove", path)?)),
-        Op::Replace(path, value) => with_value(alloc, "replace", path, value),
+        Op::Add(path, value) => with_value(alloc, "add", path, value.copy(alloc)?),
+        Op::Remove(path) => without_value(alloc, "remove", path),
+        Op::Replace(path, value) => with_value(alloc, "replace", path, value.copy(alloc)?),
         Op::Move { origin, path } => with_origin(alloc, "move", origin, path),
         Op::Copy { origin, path } => with_origin(alloc, "copy", origin, path),
-        Op::Test(path, value) => with_value(alloc, "test", path, value),
+        Op::Test(path, value) => with_value(alloc, "test", path, value.copy(alloc)?),
     }
 }
 
-fn with_value(alloc: Global, name: &str, path: &Pointer, value: &Doc) -> Result<Doc, AllocError>
+// The same of operations that are owned: their values are moved.
+pub(crate) fn owned_shapes_of(ops: Vec<Op>, alloc: Global) -> Result<Vec<Doc>, AllocError>
+    ensures { IfOk result (λ docs. items docs.items
+        ≡ items_of (map shape (operations_of ops.items))) }
+{
+    let mut elements = Vec::with_capacity(alloc, ops.len())?;
+    for op in ops {
+        elements.push(owned_shape_of(op, alloc)?)?;
+    }
+    Ok(elements)
+}
+
+fn owned_shape_of(op: Op, alloc: Global) -> Result<Doc, AllocError>
+    ensures { IfOk result (λ d. document d ≡ shape (operation_of op)) }
+{
+    match op {
+        Op::Add(path, value) => with_value(alloc, "add", &path, value),
+        Op::Remove(path) => without_value(alloc, "remove", &path),
+        Op::Replace(path, value) => with_value(alloc, "replace", &path, value),
+        Op::Move { origin, path } => with_origin(alloc, "move", &origin, &path),
+        Op::Copy { origin, path } => with_origin(alloc, "copy", &origin, &path),
+        Op::Test(path, value) => with_value(alloc, "test", &path, value),
+    }
+}
+
+fn with_value(alloc: Global, name: &str, path: &Pointer, value: Doc) -> Result<Doc, AllocError>
     ensures { IfOk result (λ d. document d ≡ object (members_of
         (op_member name.now ∷ path_member path.now
-        ∷ value_member (document value.now) ∷ []))) }
+        ∷ value_member (document value) ∷ []))) }
 {
     let mut entries = named(alloc, name, path)?;
-    set(&mut entries, "value", value.copy(alloc)?, alloc)?;
+    set(&mut entries, "value", value, alloc)?;
     Ok(Doc::Members(entries))
+}
+
+fn without_value(alloc: Global, name: &str, path: &Pointer) -> Result<Doc, AllocError>
+    ensures { IfOk result (λ d. document d ≡ object (members_of
+        (op_member name.now ∷ path_member path.now ∷ []))) }
+{
+    Ok(Doc::Members(named(alloc, name, path)?))
 }
 
 fn with_origin(
