@@ -1,7 +1,7 @@
 //! Runs over a reader and writers of which one call goes wrong: what was counted is what the device saw. And runs on
 //! input at its limits.
 
-use crate::{Command, Counted, RunFault, run};
+use crate::{Command, Counted, INPUT_LIMIT, READ_LIMIT, RunFault, run};
 use std::alloc::{AllocError, Global};
 use std::io;
 use std::io::{Read, Write};
@@ -279,6 +279,12 @@ fn each_read_is_counted(rt: HostRuntime) {
     assert_eq!(rt; result.out.failures(), 0);
     assert_eq!(rt; result.out.into_device().calls, 21);
     expect_untouched(&rt, result.err);
+}
+
+#[test]
+fn the_limits_are_a_mebibyte_and_one_read_more(rt: HostRuntime) {
+    assert_eq!(rt; INPUT_LIMIT, 1_048_576);
+    assert_eq!(rt; READ_LIMIT, 1_048_577);
 }
 
 #[test]
