@@ -16,3 +16,5 @@ mod patch_rows;
 mod rewrite_rows;
 #[cfg(test)]
 mod rows;
+#[cfg(test)]
+mod sizes;

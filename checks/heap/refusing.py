@@ -1,0 +1,35 @@
+"""Runs a program under the heap of refusing_heap.c, which is built by the toolchain's own clang and preloaded."""
+
+import os
+import pathlib
+import subprocess
+
+TOP = pathlib.Path(__file__).resolve().parent.parent.parent
+
+
+class Ran:
+    """How a run ended, and what its heap counted. `requests` is None where the heap was not there."""
+
+    def __init__(self, done, report):
+        self.ending = (done.returncode, done.stdout.decode(), done.stderr.decode())
+        self.requests, self.refused, self.lost = None, 0, 0
+        if report.exists():
+            self.requests, self.refused, self.lost = [int(word) for word in report.read_text().split()]
+
+
+class Heap:
+    def __init__(self, folder):
+        self.library = folder / "refusing_heap.so"
+        self.report = folder / "report"
+        doc = subprocess.run(["rt", "doc"], capture_output=True, text=True, check=True).stdout.split()[0]
+        clang = pathlib.Path(doc).parent / "toolchain/bin/clang"
+        options = ["-O1", "-shared", "-fPIC", "-nostdlib", "-ffreestanding", "-fuse-ld=lld"]
+        source = TOP / "checks/heap/refusing_heap.c"
+        subprocess.run([clang, *options, "-o", self.library, source], check=True)
+
+    def run(self, words, given, how, number):
+        """Runs the words with request `number` refused (REFUSE_AT), or each from it on (REFUSE_FROM)."""
+        self.report.unlink(missing_ok=True)
+        setting = os.environ | {"LD_PRELOAD": str(self.library), "REFUSED_REPORT": str(self.report), how: str(number)}
+        done = subprocess.run(words, input=given, capture_output=True, env=setting, timeout=60)
+        return Ran(done, self.report)

@@ -1,0 +1,146 @@
+//! The calls of mp_patch that take memory.
+use crate::seen::{Seen, doc_of, has_tokens, pointer_of, tell};
+use mp_patch::{ApplyFault, FormFault, JsonPatch, Op};
+use mp_tree::Doc;
+use std::alloc::Global;
+use std::test::Fail;
+
+const FORM: &str = r#"[{"op":"move","path":"/b","from":"/a"}]"#;
+
+/// A patch in which each operation has something to do.
+const LONG_FORM: &str =
+    r#"[{"op":"add","path":"/l/-","value":{"x":[3]}},{"op":"test","path":"/n","value":"t"},{"op":"copy","from":"/n","path":"/l/0"},{"op":"replace","path":"/n","value":[null]},{"op":"move","from":"/l/1","path":"/m"},{"op":"remove","path":"/l/1"}]"#;
+
+const DOC: &str = r#"{"l":[1,2],"n":"t"}"#;
+
+const END: &str = r#"{"l":["t",{"x":[3]}],"m":1,"n":[null]}"#;
+
+/// Whether the patch is the one of `FORM`. It takes no memory.
+fn is_move(patch: &JsonPatch) -> bool {
+    match patch.ops() {
+        [Op::Move { origin, path }] => has_tokens(origin, &["a"]) && has_tokens(path, &["b"]),
+        _ => false,
+    }
+}
+
+/// After a refusal the list is the one from before.
+fn watch_push(alloc: Global) -> Option<Seen> {
+    let mut patch = JsonPatch::new(alloc);
+    let origin = pointer_of(alloc, "/a")?;
+    let path = pointer_of(alloc, "/b")?;
+    Some(match patch.push(Op::Move { origin, path }) {
+        Ok(()) => Seen::answer_if(is_move(&patch)),
+        Err(_) => Seen::NoMemory.with(patch.ops().is_empty()),
+    })
+}
+
+#[test]
+fn push(rt: HostRuntime) -> Result<(), Fail> {
+    tell(&rt, watch_push(rt.alloc()))
+}
+
+/// The same where the list has operations before.
+fn watch_fifth_push(alloc: Global) -> Option<Seen> {
+    let mut patch = JsonPatch::new(alloc);
+    for text in ["/a", "/b", "/c", "/d"] {
+        patch.push(Op::Remove(pointer_of(alloc, text)?)).ok()?;
+    }
+    let path = pointer_of(alloc, "/e")?;
+    Some(match patch.push(Op::Remove(path)) {
+        Ok(()) => Seen::answer_if(removes(&patch, &["a", "b", "c", "d", "e"])),
+        Err(_) => Seen::NoMemory.with(removes(&patch, &["a", "b", "c", "d"])),
+    })
+}
+
+/// Whether the patch removes these names, in this order, and does nothing else. It takes no memory.
+fn removes(patch: &JsonPatch, names: &[&str]) -> bool {
+    if patch.ops().len() != names.len() {
+        return false;
+    }
+    for (op, name) in patch.ops().iter().zip(names) {
+        match op {
+            Op::Remove(path) if has_tokens(path, &[*name]) => {}
+            _ => return false,
+        }
+    }
+    true
+}
+
+#[test]
+fn fifth_push(rt: HostRuntime) -> Result<(), Fail> {
+    tell(&rt, watch_fifth_push(rt.alloc()))
+}
+
+fn watch_from_doc(alloc: Global) -> Option<Seen> {
+    let form = doc_of(alloc, FORM)?;
+    let before = doc_of(alloc, FORM)?;
+    let seen = match JsonPatch::from_doc(alloc, &form) {
+        Ok(patch) => Seen::answer_if(is_move(&patch)),
+        Err(FormFault::OutOfMemory) => Seen::NoMemory,
+        Err(_) => Seen::Wrong,
+    };
+    Some(seen.with(form.same(&before)))
+}
+
+#[test]
+fn from_doc(rt: HostRuntime) -> Result<(), Fail> {
+    tell(&rt, watch_from_doc(rt.alloc()))
+}
+
+fn watch_to_doc(alloc: Global) -> Option<Seen> {
+    let form = doc_of(alloc, LONG_FORM)?;
+    let patch = JsonPatch::from_doc(alloc, &form).ok()?;
+    Some(Seen::of_doc(patch.to_doc(alloc), &form))
+}
+
+#[test]
+fn to_doc(rt: HostRuntime) -> Result<(), Fail> {
+    tell(&rt, watch_to_doc(rt.alloc()))
+}
+
+fn watch_into_doc(alloc: Global) -> Option<Seen> {
+    let form = doc_of(alloc, LONG_FORM)?;
+    let patch = JsonPatch::from_doc(alloc, &form).ok()?;
+    Some(Seen::of_doc(patch.into_doc(alloc), &form))
+}
+
+#[test]
+fn into_doc(rt: HostRuntime) -> Result<(), Fail> {
+    tell(&rt, watch_into_doc(rt.alloc()))
+}
+
+fn of_application(given: Result<Doc, ApplyFault>, wanted: &Doc) -> Seen {
+    match given {
+        Ok(doc) => Seen::answer_if(doc.same(wanted)),
+        Err(ApplyFault::OutOfMemory) => Seen::NoMemory,
+        Err(_) => Seen::Wrong,
+    }
+}
+
+fn watch_apply(alloc: Global) -> Option<Seen> {
+    let form = doc_of(alloc, LONG_FORM)?;
+    let patch = JsonPatch::from_doc(alloc, &form).ok()?;
+    let doc = doc_of(alloc, DOC)?;
+    let before = doc_of(alloc, DOC)?;
+    let end = doc_of(alloc, END)?;
+    let seen = of_application(mp_patch::apply(alloc, &doc, &patch), &end);
+    Some(seen.with(doc.same(&before)))
+}
+
+#[test]
+fn apply(rt: HostRuntime) -> Result<(), Fail> {
+    tell(&rt, watch_apply(rt.alloc()))
+}
+
+fn watch_apply_owned(alloc: Global) -> Option<Seen> {
+    let form = doc_of(alloc, LONG_FORM)?;
+    let patch = JsonPatch::from_doc(alloc, &form).ok()?;
+    let doc = doc_of(alloc, DOC)?;
+    let end = doc_of(alloc, END)?;
+    Some(of_application(mp_patch::apply_owned(alloc, doc, &patch), &end))
+}
+
+#[test]
+fn apply_owned(rt: HostRuntime) -> Result<(), Fail> {
+    tell(&rt, watch_apply_owned(rt.alloc()))
+}

@@ -1,0 +1,220 @@
+//! The calls of mp_cli that take memory.
+use crate::seen::{Seen, tell};
+use mp_cli::{Answer, Command, CommandFault, Counted, RunFault};
+use std::alloc::{AllocError, Global};
+use std::io;
+use std::io::{Read, Write};
+use std::test::Fail;
+
+/// Two patches with three clashes.
+const CLASHING: &[u8] =
+    br#"[{"a":{"x":1,"y":[1]},"b":{},"c":0},{"a":{"x":2,"y":[1]},"b":null,"c":{"d":1}}]"#;
+
+const CONFLICT_LINE: &str = "conflict: patches 0 and 1 at \"/a/x\", \"/b\", \"/c\"\n";
+
+fn words_of(alloc: Global, line: &str) -> Result<Vec<String>, AllocError> {
+    let mut words = Vec::new(alloc);
+    for word in line.split(' ') {
+        words.push(String::from_str(alloc, word)?)?;
+    }
+    Ok(words)
+}
+
+fn watch_command_of(alloc: Global) -> Option<Seen> {
+    let words = words_of(alloc, "mergejoin merge").ok()?;
+    Some(match mp_cli::command_of(alloc, words) {
+        Ok(Command::Merge) => Seen::Answer,
+        Err(CommandFault::OutOfMemory) => Seen::NoMemory,
+        _ => Seen::Wrong,
+    })
+}
+
+#[test]
+fn command_of(rt: HostRuntime) -> Result<(), Fail> {
+    tell(&rt, watch_command_of(rt.alloc()))
+}
+
+fn watch_command_of_a_stranger(alloc: Global) -> Option<Seen> {
+    let words = words_of(alloc, "mergejoin frob").ok()?;
+    Some(match mp_cli::command_of(alloc, words) {
+        Err(CommandFault::Usage(_)) => Seen::Answer,
+        Err(CommandFault::OutOfMemory) => Seen::NoMemory,
+        _ => Seen::Wrong,
+    })
+}
+
+#[test]
+fn command_of_a_stranger(rt: HostRuntime) -> Result<(), Fail> {
+    tell(&rt, watch_command_of_a_stranger(rt.alloc()))
+}
+
+fn watch_answer(alloc: Global, command: &Command, input: &[u8], wanted: (&str, u8)) -> Seen {
+    match mp_cli::answer(alloc, command, input) {
+        Ok(Answer { text, status }) => Seen::answer_if((text.as_str(), status) == wanted),
+        Err(_) => Seen::NoMemory,
+    }
+}
+
+fn watch_answer_to_get(alloc: Global) -> Option<Seen> {
+    let command = Command::Get(String::from_str(alloc, "/a~1b/1").ok()?);
+    let input = br#"[{"a/b":[0,{"c":"text"}]}]"#;
+    Some(watch_answer(alloc, &command, input, ("{\"c\":\"text\"}\n", 0)))
+}
+
+#[test]
+fn answer_to_get(rt: HostRuntime) -> Result<(), Fail> {
+    tell(&rt, watch_answer_to_get(rt.alloc()))
+}
+
+fn watch_answer_to_a_bad_pointer(alloc: Global) -> Option<Seen> {
+    let command = Command::Get(String::from_str(alloc, "/a~2").ok()?);
+    Some(watch_answer(alloc, &command, b"[5]", ("pointer: bad tilde at 2\n", 2)))
+}
+
+#[test]
+fn answer_to_a_bad_pointer(rt: HostRuntime) -> Result<(), Fail> {
+    tell(&rt, watch_answer_to_a_bad_pointer(rt.alloc()))
+}
+
+#[test]
+fn answer_to_patch(rt: HostRuntime) -> Result<(), Fail> {
+    let input =
+        br#"[{"a":1},[{"op":"add","path":"/b","value":2},{"op":"test","path":"/a","value":9}]]"#;
+    let line = ("operation 1: test failed\n", 1);
+    tell(
+        &rt,
+        Some(watch_answer(rt.alloc(), &Command::Patch, input, line)),
+    )
+}
+
+#[test]
+fn answer_to_merge(rt: HostRuntime) -> Result<(), Fail> {
+    let input = br#"[{"a":"b","c":{"d":1}},{"a":null,"c":{"e":2}}]"#;
+    let line = ("{\"c\":{\"d\":1,\"e\":2}}\n", 0);
+    tell(
+        &rt,
+        Some(watch_answer(rt.alloc(), &Command::Merge, input, line)),
+    )
+}
+
+#[test]
+fn answer_to_join(rt: HostRuntime) -> Result<(), Fail> {
+    tell(
+        &rt,
+        Some(watch_answer(rt.alloc(), &Command::Join, CLASHING, (CONFLICT_LINE, 1))),
+    )
+}
+
+#[test]
+fn answer_to_replay(rt: HostRuntime) -> Result<(), Fail> {
+    let input = br#"[{"k":0},{"k":null},{"a":{"y":null}},{"a":{"x":1}},{"k":null}]"#;
+    let line = ("{\"a\":{\"x\":1}}\n", 0);
+    tell(
+        &rt,
+        Some(watch_answer(rt.alloc(), &Command::Replay, input, line)),
+    )
+}
+
+#[test]
+fn answer_to_rewrite(rt: HostRuntime) -> Result<(), Fail> {
+    let input = br#"[{"a":1,"b":2},{"a":null,"b":3}]"#;
+    let line = (
+        "[{\"op\":\"test\",\"path\":\"/a\",\"value\":1},{\"op\":\"test\",\"path\":\"/b\",\"value\":2},{\"op\":\"remove\",\"path\":\"/a\"},{\"op\":\"replace\",\"path\":\"/b\",\"value\":3}]\n",
+        0,
+    );
+    tell(
+        &rt,
+        Some(watch_answer(rt.alloc(), &Command::Rewrite, input, line)),
+    )
+}
+
+/// A writer with room for what a row writes, so that it takes no memory.
+#[derive(Drop)]
+struct Page {
+    room: [u8; 64],
+    taken: usize,
+}
+
+impl Write for Page {
+    fn write(&mut self, buf: &[u8]) -> io::Result<usize> {
+        let count = buf.len().min(self.room.len().saturating_sub(self.taken));
+        let end = self.taken.saturating_add(count).min(self.room.len());
+        let start = end.saturating_sub(count);
+        self.room[start..end].copy_from_slice(&buf[..count]);
+        self.taken = end;
+        Ok(count)
+    }
+
+    fn flush(&mut self) -> io::Result<()> {
+        Ok(())
+    }
+}
+
+impl Page {
+    fn text(&self) -> &[u8] {
+        let end = self.taken.min(self.room.len());
+        &self.room[..end]
+    }
+}
+
+const BLANK: Page = Page {
+    room: [0; 64],
+    taken: 0,
+};
+
+/// A reader of `[5`, spaces and `]`, of 1,048,576 bytes in all, that takes no memory.
+#[derive(Drop)]
+struct Padded {
+    given: usize,
+}
+
+impl Read for Padded {
+    fn read(&mut self, buf: &mut [u8]) -> io::Result<usize> {
+        let count = buf.len().min(1_048_576usize.saturating_sub(self.given));
+        for place in 0..count {
+            buf[place] = match self.given.saturating_add(place) {
+                0 => b'[',
+                1 => b'5',
+                1_048_575 => b']',
+                _ => b' ',
+            };
+        }
+        self.given = self.given.saturating_add(count);
+        Ok(count)
+    }
+}
+
+/// A run: where it gives a status, the line whole on that writer and nothing on the other; where memory is wanted,
+/// nothing on either.
+fn watch_run<R: Read + Drop>(
+    alloc: Global,
+    command: &Command,
+    reader: R,
+    line: &str,
+    wanted: u8,
+) -> Seen {
+    let mut input = Counted::new(reader);
+    let mut out = Counted::new(BLANK);
+    let mut err = Counted::new(BLANK);
+    let given = mp_cli::run(alloc, command, &mut input, &mut out, &mut err);
+    let [out, err] = [out.into_device(), err.into_device()];
+    let (told, other) = if wanted == 0 { (out, err) } else { (err, out) };
+    match given {
+        Ok(status) => Seen::answer_if(status == wanted && told.text() == line.as_bytes()),
+        Err(RunFault::OutOfMemory) => Seen::NoMemory.with(told.taken == 0),
+        Err(_) => Seen::Wrong,
+    }
+    .with(other.taken == 0)
+}
+
+#[test]
+fn run(rt: HostRuntime) -> Result<(), Fail> {
+    let seen = watch_run(rt.alloc(), &Command::Merge, Padded { given: 0 }, "5\n", 0);
+    tell(&rt, Some(seen))
+}
+
+#[test]
+fn run_that_refuses(rt: HostRuntime) -> Result<(), Fail> {
+    let seen = watch_run(rt.alloc(), &Command::Join, CLASHING, CONFLICT_LINE, 1);
+    tell(&rt, Some(seen))
+}
