@@ -60,19 +60,14 @@ fn merge_owned(rt: HostRuntime) -> Result<(), Fail> {
     tell(&rt, watch_merge_owned(rt.alloc()))
 }
 
-/// After a refusal a second call ends as the first would have.
 fn watch_merge_into(alloc: Global) -> Option<Seen> {
     let mut target = doc_of(alloc, TARGET)?;
     let patch = doc_of(alloc, CHANGE)?;
     let before = doc_of(alloc, CHANGE)?;
     let wanted = doc_of(alloc, MERGED)?;
-    let first = mp_merge::merge_into(alloc, &mut target, &patch);
-    let seen = match first {
+    let seen = match mp_merge::merge_into(alloc, &mut target, &patch) {
         Ok(()) => Seen::answer_if(target.same(&wanted)),
-        Err(_) => match mp_merge::merge_into(alloc, &mut target, &patch) {
-            Ok(()) => Seen::NoMemory.with(target.same(&wanted)),
-            Err(_) => Seen::NoMemory,
-        },
+        Err(_) => Seen::NoMemory,
     };
     Some(seen.with(patch.same(&before)))
 }
@@ -80,6 +75,25 @@ fn watch_merge_into(alloc: Global) -> Option<Seen> {
 #[test]
 fn merge_into(rt: HostRuntime) -> Result<(), Fail> {
     tell(&rt, watch_merge_into(rt.alloc()))
+}
+
+/// After a refusal a second call, of which no request is refused, ends as the first would have.
+fn watch_merge_into_again(alloc: Global) -> Option<Seen> {
+    let mut target = doc_of(alloc, TARGET)?;
+    let patch = doc_of(alloc, CHANGE)?;
+    let wanted = doc_of(alloc, MERGED)?;
+    if mp_merge::merge_into(alloc, &mut target, &patch).is_ok() {
+        return Some(Seen::answer_if(target.same(&wanted)));
+    }
+    Some(match mp_merge::merge_into(alloc, &mut target, &patch) {
+        Ok(()) => Seen::NoMemory.with(target.same(&wanted)),
+        Err(_) => Seen::Wrong,
+    })
+}
+
+#[test]
+fn merge_into_again(rt: HostRuntime) -> Result<(), Fail> {
+    tell(&rt, watch_merge_into_again(rt.alloc()))
 }
 
 /// The two patches of `CLASHING`, twice.
