@@ -2,17 +2,16 @@
 ghost use Rattle.std.specs.Prelude.{◌≡◌, ◌≢◌, ◌++◌, ◌∷◌, [], List, map, IfOk, option_map, string_bytes};
 ghost use Rattle.mp_tree.specs.View.{document, items};
 ghost use Rattle.mp_patch.specs.View.{operations_of};
-ghost use Rattle.mp_pointer.specs.Part.{numeral, part as part_at};
+ghost use Rattle.mp_pointer.specs.Part.{numeral};
 ghost use Rattle.mp_cli.specs.Answered.{Gives, IsAnswered, IsJoinAnswer, IsPatchAnswer, IsPatchAnswerTo, IsReplayAnswerTo, IsRewriteAnswer, IsRewriteAnswerTo, IsRunAnswer, answered_by, bad_tilde_line, cause_words, conflict_line, form_fault, form_words, get_answer, input_fault, line as line_with, list_fault, merge_answer, operation_line, part_line, pointer_text, pointers_text, run_fault, spelling_fault, wrong_shape as shape_fault};
 
 use crate::answers::Answer;
 use crate::command::Command;
 use mp_merge::{ListFault, join_all, merge_owned, replay_owned, rewrite as rewriting};
 use mp_patch::{ApplyFault, Cause, FormCause, FormFault, JsonPatch, apply_owned};
-use mp_pointer::{Pointer, PointerFault, get_mut};
-use mp_tree::{Doc, DocsFault, read_docs, write_owned, write_text};
+use mp_pointer::{Pointer, PointerFault, get as part_at};
+use mp_tree::{Doc, DocsFault, read_docs, write_doc, write_text};
 use std::alloc::{AllocError, Global};
-use std::mem;
 
 /// The status where the command has no result.
 const NO_RESULT: u8 = 1;
@@ -40,7 +39,7 @@ pub fn answer(alloc: Global, command: &Command, input: &[u8]) -> Result<Answer, 
 {
     match read_docs(alloc, input) {
         Ok(docs) => match command {
-            Command::Get(pointer) => get(alloc, pointer.as_str(), docs),
+            Command::Get(pointer) => get(alloc, pointer.as_str(), docs.as_slice()),
             Command::Patch => patch(alloc, docs),
             Command::Merge => merge(alloc, docs),
             Command::Join => join(alloc, docs.as_slice()),
@@ -80,25 +79,17 @@ fn line(alloc: Global, text: &str, status: u8) -> Result<Answer, AllocError>
     })
 }
 
-fn get(alloc: Global, pointer: &str, mut docs: Vec<Doc>) -> Result<Answer, AllocError>
-    ensures { Gives result (get_answer pointer.now (items docs.items)) }
+fn get(alloc: Global, pointer: &str, docs: &[Doc]) -> Result<Answer, AllocError>
+    ensures { Gives result (get_answer pointer.now (items docs.now)) }
 {
     if docs.len() != 1 {
         return wrong_shape(alloc);
     }
-    let doc = docs.remove(0);
+    let doc = &docs[0];
     match Pointer::parse(alloc, pointer) {
-        Ok(pointer) => part(alloc, part_of(doc, &pointer)),
+        Ok(pointer) => part(alloc, part_at(doc, &pointer)),
         Err(fault) => fault_in_spelling(alloc, fault),
     }
-}
-
-// The part that the pointer names, moved out of the document, of which the rest is dropped.
-fn part_of(mut doc: Doc, pointer: &Pointer) -> Option<Doc>
-    ensures { option_map document result ≡ part_at (document doc) pointer.now }
-{
-    let part = get_mut(&mut doc, pointer)?;
-    Some(mem::replace(part, Doc::Null))
 }
 
 fn fault_in_spelling(alloc: Global, fault: PointerFault) -> Result<Answer, AllocError>
@@ -119,11 +110,11 @@ fn bad_tilde(alloc: Global, place: usize) -> Result<Answer, AllocError>
     line(alloc, text.as_str(), REFUSED)
 }
 
-fn part(alloc: Global, found: Option<Doc>) -> Result<Answer, AllocError>
-    ensures { Gives result (part_line (option_map document found)) }
+fn part(alloc: Global, found: Option<&Doc>) -> Result<Answer, AllocError>
+    ensures { Gives result (part_line (option_map (λ d. document d.now) found.entry)) }
 {
     match found {
-        Some(doc) => printed(write_owned(alloc, doc)?),
+        Some(doc) => printed(write_doc(alloc, doc)?),
         None => line(alloc, "missing", NO_RESULT),
     }
 }
@@ -152,7 +143,7 @@ fn applied(alloc: Global, doc: Doc, patch: &JsonPatch) -> Result<Answer, AllocEr
     ensures { IfOk result (λ a. IsRunAnswer (document doc) (operations_of patch.now) (answered_by a)) }
 {
     match apply_owned(alloc, doc, patch) {
-        Ok(result) => printed(write_owned(alloc, result)?),
+        Ok(result) => printed(write_doc(alloc, &result)?),
         Err(fault) => fault_in_run(alloc, fault),
     }
 }
@@ -224,14 +215,14 @@ fn merge(alloc: Global, docs: Vec<Doc>) -> Result<Answer, AllocError>
     for patch in inputs {
         doc = merge_owned(alloc, Some(doc), patch)?;
     }
-    printed(write_owned(alloc, doc)?)
+    printed(write_doc(alloc, &doc)?)
 }
 
 fn join(alloc: Global, patches: &[Doc]) -> Result<Answer, AllocError>
     ensures { IfOk result (λ a. IsJoinAnswer (map document patches.now) (answered_by a)) }
 {
     match join_all(alloc, patches) {
-        Ok(joined) => printed(write_owned(alloc, joined)?),
+        Ok(joined) => printed(write_doc(alloc, &joined)?),
         Err(fault) => fault_in_list(alloc, fault),
     }
 }
@@ -244,7 +235,7 @@ fn replay(alloc: Global, mut docs: Vec<Doc>) -> Result<Answer, AllocError>
     }
     let start = docs.remove(0);
     match replay_owned(alloc, start, docs.as_slice()) {
-        Ok(doc) => printed(write_owned(alloc, doc)?),
+        Ok(doc) => printed(write_doc(alloc, &doc)?),
         Err(fault) => fault_in_list(alloc, fault),
     }
 }
@@ -320,7 +311,7 @@ fn rewritten(alloc: Global, doc: &Doc, patch: &Doc) -> Result<Answer, AllocError
     ensures { IfOk result (λ a. IsRewriteAnswer (document doc.now) (document patch.now) (answered_by a)) }
 {
     let edits = rewriting(alloc, doc, patch)?;
-    printed(write_owned(alloc, edits.into_doc(alloc)?)?)
+    printed(write_doc(alloc, &edits.into_doc(alloc)?)?)
 }
 
 fn printed(mut text: String) -> Result<Answer, AllocError>

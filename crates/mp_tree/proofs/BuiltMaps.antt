@@ -106,3 +106,17 @@ insert-last [] k v left ascending = refl
 insert-last (e ∷ es) k v left ascending =
     let above = below_is_above (string_bytes e.0) (string_bytes k) (below_middle e.0 k es v left ascending.0) in
     rw above (ap (λ fs. e ∷ fs) (insert-last es k v left ascending.1))
+
+all_up_to : {V : Type 0} (k l : String Global) (es : List (String Global × V)) (v : V) (left : List (String Global × V)) → AllByRecursion (λ y. string_cmp k y ≡ Less) (keys_of (es ++ (l, v) ∷ left)) → AllByRecursion (λ y. string_cmp k y ≡ Less) (keys_of (es ++ (l, v) ∷ []))
+all_up_to k l [] v left h = (h.0, tt)
+all_up_to k l (e ∷ es) v left h = (h.0, all_up_to k l es v left h.1)
+
+ascend_up_to : {V : Type 0} (es : List (String Global × V)) (k : String Global) (v : V) (left : List (String Global × V)) → IsStrictlySortedBy string_cmp (keys_of (es ++ (k, v) ∷ left)) → IsStrictlySortedBy string_cmp (keys_of (es ++ (k, v) ∷ []))
+unfolding IsStrictlySortedBy
+ascend_up_to [] k v left ascending = (tt, tt)
+ascend_up_to (e ∷ es) k v left ascending = (all_up_to e.0 k es v left ascending.0, ascend_up_to es k v left ascending.1)
+
+-- the same where the entries that are there are seen as others, which ascend with those that are left
+pub insert-last-seen : {V W C : Type 0} (f : V → C) (g : W → C) (es : List (String Global × V)) (fs : List (String Global × W)) (k : String Global) (v : V) (w : W) (left : List (String Global × W))
+    → map (seen f) (es ++ (k, v) ∷ []) ≡ map (seen g) (fs ++ (k, w) ∷ []) → IsStrictlySortedBy string_cmp (keys_of (fs ++ (k, w) ∷ left)) → insert_entry string_cmp es k v ≡ es ++ (k, v) ∷ []
+insert-last-seen f g es fs k v w left same ascending = insert-last es k v [] (ascend_from_seen f g (es ++ (k, v) ∷ []) (fs ++ (k, w) ∷ []) same (ascend_up_to fs k w left ascending))

@@ -9,7 +9,7 @@ use std::alloc::{AllocError, Global};
 use std::collections::BTreeMap;
 
 // Up to so many names an insertion each costs less.
-const FEW: usize = 8;
+pub(crate) const FEW: usize = 8;
 
 pub(crate) fn map_of<V: Drop>(
     alloc: Global,

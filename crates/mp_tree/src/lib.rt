@@ -6,10 +6,10 @@ pub mod container;
 pub mod doc;
 mod fits;
 pub mod laws;
-mod owned;
 mod parts;
 pub mod read;
 mod same;
+mod serialize;
 #[cfg(test)]
 mod tests;
 pub mod whole;
@@ -17,7 +17,6 @@ pub mod write;
 
 pub use container::{items_mut, members_mut};
 pub use doc::Doc;
-pub use owned::write_owned;
 pub use read::{DocsFault, ReadFault, read_doc, read_docs};
 pub use whole::Whole;
 pub use write::{write_doc, write_text};

@@ -4,7 +4,7 @@ ghost use Rattle.serde_json.specs.View.{view, items_view, members_view, number_v
 ghost use Rattle.mp_tree.specs.View.{document, items, members, number_of};
 ghost use Rattle.mp_tree.specs.Text.{document_from, items_from, members_from, whole_number};
 
-use crate::built::map_of;
+use crate::built::{FEW, map_of};
 use crate::doc::Doc;
 use crate::whole::Whole;
 use serde_json::{Map, Number, Value};
@@ -93,9 +93,31 @@ fn members_of(values: Map<String, Value>, alloc: Global) -> Result<BTreeMap<Stri
         → members_from (members_view values.entries) ≡ None }
     ensures is_json { result ≢ Err Unread.NotJson }
 {
+    if values.len() <= FEW {
+        return few_members_of(values, alloc);
+    }
     let mut pairs = Vec::with_capacity(alloc, values.len())?;
     for (name, value) in values {
         pairs.push((name, doc_of(value, alloc)?))?;
     }
     Ok(map_of(alloc, pairs)?)
+}
+
+// The same with an insertion each, and no list of the pairs.
+#[cycle(doc_of)]
+fn few_members_of(
+    values: Map<String, Value>,
+    alloc: Global,
+) -> Result<BTreeMap<String, Doc>, Unread>
+    ensures ok { IfOk result (λ docs. members_from (members_view values.entries)
+        ≡ Some (members docs.entries)) }
+    ensures not_whole { result ≡ Err Unread.NotWhole
+        → members_from (members_view values.entries) ≡ None }
+    ensures is_json { result ≢ Err Unread.NotJson }
+{
+    let mut docs = BTreeMap::new(alloc);
+    for (name, value) in values {
+        drop(docs.insert(name, doc_of(value, alloc)?)?);
+    }
+    Ok(docs)
 }

@@ -1,6 +1,4 @@
-use crate::{
-    Doc, DocsFault, ReadFault, Whole, read_doc, read_docs, write_doc, write_owned, write_text,
-};
+use crate::{Doc, DocsFault, ReadFault, Whole, read_doc, read_docs, write_doc, write_text};
 use std::alloc::{AllocError, Global};
 use std::test::Fail;
 
@@ -67,11 +65,6 @@ fn what_is_read_is_written_compactly(rt: HostRuntime) -> Result<(), Fail> {
         let copy = doc.copy(rt.alloc())?;
         assert_eq!(rt; write_doc(rt.alloc(), &copy)?.as_str(), written, "the copy");
         assert!(rt; copy.same(&doc), "{text}");
-        assert_eq!(rt;
-            write_owned(rt.alloc(), doc)?.as_str(),
-            written,
-            "given away"
-        );
     }
     Ok(())
 }

@@ -58,16 +58,6 @@ fn write_doc(rt: HostRuntime) -> Result<(), Fail> {
     tell(&rt, watch_write_doc(rt.alloc()))
 }
 
-fn watch_write_owned(alloc: Global) -> Option<Seen> {
-    let doc = doc_of(alloc, DOC)?;
-    Some(Seen::of_text(mp_tree::write_owned(alloc, doc), TEXT))
-}
-
-#[test]
-fn write_owned(rt: HostRuntime) -> Result<(), Fail> {
-    tell(&rt, watch_write_owned(rt.alloc()))
-}
-
 #[test]
 fn write_text(rt: HostRuntime) -> Result<(), Fail> {
     let given = mp_tree::write_text(rt.alloc(), "a\"b");

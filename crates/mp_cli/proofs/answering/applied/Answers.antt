@@ -6,10 +6,10 @@ use Rattle.mp_cli.specs.Answered.{line, ran, halted}
 use Rattle.mp_cli.proofs.AnswerLemmas.{if_both}
 use Rattle.mp_cli.proofs.answering.applied.Goals as goal
 
-pub returns-in_ok-write_owned-in-Ok : goal.returns-in_ok-write_owned-in-Ok
-returns-in_ok-write_owned-in-Ok c =
+pub returns-in_ok-write_doc-in-Ok : goal.returns-in_ok-write_doc-in-Ok
+returns-in_ok-write_doc-in-Ok c =
     let e = c.in-Ok.result in
-    let text = c.in_ok-write_owned-in-Ok.ensures.text in
+    let text = c.in_ok-write_doc-in-Ok.ensures.text in
     IfOk-weaker c.printed.result _ _ (λ a is. ran (document e) (IsDocument-document e) c.in-Ok.ensures.runs (is ∙ ap (λ t. line t 0) text)) c.printed.ensures
 
 pub returns-in-Err : goal.returns-in-Err

@@ -10,7 +10,7 @@ not_one pointer [] other = refl
 not_one pointer (d ∷ []) other = absurd (other refl)
 not_one pointer (d ∷ e ∷ docs) other = refl
 
-pub returns-then-len-ne1 : goal.returns-then-len-ne1
-returns-then-len-ne1 c =
-    let other : length c.args.docs.items ≡ 1 → ⊥ = λ one. omega (arith, c.if-len-ne1.true) in
-    subst (λ (a : Answered). Gives c.wrong_shape.result a) (sym (not_one c.args.pointer.now c.args.docs.items other)) c.wrong_shape.ensures
+pub returns-then-docs-ne1 : goal.returns-then-docs-ne1
+returns-then-docs-ne1 c =
+    let other : length c.args.docs.now ≡ 1 → ⊥ = λ one. omega (arith, c.if-docs-ne1.true) in
+    subst (λ (a : Answered). Gives c.wrong_shape.result a) (sym (not_one c.args.pointer.now c.args.docs.now other)) c.wrong_shape.ensures

@@ -6,10 +6,10 @@ use Rattle.mp_cli.specs.Answered.{line, joined}
 use Rattle.mp_cli.proofs.AnswerLemmas.{no_join, if_both}
 use Rattle.mp_cli.proofs.answering.join.Goals as goal
 
-pub returns-in_ok-write_owned-in-Ok : goal.returns-in_ok-write_owned-in-Ok
-returns-in_ok-write_owned-in-Ok c =
+pub returns-in_ok-write_doc-in-Ok : goal.returns-in_ok-write_doc-in-Ok
+returns-in_ok-write_doc-in-Ok c =
     let j = c.in-Ok.joined in
-    let text = c.in_ok-write_owned-in-Ok.ensures.text in
+    let text = c.in_ok-write_doc-in-Ok.ensures.text in
     IfOk-weaker c.printed.result _ _ (λ a is. joined (document j) (IsDocument-document j) c.in-Ok.ensures.joined (is ∙ ap (λ t. line t 0) text)) c.printed.ensures
 
 pub returns-in-Err : goal.returns-in-Err

@@ -7,5 +7,5 @@ use Rattle.mp_cli.proofs.answering.rewritten.Goals as goal
 
 pub returns : goal.returns
 returns c =
-    let text = c.in_ok-write_owned.ensures.text ∙ ap compact c.in_ok-into_doc.ensures.document in
+    let text = c.in_ok-write_doc.ensures.text ∙ ap compact c.in_ok-into_doc.ensures.document in
     IfOk-weaker c.printed.result _ _ (λ a is. rewritten (operations_of c.in_ok-edits.edits) c.in_ok-edits.ensures.rewriting (is ∙ ap (λ t. line t 0) text)) c.printed.ensures

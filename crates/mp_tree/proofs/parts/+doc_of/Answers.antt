@@ -8,7 +8,7 @@ use Rattle.serde_json.proofs.Views.{view-Object}
 use Rattle.mp_tree.specs.Document.{object}
 use Rattle.mp_tree.specs.Text.{document_from, items_from, members_from}
 use Rattle.mp_tree.specs.declared.doc.Doc.{Doc}
-use Rattle.mp_tree.proofs.BuiltMaps.{seen, seen-same, ascend_from_seen}
+use Rattle.mp_tree.proofs.BuiltMaps.{seen, seen-same, ascend_from_seen, insert-last-seen}
 use Rattle.mp_tree.proofs.FromData.{from_value, read_as, items_from-all, items_from-none, members_from-all, members_from-none}
 use Rattle.mp_tree.proofs.Lists.{map-push, empty_from_length}
 use Rattle.mp_tree.proofs.Meaning.{document-Members}
@@ -87,3 +87,37 @@ members_of-returns-clause-ok t c =
     let docs = c.in_ok-map_of in
     let all : c.args.values.entries ≡ done = l.invariant.1 ∙ ap (λ es. done ++ es) c.in-None.ensures.steps.0 ∙ append-nil done in
     ap (λ es. members_from (members_view es)) all ∙ members_from-all done docs.field-0.entries (seen-same read_as docs.field-0.entries l.pairs.items docs.ensures ∙ l.invariant.2)
+
+pub few_members_of-returns-in_err-doc_of-clause-not_whole : goal.few_members_of-returns-in_err-doc_of-clause-not_whole
+few_members_of-returns-in_err-doc_of-clause-not_whole t c refused =
+    let l = c.loop-name in
+    let e : String Global × Value = (c.in-Some.name, c.in-Some.value) in
+    let left = c.next.new.self in
+    let all : c.args.values.entries ≡ l.invariant.0 ++ e ∷ left = l.invariant.1 ∙ ap (λ es. l.invariant.0 ++ es) c.in-Some.ensures.steps in
+    ap (λ es. members_from (members_view es)) all ∙ members_from-none l.invariant.0 e left (c.in_err-doc_of.ensures.not_whole (grind arith))
+
+pub few_members_of-loop-name-preserved : goal.few_members_of-loop-name-preserved
+few_members_of-loop-name-preserved t c =
+    let l = c.loop-name in
+    let done = l.invariant.0 in
+    let name = c.in-Some.name in
+    let e : String Global × Value = (name, c.in-Some.value) in
+    let p : String Global × Doc = (name, c.in_ok-doc_of.field-0) in
+    let left = c.next.new.self in
+    let all : c.args.values.entries ≡ done ++ e ∷ left = l.invariant.1 ∙ ap (λ es. done ++ es) c.in-Some.ensures.steps in
+    let same : seen read_as p ≡ seen from_value e = ap (λ d. (string_bytes name, d)) (sym c.in_ok-doc_of.ensures.ok) in
+    let grown = map-push (seen read_as) (seen from_value) l.docs.entries done p e l.invariant.2 same in
+    let last = insert-last-seen read_as from_value l.docs.entries done name p.1 e.1 left grown (subst (λ es. IsStrictlySortedBy string_cmp (keys_of es)) all c.into_iter-name-iterator.ensures.into_iter_gives.5) in (
+      done ++ e ∷ [],
+      all ∙ sym (append_assoc done (e ∷ []) left),
+      ap (map (seen read_as)) (c.in_ok-insert.ensures.entries ∙ last) ∙ grown,
+      tt,
+      tt,
+    )
+
+pub few_members_of-returns-clause-ok : goal.few_members_of-returns-clause-ok
+few_members_of-returns-clause-ok t c =
+    let l = c.loop-name in
+    let done = l.invariant.0 in
+    let all : c.args.values.entries ≡ done = l.invariant.1 ∙ ap (λ es. done ++ es) c.in-None.ensures.steps.0 ∙ append-nil done in
+    ap (λ es. members_from (members_view es)) all ∙ members_from-all done l.docs.entries l.invariant.2

@@ -14,3 +14,8 @@ abbrev pub invariant-members_of-loop-name : goal.invariant-members_of-loop-name
 invariant-members_of-loop-name l =
     (done : List (String Global × Value)) × (l.fn.values.entries ≡ done ++ l.name-iterator) × (map (seen read_as) l.pairs.items ≡ map (seen from_value) done)
     × (goal.iterator-members_of-loop-name).can_next l.name-iterator × (goal.iterator-members_of-loop-name).is_finite l.name-iterator
+
+abbrev pub invariant-few_members_of-loop-name : goal.invariant-few_members_of-loop-name
+invariant-few_members_of-loop-name l =
+    (done : List (String Global × Value)) × (l.fn.values.entries ≡ done ++ l.name-iterator) × (map (seen read_as) l.docs.entries ≡ map (seen from_value) done)
+    × (goal.iterator-few_members_of-loop-name).can_next l.name-iterator × (goal.iterator-few_members_of-loop-name).is_finite l.name-iterator

@@ -1,7 +1,6 @@
 use Rattle.std.proofs.Common.{ap, ◌∙◌}
-use Rattle.std.proofs.lemmas.Result.{IfOk-weaker}
-use Rattle.serde_json.specs.Written.{compact_text, has_float}
-use Rattle.mp_tree.specs.Text.{read}
+use Rattle.serde_json.proofs.FreeTexts.{text_of_value}
+use Rattle.mp_tree.specs.Text.{data_of, read}
 use Rattle.mp_tree.specs.View.{document}
 use Rattle.mp_tree.proofs.Meaning.{IsDocument-document, HasTexts-document, IsInRange-document}
 use Rattle.mp_tree.proofs.RoundTrip.{read-text}
@@ -9,13 +8,13 @@ use Rattle.mp_tree.proofs.TextLemmas.{has_float-data_of}
 use Rattle.mp_tree.proofs.write.write_doc.Goals as goal
 
 -- the text is that of the document, which has no float
-pub returns-clause-text : goal.returns-clause-text
-returns-clause-text c =
-    let is = c.in_ok-value_from.ensures in
-    let no_float = ap has_float is ∙ has_float-data_of (document c.args.doc.now) in
-    IfOk-weaker c.to_string.result _ _ (λ s written. written no_float ∙ ap compact_text is) c.to_string.ensures.text
+pub returns-in-Ok-clause-text : goal.returns-in-Ok-clause-text
+returns-in-Ok-clause-text c =
+    let d = document c.args.doc.now in
+    let sent = c.in-Ok.ensures.events in
+    text_of_value (data_of d) sent.0 _ sent.1 sent.2 (has_float-data_of d)
 
-pub returns-clause-reads_back : goal.returns-clause-reads_back
-returns-clause-reads_back c =
+pub returns-in-Ok-clause-reads_back : goal.returns-in-Ok-clause-reads_back
+returns-in-Ok-clause-reads_back c =
     let d = c.args.doc.now in
-    IfOk-weaker c.to_string.result _ _ (λ s is shallow. ap read is ∙ read-text (document d) (IsDocument-document d) (HasTexts-document d) (IsInRange-document d) shallow) (returns-clause-text c)
+    λ fits. ap read (returns-in-Ok-clause-text c) ∙ read-text (document d) (IsDocument-document d) (HasTexts-document d) (IsInRange-document d) fits
