@@ -20,28 +20,34 @@ memory() {
   done | sort -n | sed -n 1p
 }
 
-# One row: the job $1, the bytes of its input, our instructions and those of Rust, our
-# memory and that of Rust.
+# One row: the job $1, the bytes of its input, the instructions of both programs, and
+# the memory of both.
 print_row() {
-  awk -v job="$1" -v bytes="$2" -v i="$3" -v ri="$4" -v m="$5" -v rm="$6" 'BEGIN {
-    printf "| %s | %.1f | %.2f | %.2f | %.2f |", job, bytes / 1e3, i / 1e6, ri / 1e6, i / ri
-    printf " %.1f | %.1f | %.2f |", m * 1024 / 1e6, rm * 1024 / 1e6, m / rm }'
+  awk -v job="$1" -v bytes="$2" -v our_count="$3" -v rust_count="$4" \
+    -v our_memory="$5" -v rust_memory="$6" 'BEGIN {
+      printf "| %s | %.1f |", job, bytes / 1e3
+      printf " %.2f | %.2f | %.2f |", our_count / 1e6, rust_count / 1e6, our_count / rust_count
+      megabytes = 1024 / 1e6
+      printf " %.1f | %.1f | %.2f |", our_memory * megabytes, rust_memory * megabytes, our_memory / rust_memory
+    }'
 }
 
 # Measures the job $1 on the input of shape $2 and size $3, with the words from $4 on.
 rows=()
 job() {
-  local title=$1 input=$2-$3.json output=job-${#rows[@]} i ri m rm
+  local title=$1 input=$2-$3.json output=job-${#rows[@]}
+  local our_count rust_count our_memory rust_memory
   say "$title, $2 $3 .."
   python3 job_inputs.py "$2" "$3" >"$input"
   shift 3
-  i=$(count "$input" "$output.ours" ./mergejoin "$@")
-  ri=$(count "$input" "$output.rust" "$rust" "$@")
-  m=$(memory "$input" "$output.ours" ./mergejoin "$@")
-  rm=$(memory "$input" "$output.rust" "$rust" "$@")
+  our_count=$(count "$input" "$output.ours" ./mergejoin "$@")
+  rust_count=$(count "$input" "$output.rust" "$rust" "$@")
+  our_memory=$(memory "$input" "$output.ours" ./mergejoin "$@")
+  rust_memory=$(memory "$input" "$output.rust" "$rust" "$@")
   compare mergejoin "$output.ours" Rust "$output.rust"
   compare mergejoin "$output.ours.err" Rust "$output.rust.err"
-  rows+=("$(print_row "$title" "$(wc -c <"$input")" "$i" "$ri" "$m" "$rm")")
+  rows+=("$(print_row "$title" "$(wc -c <"$input")" \
+    "$our_count" "$rust_count" "$our_memory" "$rust_memory")")
 }
 
 sizes=(10000 100000 1000000)

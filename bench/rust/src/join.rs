@@ -5,7 +5,9 @@ use serde_json::Value;
 
 /// One merge patch with the effect of all.
 pub fn join(patches: &[Value]) -> Result<Value, Refused> {
-    let (first, rest) = patches.split_first().ok_or_else(|| Refused::work("no patches"))?;
+    let (first, rest) = patches
+        .split_first()
+        .ok_or_else(|| Refused::Work("no patches".into()))?;
     let mut joined = first.clone();
     for (place, patch) in rest.iter().enumerate() {
         if !compatible(&joined, patch) {
@@ -45,12 +47,17 @@ fn unite(joined: &mut Value, patch: &Value) {
 
 /// The line about a patch that clashes with one of those before it.
 fn conflict(before: &[Value], patch: &Value) -> Refused {
-    let earlier = before.iter().position(|earlier| !compatible(earlier, patch));
+    let earlier = before
+        .iter()
+        .position(|earlier| !compatible(earlier, patch));
     let earlier = earlier.expect("a patch that clashes with a join clashes with a member");
     let mut places = Vec::new();
     clashes(&before[earlier], patch, &mut String::new(), &mut places);
     let later = before.len();
-    Refused::work(format!("conflict: patches {earlier} and {later} at {}", places.join(", ")))
+    Refused::Work(format!(
+        "conflict: patches {earlier} and {later} at {}",
+        places.join(", ")
+    ))
 }
 
 /// All places where two patches clash, as JSON.

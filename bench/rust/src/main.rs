@@ -15,29 +15,20 @@ use std::env;
 use std::io::{self, Read, Write};
 use std::process::ExitCode;
 
-/// Why there is no result: a line, and the status that the program ends with.
-pub struct Refused {
-    line: String,
-    status: u8,
-}
-
-impl Refused {
+/// Why there is no result, with the line about it.
+pub enum Refused {
     /// The work itself is refused.
-    pub fn work(line: impl Into<String>) -> Self {
-        Refused { line: line.into(), status: 1 }
-    }
-
+    Work(String),
     /// The input or a word has a wrong form.
-    pub fn form(line: impl Into<String>) -> Self {
-        Refused { line: line.into(), status: 2 }
-    }
+    Form(String),
+    Stream(io::Error),
 }
 
 fn read_parts() -> Result<Vec<Value>, Refused> {
     let mut input = Vec::new();
     let read = io::stdin().lock().read_to_end(&mut input);
-    read.map_err(|fault| Refused { line: fault.to_string(), status: 3 })?;
-    serde_json::from_slice(&input).map_err(|fault| Refused::form(format!("input: {fault}")))
+    read.map_err(Refused::Stream)?;
+    serde_json::from_slice(&input).map_err(|fault| Refused::Form(format!("input: {fault}")))
 }
 
 fn answer(words: &[&str]) -> Result<String, Refused> {
@@ -62,31 +53,32 @@ fn answer(words: &[&str]) -> Result<String, Refused> {
             document.take()
         }
         (["rewrite"], [document, patch]) => {
-            return Ok(print(&rewrite::rewrite(document, patch.take())));
+            return Ok(compact(&rewrite::rewrite(document, patch.take())));
         }
-        _ => return Err(Refused::form("unknown words, or input: wrong shape")),
+        _ => return Err(Refused::Form("unknown words, or wrong shape".into())),
     };
-    Ok(print(&result))
+    Ok(compact(&result))
 }
 
-fn print(result: &impl Serialize) -> String {
+fn compact(result: &impl Serialize) -> String {
     serde_json::to_string(result).expect("names are texts")
+}
+
+fn write(mut text: String) -> Result<(), Refused> {
+    text.push('\n');
+    let written = io::stdout().lock().write_all(text.as_bytes());
+    written.map_err(Refused::Stream)
 }
 
 fn main() -> ExitCode {
     let words: Vec<String> = env::args().skip(1).collect();
     let words: Vec<&str> = words.iter().map(String::as_str).collect();
-    match answer(&words) {
-        Ok(mut text) => {
-            text.push('\n');
-            match io::stdout().lock().write_all(text.as_bytes()) {
-                Ok(()) => ExitCode::SUCCESS,
-                Err(_) => ExitCode::from(3),
-            }
-        }
-        Err(refused) => {
-            eprintln!("{}", refused.line);
-            ExitCode::from(refused.status)
-        }
-    }
+    let (status, line) = match answer(&words).and_then(write) {
+        Ok(()) => return ExitCode::SUCCESS,
+        Err(Refused::Work(line)) => (1, line),
+        Err(Refused::Form(line)) => (2, line),
+        Err(Refused::Stream(fault)) => (3, fault.to_string()),
+    };
+    eprintln!("{line}");
+    ExitCode::from(status)
 }

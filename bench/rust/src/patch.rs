@@ -20,19 +20,22 @@ pub fn apply(document: &mut Value, patch: &mut [Value]) -> Result<(), Refused> {
     let mut operations = Vec::with_capacity(patch.len());
     for (number, operation) in patch.iter_mut().enumerate() {
         let operation = read(operation)
-            .map_err(|fault| Refused::form(format!("operation {number}: {fault}")))?;
+            .map_err(|fault| Refused::Form(format!("operation {number}: {fault}")))?;
         operations.push(operation);
     }
     for (number, (path, edit)) in operations.into_iter().enumerate() {
         run(document, &path, edit)
-            .map_err(|cause| Refused::work(format!("operation {number}: {cause}")))?;
+            .map_err(|cause| Refused::Work(format!("operation {number}: {cause}")))?;
     }
     Ok(())
 }
 
 /// Where an operation edits and what it does there, with its value taken out.
 fn read(operation: &mut Value) -> Result<(Path<'_>, Edit<'_>), &'static str> {
-    let value = operation.get_mut("value").map(Value::take).ok_or("no value");
+    let value = operation
+        .get_mut("value")
+        .map(Value::take)
+        .ok_or("no value");
     let members = operation.as_object().ok_or("not an object")?;
     let text = |name| members.get(name).and_then(Value::as_str);
     let path = |name, fault| parse(text(name).ok_or(fault)?).map_err(|_| "bad pointer");

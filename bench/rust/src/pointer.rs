@@ -20,7 +20,11 @@ fn unescape(token: &str) -> Result<Cow<'_, str>, &'static str> {
     if !token.contains('~') {
         return Ok(Cow::Borrowed(token));
     }
-    if !token.split('~').skip(1).all(|rest| rest.starts_with(['0', '1'])) {
+    if !token
+        .split('~')
+        .skip(1)
+        .all(|rest| rest.starts_with(['0', '1']))
+    {
         return Err("bad tilde");
     }
     Ok(Cow::Owned(token.replace("~1", "/").replace("~0", "~")))
@@ -57,6 +61,6 @@ pub fn find<'a>(document: &'a mut Value, path: &[Cow<'_, str>]) -> Option<&'a mu
 
 /// The part of a document that the pointer on the command line names.
 pub fn get<'a>(document: &'a mut Value, pointer: &str) -> Result<&'a mut Value, Refused> {
-    let path = parse(pointer).map_err(|fault| Refused::form(format!("pointer: {fault}")))?;
-    find(document, &path).ok_or_else(|| Refused::work("missing"))
+    let path = parse(pointer).map_err(|fault| Refused::Form(format!("pointer: {fault}")))?;
+    find(document, &path).ok_or_else(|| Refused::Work("missing".into()))
 }

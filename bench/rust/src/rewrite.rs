@@ -59,7 +59,11 @@ impl Rewriting {
     }
 
     fn test(&mut self, old: &mut Value) {
-        self.tests.push(Operation { op: "test", path: self.path.clone(), value: Some(old.take()) });
+        self.tests.push(Operation {
+            op: "test",
+            path: self.path.clone(),
+            value: Some(old.take()),
+        });
     }
 
     /// An edit here, with the value that a patch leaves of an absent target.
@@ -69,6 +73,10 @@ impl Rewriting {
             merge(&mut value, patch);
             value
         });
-        self.edits.push(Operation { op, path: self.path.clone(), value });
+        self.edits.push(Operation {
+            op,
+            path: self.path.clone(),
+            value,
+        });
     }
 }
