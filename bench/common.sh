@@ -28,13 +28,19 @@ interpreter() { "$1" -c 'import sys; print(sys.executable)'; }
 # With one seed, so that the count of Python repeats.
 export PYTHONHASHSEED=0
 
-# Runs the command from $3 on, on the input $1 and with its output in $2, and prints
-# the number of its instructions.
-count() {
-  local input=$1 output=$2
+# Runs the command from $3 on, on the input $1 and with its output in $2 and its lines
+# of refusal in $2.err. It must end with the status $expected, or else with 0.
+watched() {
+  local input=$1 output=$2 status=0
   shift 2
-  valgrind --tool=callgrind --callgrind-out-file=/dev/null --log-file=callgrind.log \
-    "$@" <"$input" >"$output" || { say "$* failed"; return 1; }
+  "$@" <"$input" >"$output" 2>"$output.err" || status=$?
+  ((status == ${expected:-0})) || { say "$* ended with $status: $work/$output.err"; return 1; }
+}
+
+# Prints the number of instructions of such a run.
+count() {
+  watched "$1" "$2" valgrind --tool=callgrind --callgrind-out-file=/dev/null \
+    --log-file=callgrind.log "${@:3}" || return
   awk '/ Collected :/ { print $NF }' callgrind.log
 }
 
@@ -47,6 +53,25 @@ compare() {
   say "DIFFERS: $1 prints $work/$2, $3 $work/$4"
   # shellcheck disable=SC2034 # the status that the modes end with
   differ=1
+}
+
+# Builds the same program in Rust, $rust, over the source of serde_json that Debian's
+# package puts here, whose name and version are then $serde_json.
+build_rust() {
+  local registry=/usr/share/cargo/registry
+  if ! command -v cargo >/dev/null; then
+    say 'no cargo here: without the peer in Rust'
+    return 1
+  fi
+  compgen -G "$registry/serde_json-*" >/dev/null || install_package librust-serde-json-dev || return
+  if ! (cd rust && cargo build --release --offline --target-dir target) >cargo.log 2>&1; then
+    say "the peer in Rust can't be built: $work/cargo.log"
+    return 1
+  fi
+  # shellcheck disable=SC2034 # for the modes
+  rust=rust/target/release/mergejoin-peer
+  serde_json=$(basename -- "$registry"/serde_json-*)
+  serde_json=${serde_json/-/ }
 }
 
 # The programs: each with its name in the table and its command, of words with no space.

@@ -11,10 +11,9 @@ The start has every second account, with values of its own. The same arguments a
 give the same bytes.
 """
 
-import json
 import sys
 
-from inputs import WORDS, Numbers
+from values import WORDS, Numbers, printed
 
 
 def account(numbers):
@@ -39,22 +38,33 @@ def some_names(numbers, value, count):
     }
 
 
-def patch(numbers, accounts):
+def patch(numbers, accounts, share):
+    """A patch of that many accounts, and of as many names of each."""
     names = set()
-    while len(names) < min(4, len(accounts)):
+    while len(names) < min(share, len(accounts)):
         names.add(f"user-{numbers.below(len(accounts)):04}")
-    return {name: some_names(numbers, accounts[name], 4) for name in sorted(names)}
+    return {name: some_names(numbers, accounts[name], share) for name in sorted(names)}
+
+
+class Lists:
+    """What patches may change, and the start and the patches that are drawn of it."""
+
+    def __init__(self, users, share=4):
+        self.numbers, self.share = Numbers(), share
+        self.accounts = {f"user-{place:04}": account(self.numbers) for place in range(users)}
+
+    def patches(self, count):
+        return [patch(self.numbers, self.accounts, self.share) for _ in range(count)]
+
+    def start(self):
+        return {name: account(self.numbers) for name in list(self.accounts)[::2]}
 
 
 def main():
     count, kind = int(sys.argv[1]), sys.argv[2]
-    numbers = Numbers()
-    accounts = {f"user-{place:04}": account(numbers) for place in range(count)}
-    if kind == "patches":
-        printed = [patch(numbers, accounts) for _ in range(count)]
-    else:
-        printed = {name: account(numbers) for name in list(accounts)[::2]}
-    print(json.dumps(printed, ensure_ascii=False, separators=(",", ":")))
+    lists = Lists(count)
+    print(printed(lists.patches(count) if kind == "patches" else lists.start()))
 
 
-main()
+if __name__ == "__main__":
+    main()

@@ -13,13 +13,9 @@ the ones before it leave. The same arguments always give the same bytes.
 import json
 import sys
 
-from inputs import Numbers, account, setting
+from values import Numbers, account, printed, setting
 
 KINDS = ["add", "remove", "replace", "move", "copy", "test"]
-
-
-def printed(value):
-    return json.dumps(value, ensure_ascii=False, separators=(",", ":"))
 
 
 def event(numbers):
@@ -116,13 +112,14 @@ def operation(numbers, kind, document):
     return {"op": kind, "from": pointer(place), "path": pointer(path)}
 
 
-def main():
-    count, limit = int(sys.argv[1]), int(sys.argv[2])
+def patch_input(count, limit):
+    """A document and a JSON Patch of it."""
     numbers = Numbers()
     document = document_of(numbers, limit)
     start = copied(document)
     kinds = numbers.shuffled((KINDS * (count // len(KINDS) + 1))[:count])
-    print(printed([start, [operation(numbers, kind, document) for kind in kinds]]))
+    return [start, [operation(numbers, kind, document) for kind in kinds]]
 
 
-main()
+if __name__ == "__main__":
+    print(printed(patch_input(int(sys.argv[1]), int(sys.argv[2]))))

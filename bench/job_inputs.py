@@ -1,0 +1,84 @@
+#!/usr/bin/env python3
+"""Prints the input of one job of `bench/run`.
+
+    bench/job_inputs.py SHAPE SIZE
+
+The size is in bytes, nearly, for a document and a merge patch of texts, of small
+objects (points), of lists of numbers (rows), 100 levels deep (deep), or where the patch
+touches every name (touched), and for one document alone (document). It is the number
+of operations of a JSON Patch on a document of 300 kB (patch), and of patches for join
+and replay (join, replay) and for a join where the last patch clashes with the fourth
+(clash). A number is that number. The same arguments always give the same bytes.
+"""
+
+import sys
+
+from inputs import merge_input
+from list_inputs import Lists
+from patch_inputs import patch_input
+from values import Numbers, members_of, moved_point, point, printed, row, setting, text
+
+LEVELS = 100
+
+
+def sized(make, limit):
+    """What is made of as many names as have about that many bytes."""
+    names = 100
+    for _ in range(3):
+        names = names * limit // len(printed(make(names)).encode())
+    return make(names)
+
+
+def pair(names, *values, touched=60):
+    """A document of one large object and a patch of it."""
+    numbers = Numbers()
+    document, patch = members_of(numbers, names, "name-", *values, touched=touched)
+    return [document, numbers.disordered(patch)]
+
+
+def deep(names):
+    """A document that has that many names at each level, and the next level as one more."""
+    numbers = Numbers()
+    document, patch = members_of(numbers, names, "name-", setting)
+    for _ in range(LEVELS - 1):
+        inner = document, patch
+        document, patch = members_of(numbers, names, "name-", setting)
+        document["next"], patch["next"] = inner
+        patch = numbers.disordered(patch)
+    return [document, patch]
+
+
+def lists(count):
+    """Small patches, so that the most of them are an input with a start."""
+    return Lists(count // 2, share=2)
+
+
+def replay(count):
+    drawn = lists(count)
+    return [drawn.start(), *drawn.patches(count)]
+
+
+def clash(count):
+    """Compatible patches, but the last changes otherwise what the fourth changes."""
+    patches = lists(count).patches(count)
+    patches[-1] = {user: dict.fromkeys(names, "otherwise") for user, names in patches[3].items()}
+    return patches
+
+
+SHAPES = {
+    "texts": lambda size: sized(lambda names: pair(names, text), size),
+    "points": lambda size: sized(lambda names: pair(names, point, moved_point), size),
+    "rows": lambda size: sized(lambda names: pair(names, row), size),
+    "deep": lambda size: sized(deep, size),
+    "touched": lambda size: sized(lambda names: pair(names, setting, touched=100), size),
+    "document": lambda size: sized(lambda names: merge_input(names, "mixed")[:1], size),
+    "patch": lambda count: patch_input(count, 300_000),
+    "join": lambda count: lists(count).patches(count),
+    "replay": replay,
+    "clash": clash,
+    "number": lambda number: [number],
+}
+
+
+if __name__ == "__main__":
+    print(printed(SHAPES[sys.argv[1]](int(sys.argv[2]))))
