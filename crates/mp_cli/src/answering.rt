@@ -140,7 +140,8 @@ fn patched(alloc: Global, doc: Doc, patch: &Doc) -> Result<Answer, AllocError>
 }
 
 fn applied(alloc: Global, doc: Doc, patch: &JsonPatch) -> Result<Answer, AllocError>
-    ensures { IfOk result (λ a. IsRunAnswer (document doc) (operations_of patch.now) (answered_by a)) }
+    ensures { IfOk result (λ a.
+        IsRunAnswer (document doc) (operations_of patch.now) (answered_by a)) }
 {
     match apply_owned(alloc, doc, patch) {
         Ok(result) => printed(write_doc(alloc, &result)?),
@@ -308,7 +309,8 @@ fn rewrite(alloc: Global, docs: &[Doc]) -> Result<Answer, AllocError>
 }
 
 fn rewritten(alloc: Global, doc: &Doc, patch: &Doc) -> Result<Answer, AllocError>
-    ensures { IfOk result (λ a. IsRewriteAnswer (document doc.now) (document patch.now) (answered_by a)) }
+    ensures { IfOk result (λ a.
+        IsRewriteAnswer (document doc.now) (document patch.now) (answered_by a)) }
 {
     let edits = rewriting(alloc, doc, patch)?;
     printed(write_doc(alloc, &edits.into_doc(alloc)?)?)

@@ -136,7 +136,8 @@ fn with_plain<'a>(
 ) -> Result<clap::Command<'a>, AllocError>
     requires required { (out-Command line).subcommand_required ≡ true }
     requires no_globals { (out-Command line).has_globals ≡ false }
-    ensures line { IfOk result (λ new. app_of new ≡ with_subcommand (app_of line.entry) (new_shape name.now)) }
+    ensures line { IfOk result (λ new.
+        app_of new ≡ with_subcommand (app_of line.entry) (new_shape name.now)) }
     ensures required { IfOk result (λ new. (out-Command new).subcommand_required ≡ true) }
     ensures no_globals { IfOk result (λ new. (out-Command new).has_globals ≡ false) }
 {

@@ -57,7 +57,8 @@ pub fn converge(
     ensures patched { AreReplicas (document start.now) (map document here.now)
         (map document there.now) → IfOk result (λ c. document c.patched ≡ document c.here) }
     ensures joined { AreReplicas (document start.now) (map document here.now)
-        (map document there.now) → IfOk result (λ c. document c.joined_here ≡ document c.joined_there) }
+        (map document there.now)
+        → IfOk result (λ c. document c.joined_here ≡ document c.joined_there) }
     // It is the join of the patches, and the document is one application of it.
     ensures is_join { IfOk result (λ c. IsJoin (map document here.now) (document c.joined_here)) }
     ensures application { IfOk result (λ c.

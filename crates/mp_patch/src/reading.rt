@@ -136,7 +136,8 @@ fn places_in(
 ) -> Result<Places, OpFault>
     ensures { MatchResult result
         (λ p. (spelling.now ≡ spell p.path)
-        × (text_under (codes "from") (object (members entries.now.entries)) ≡ Some (spell p.origin)))
+        × (text_under (codes "from") (object (members entries.now.entries))
+        ≡ Some (spell p.origin)))
         (λ fault. IsOriginFault fault spelling.now (object (members entries.now.entries))) }
 {
     let origin_spelling = text_at(entries, "from").ok_or(FormCause::NoFrom)?;

@@ -16,7 +16,8 @@ pub(crate) fn bad_tilde(text: &[u8]) -> Option<usize>
 }
 
 fn is_escape(text: &[u8], place: usize) -> bool
-    ensures { IsTrue result ↔ (slice_index text.now place ≡ 48) ⊎ (slice_index text.now place ≡ 49) }
+    ensures { IsTrue result
+        ↔ (slice_index text.now place ≡ 48) ⊎ (slice_index text.now place ≡ 49) }
 {
     place < text.len() && (text[place] == b'0' || text[place] == b'1')
 }

@@ -86,6 +86,7 @@ fn docs_of(values: Vec<Value>, alloc: Global) -> Result<Vec<Doc>, Unread>
 }
 
 #[cycle(doc_of)]
+#[inline(always)]
 fn members_of(values: Map<String, Value>, alloc: Global) -> Result<BTreeMap<String, Doc>, Unread>
     ensures ok { IfOk result (λ docs. members_from (members_view values.entries)
         ≡ Some (members docs.entries)) }
@@ -94,8 +95,23 @@ fn members_of(values: Map<String, Value>, alloc: Global) -> Result<BTreeMap<Stri
     ensures is_json { result ≢ Err Unread.NotJson }
 {
     if values.len() <= FEW {
-        return few_members_of(values, alloc);
+        few_members_of(values, alloc)
+    } else {
+        many_members_of(values, alloc)
     }
+}
+
+#[cycle(doc_of)]
+fn many_members_of(
+    values: Map<String, Value>,
+    alloc: Global,
+) -> Result<BTreeMap<String, Doc>, Unread>
+    ensures ok { IfOk result (λ docs. members_from (members_view values.entries)
+        ≡ Some (members docs.entries)) }
+    ensures not_whole { result ≡ Err Unread.NotWhole
+        → members_from (members_view values.entries) ≡ None }
+    ensures is_json { result ≢ Err Unread.NotJson }
+{
     let mut pairs = Vec::with_capacity(alloc, values.len())?;
     for (name, value) in values {
         pairs.push((name, doc_of(value, alloc)?))?;

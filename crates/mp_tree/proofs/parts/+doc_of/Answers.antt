@@ -50,16 +50,16 @@ docs_of-returns-clause-ok t c =
     let all : c.args.values.items ≡ done = l.invariant.1 ∙ ap (λ vs. done ++ vs) over ∙ append-nil done in
     ap (λ vs. items_from (items_view vs)) all ∙ items_from-all done l.docs.items l.invariant.2
 
-pub members_of-returns-in_err-doc_of-clause-not_whole : goal.members_of-returns-in_err-doc_of-clause-not_whole
-members_of-returns-in_err-doc_of-clause-not_whole t c refused =
+pub many_members_of-returns-in_err-doc_of-clause-not_whole : goal.many_members_of-returns-in_err-doc_of-clause-not_whole
+many_members_of-returns-in_err-doc_of-clause-not_whole t c refused =
     let l = c.loop-name in
     let e : String Global × Value = (c.in-Some.name, c.in-Some.value) in
     let left = c.next.new.self in
     let all : c.args.values.entries ≡ l.invariant.0 ++ e ∷ left = l.invariant.1 ∙ ap (λ es. l.invariant.0 ++ es) c.in-Some.ensures.steps in
     ap (λ es. members_from (members_view es)) all ∙ members_from-none l.invariant.0 e left (c.in_err-doc_of.ensures.not_whole (grind arith))
 
-pub members_of-loop-name-preserved : goal.members_of-loop-name-preserved
-members_of-loop-name-preserved t c =
+pub many_members_of-loop-name-preserved : goal.many_members_of-loop-name-preserved
+many_members_of-loop-name-preserved t c =
     let l = c.loop-name in
     let done = l.invariant.0 in
     let e : String Global × Value = (c.in-Some.name, c.in-Some.value) in
@@ -74,14 +74,14 @@ members_of-loop-name-preserved t c =
       tt,
     )
 
-pub members_of-map_of-requires : goal.members_of-map_of-requires
-members_of-map_of-requires t c =
+pub many_members_of-map_of-requires : goal.many_members_of-map_of-requires
+many_members_of-map_of-requires t c =
     let l = c.loop-name in
     let all : c.args.values.entries ≡ l.invariant.0 = l.invariant.1 ∙ ap (λ es. l.invariant.0 ++ es) c.in-None.ensures.steps.0 ∙ append-nil l.invariant.0 in
     ascend_from_seen read_as from_value l.pairs.items l.invariant.0 l.invariant.2 (subst (λ es. IsStrictlySortedBy string_cmp (keys_of es)) all c.into_iter-name-iterator.ensures.into_iter_gives.5)
 
-pub members_of-returns-clause-ok : goal.members_of-returns-clause-ok
-members_of-returns-clause-ok t c =
+pub many_members_of-returns-clause-ok : goal.many_members_of-returns-clause-ok
+many_members_of-returns-clause-ok t c =
     let l = c.loop-name in
     let done = l.invariant.0 in
     let docs = c.in_ok-map_of in

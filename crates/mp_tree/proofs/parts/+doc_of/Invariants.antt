@@ -10,10 +10,10 @@ invariant-docs_of-loop-value l =
     (done : List Value) × (l.fn.values.items ≡ done ++ into_iter_items l.value-iterator) × (map read_as l.docs.items ≡ map from_value done)
     × (goal.iterator-docs_of-loop-value).can_next l.value-iterator × (goal.iterator-docs_of-loop-value).is_finite l.value-iterator
 
-abbrev pub invariant-members_of-loop-name : goal.invariant-members_of-loop-name
-invariant-members_of-loop-name l =
+abbrev pub invariant-many_members_of-loop-name : goal.invariant-many_members_of-loop-name
+invariant-many_members_of-loop-name l =
     (done : List (String Global × Value)) × (l.fn.values.entries ≡ done ++ l.name-iterator) × (map (seen read_as) l.pairs.items ≡ map (seen from_value) done)
-    × (goal.iterator-members_of-loop-name).can_next l.name-iterator × (goal.iterator-members_of-loop-name).is_finite l.name-iterator
+    × (goal.iterator-many_members_of-loop-name).can_next l.name-iterator × (goal.iterator-many_members_of-loop-name).is_finite l.name-iterator
 
 abbrev pub invariant-few_members_of-loop-name : goal.invariant-few_members_of-loop-name
 invariant-few_members_of-loop-name l =
