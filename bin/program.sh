@@ -1,27 +1,39 @@
 # shellcheck shell=bash
 # Where the built program stands, and what it was built from: read by the other scripts.
 
-top=$(dirname -- "$(dirname -- "$(readlink -f -- "${BASH_SOURCE[0]}")")") # of the repository
+top=$(cd -- "${BASH_SOURCE[0]%/*}/.." && pwd -P) # of the repository
 program=$top/out/mergejoin        # the proved program that bin/mergejoin runs
 built_from=$top/out/mergejoin.sum # the checksum of the sources that it was built from
+unchanged=$top/out/mergejoin.list # their names, times and sizes when they were seen to have it
 
-# One checksum over the sources, specs and proofs of every crate, and crates.txt.
-sources_sum() (
+# Runs find, with these last words, over the sources, specs and proofs of every crate, and crates.txt.
+sources() (
   cd -- "$top" || exit
   find crates.txt crates -name out -prune -o \
-    -type f \( -name '*.rt' -o -name '*.antt' -o -name crates.txt \) -print0 |
-    LC_ALL=C sort -z | xargs -0 sha256sum | sha256sum
+    -type f \( -name '*.rt' -o -name '*.antt' -o -name crates.txt \) "$@"
 )
 
-# Whether the program is there, and was built from the sources of this checksum.
+# One checksum over them.
+sources_sum() { sources -print0 | LC_ALL=C sort -z | (cd -- "$top" && xargs -0 sha256sum) | sha256sum; }
+
+# Their names, times and sizes: where these are as they were, nothing was changed, and no file is read.
+sources_list() { sources -printf '%p %T@ %s\n'; }
+
+# Whether the program is there, and was built from the sources as they are.
 is_built() {
-  [[ -x $program && -r $built_from && $(<"$built_from") == "$1" ]]
+  [[ -x $program && -r $built_from ]] || return
+  local list
+  list=$(sources_list)
+  if [[ -r $unchanged && $(<"$unchanged") == "$list" ]]; then return; fi
+  [[ $(<"$built_from") == "$(sources_sum)" ]] || return
+  # A folder that can't be written to is no fault here.
+  { printf '%s\n' "$list" >"$unchanged.new" && mv -f -- "$unchanged.new" "$unchanged"; } 2>/dev/null || true
 }
 
 # Keeps the program that rt has just proved and linked, with its sources' checksum.
 keep_program() {
   mkdir -p -- "$top/out"
-  rm -f -- "$built_from"
+  rm -f -- "$built_from" "$unchanged"
   cp -- "$top/crates/mergejoin/out/mergejoin" "$program.new"
   mv -f -- "$program.new" "$program"
   printf '%s\n' "$1" >"$built_from"
