@@ -1,0 +1,140 @@
+#!/usr/bin/env python3
+"""Draws the pictures of the pages from what the program prints.
+
+    docs/pictures/draw.py FOLDER
+
+It writes replicas.svg and clash.svg into the folder. checks/pictures draws them again and compares.
+"""
+
+import json
+import pathlib
+import subprocess
+import sys
+from xml.sax.saxutils import escape
+
+TOP = pathlib.Path(__file__).resolve().parent.parent.parent
+
+# Of a character, a line and the space around a text.
+WIDE, HIGH, SPACE = 8, 19, 10
+
+PLAIN, PATCH, SHOWN, CLASH = "#f4f4f4", "#dbe9fb", "#dff3dd", "#fbdcd9"
+
+
+def answer(command, *parts):
+    """Gives the program's line for an array of these texts."""
+    given = f"[{','.join(parts)}]".encode()
+    done = subprocess.run([TOP / "bin/mergejoin", command], input=given, capture_output=True, check=False)
+    return (done.stdout or done.stderr).decode().strip()
+
+
+class Drawing:
+    def __init__(self, title):
+        self.title, self.shapes, self.width, self.height = title, [], 0, 0
+
+    def reach(self, right, bottom):
+        self.width, self.height = max(self.width, right), max(self.height, bottom)
+
+    def text(self, x, y, words, anchor="start", weight="normal"):
+        place = f'x="{x}" y="{y}" text-anchor="{anchor}" font-weight="{weight}"'
+        self.shapes.append(f"<text {place}>{escape(words)}</text>")
+        self.reach(x + (WIDE * len(words) if anchor == "start" else 0), y)
+
+    def box(self, x, y, lines, colour, width=0, marked=()):
+        """Draws lines in a box, those that are marked on a ground of their own, and gives its width and height."""
+        width = max(width, WIDE * max(len(line) for line in lines) + 2 * SPACE)
+        height = HIGH * len(lines) + SPACE
+        shape = f'x="{x}" y="{y}" width="{width}" height="{height}"'
+        self.shapes.append(f'<rect {shape} rx="4" fill="{colour}" stroke="#666"/>')
+        for number, line in enumerate(lines):
+            top = y + SPACE // 2 + HIGH * number
+            if number in marked:
+                shape = f'x="{x + 1}" y="{top}" width="{width - 2}" height="{HIGH}"'
+                self.shapes.append(f'<rect {shape} fill="{CLASH}"/>')
+            self.text(x + SPACE, top + 14, line)
+        self.reach(x + width, y + height)
+        return width, height
+
+    def arrow(self, x, top, bottom):
+        self.shapes.append(f'<path d="M{x} {top}V{bottom - 6}" stroke="#666" fill="none"/>')
+        self.shapes.append(f'<path d="M{x - 4} {bottom - 7}h8l-4 7z" fill="#666"/>')
+
+    def svg(self):
+        size = f'width="{self.width + SPACE}" height="{self.height + SPACE}"'
+        style = 'font-family="monospace" font-size="13" xml:space="preserve"'
+        head = f'<svg xmlns="http://www.w3.org/2000/svg" {size} {style} role="img">'
+        return "\n".join([head, f"<title>{escape(self.title)}</title>", *self.shapes, "</svg>", ""])
+
+
+def replicas():
+    """Three replicas that receive the same patches, each in an order of its own."""
+    start = '{"k":0}'
+    one, two, three = '{"a":{"x":1}}', '{"a":{"y":null}}', '{"k":null}'
+    orders = [[one, two, three], [three, one, two], [two, three, two, one]]
+    drawing = Drawing("Three replicas, their patches in three orders, and the one document that all show")
+    width = WIDE * max(len(text) for text in (one, two, three)) + 4 * SPACE
+    step = HIGH + 3 * SPACE
+    last = 32 + step * (1 + max(len(order) for order in orders))
+    for number, order in enumerate(orders):
+        x = SPACE + number * (width + 3 * SPACE)
+        drawing.text(x + width // 2, 20, f"replica {number + 1}", "middle", "bold")
+        y = 32
+        for place, text in enumerate([start, *order]):
+            _, height = drawing.box(x, y, [text], PATCH if place else PLAIN, width)
+            below = last if place == len(order) else y + step
+            drawing.arrow(x + width // 2, y + height, below)
+            y += step
+        shown = answer("replay", start, *order)
+        drawing.box(x, last, [shown], SHOWN, width)
+    join = answer("join", one, two, three)
+    drawing.text(SPACE, last + 2 * HIGH + SPACE + 10, f"The join of the patches: {join}")
+    return drawing.svg()
+
+
+def lines_of(value, path="", depth=0):
+    """Gives each line of a document as a tree, with the pointer to what stands there."""
+    for name, part in value.items():
+        here = f"{path}/{name}"
+        if isinstance(part, dict):
+            yield here, "  " * depth + name
+            yield from lines_of(part, here, depth + 1)
+        else:
+            yield here, "  " * depth + f"{name}: {json.dumps(part)}"
+
+
+def tree(drawing, x, text, clashes):
+    lines = list(lines_of(json.loads(text)))
+    marked = [number for number, (path, _) in enumerate(lines) if path in clashes]
+    return drawing.box(x, 40, [line for _, line in lines], PATCH, 0, marked)
+
+
+def clash():
+    """Two patches that clash, and two that are compatible with their join."""
+    one, two, other = '{"a":{"x":1},"b":1}', '{"a":{"y":null},"b":2}', '{"a":{"y":null},"c":2}'
+    drawing = Drawing("Two patches that clash, and two that do not, with their join")
+    refusal = answer("join", one, two)
+    places = json.loads(f"[{refusal.split(' at ', 1)[1]}]")
+    x = SPACE
+    for text in (one, two):
+        width, height = tree(drawing, x, text, places)
+        x += width + SPACE
+    drawing.text(SPACE, 24, "These clash:", weight="bold")
+    bottom = 40 + height + HIGH
+    drawing.text(SPACE, bottom, refusal)
+    x = max(x, SPACE + WIDE * len(refusal)) + 5 * SPACE
+    drawing.text(x, 24, "These are compatible, and this is their join:", weight="bold")
+    for text in (one, other):
+        width, _ = tree(drawing, x, text, [])
+        x += width + SPACE
+    joined = answer("join", one, other)
+    lines = [line for _, line in lines_of(json.loads(joined))]
+    drawing.box(x + 2 * SPACE, 40, lines, SHOWN)
+    return drawing.svg()
+
+
+def main():
+    folder = pathlib.Path(sys.argv[1])
+    (folder / "replicas.svg").write_text(replicas(), "utf-8")
+    (folder / "clash.svg").write_text(clash(), "utf-8")
+
+
+main()
