@@ -142,14 +142,16 @@ HasKind-mistake error found faults memory_left no_help is (inl memory) = absurd 
 HasKind-mistake error found faults memory_left no_help is (inr among) = (kind_of error, no_help, subst (IsAmong (kind_of error)) is among)
 
 -- the settings of the line's own command, one after another
-pub app_of-settings : (made named required quiet : Command) (about : Option (Bor (List ℕ))) → app_of made ≡ new_app (codes "mergejoin")
+pub app_of-settings : (made named ended required quiet : Command) (about after : Option (Bor (List ℕ))) → app_of made ≡ new_app (codes "mergejoin")
     → out-Command named ≡ record (out-Command made) { about = about }
-    → out-Command required ≡ record (out-Command named) { subcommand_required = true }
+    → out-Command ended ≡ record (out-Command named) { after_help = after }
+    → out-Command required ≡ record (out-Command ended) { subcommand_required = true }
     → out-Command quiet ≡ record (out-Command required) { disable_help_subcommand = true }
     → app_of quiet ≡ on_top (λ top. record top { subcommand_required = true; disable_help_subcommand = true }) (new_app (codes "mergejoin"))
-app_of-settings made named required quiet about new said requires hides =
+app_of-settings made named ended required quiet about after new said says requires hides =
     let settled : App → App = on_top (λ top. record top { subcommand_required = true; disable_help_subcommand = true }) in
     let named_is : app_of named ≡ app_of made = ap app_of_fields said in
-    let required_is : app_of required ≡ on_top (λ top. record top { subcommand_required = true }) (app_of named) = ap app_of_fields requires in
+    let ended_is : app_of ended ≡ app_of named = ap app_of_fields says in
+    let required_is : app_of required ≡ on_top (λ top. record top { subcommand_required = true }) (app_of ended) = ap app_of_fields requires in
     let quiet_is : app_of quiet ≡ on_top (λ top. record top { disable_help_subcommand = true }) (app_of required) = ap app_of_fields hides in
-    quiet_is ∙ ap (on_top (λ top. record top { disable_help_subcommand = true })) required_is ∙ ap settled (named_is ∙ new)
+    quiet_is ∙ ap (on_top (λ top. record top { disable_help_subcommand = true })) required_is ∙ ap settled (ended_is ∙ named_is ∙ new)

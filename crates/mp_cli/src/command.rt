@@ -6,6 +6,7 @@ ghost use Rattle.clap.specs.declared.builder.command.Command.TheViews.{out-Comma
 ghost use Rattle.mp_cli.specs.CommandLine.{command_line, get_shape, asked_for, faults_of, pointer_given, pointer_in, word_of, CarriesPointer, HasMistake, HasPointer, IsSubcommand, IsHelp, IsUsage};
 ghost use Rattle.mp_cli.specs.declared.command.CommandFault.TheVariants.{OutOfMemory};
 
+use crate::help::{AFTER_HELP, GET, HelpTexts, JOIN, MERGE, PATCH, REPLAY, REWRITE};
 use clap::error::ErrorKind;
 use clap::{Arg, ArgMatches};
 use std::alloc::{AllocError, Global};
@@ -97,34 +98,15 @@ fn program_line<'a>(alloc: Global) -> Result<clap::Command<'a>, AllocError>
         .about(
             "JSON Merge Patch (RFC 7396), JSON Pointer (RFC 6901) and JSON Patch (RFC 6902) over one JSON array on standard input",
         )
+        .after_help(AFTER_HELP)
         .subcommand_required(true)
         .disable_help_subcommand(true)
         .subcommand(get_line(alloc)?)?;
-    let line = with_plain(alloc, line, "patch", "Apply a JSON Patch to a document")?;
-    let line = with_plain(
-        alloc,
-        line,
-        "merge",
-        "Apply merge patches to a document, one after another",
-    )?;
-    let line = with_plain(
-        alloc,
-        line,
-        "join",
-        "Make one merge patch with the effect of several compatible ones",
-    )?;
-    let line = with_plain(
-        alloc,
-        line,
-        "replay",
-        "Apply compatible merge patches to a document, in whatever order and with whatever repeats",
-    )?;
-    with_plain(
-        alloc,
-        line,
-        "rewrite",
-        "Make a JSON Patch that does to a document what a merge patch does",
-    )
+    let line = with_plain(alloc, line, "patch", PATCH)?;
+    let line = with_plain(alloc, line, "merge", MERGE)?;
+    let line = with_plain(alloc, line, "join", JOIN)?;
+    let line = with_plain(alloc, line, "replay", REPLAY)?;
+    with_plain(alloc, line, "rewrite", REWRITE)
 }
 
 /// The line with one more subcommand, which has no argument of its own.
@@ -132,7 +114,7 @@ fn with_plain<'a>(
     alloc: Global,
     line: clap::Command<'a>,
     name: &'a str,
-    about: &'a str,
+    help: HelpTexts<'a>,
 ) -> Result<clap::Command<'a>, AllocError>
     requires required { (out-Command line).subcommand_required ≡ true }
     requires no_globals { (out-Command line).has_globals ≡ false }
@@ -141,15 +123,17 @@ fn with_plain<'a>(
     ensures required { IfOk result (λ new. (out-Command new).subcommand_required ≡ true) }
     ensures no_globals { IfOk result (λ new. (out-Command new).has_globals ≡ false) }
 {
-    line.subcommand(plain_line(alloc, name, about))
+    line.subcommand(plain_line(alloc, name, help))
 }
 
 /// A subcommand with no argument of its own.
-fn plain_line<'a>(alloc: Global, name: &'a str, about: &'a str) -> clap::Command<'a>
+fn plain_line<'a>(alloc: Global, name: &'a str, help: HelpTexts<'a>) -> clap::Command<'a>
     ensures shape { shape_of result ≡ new_shape name.now }
     ensures no_globals { (out-Command result).has_globals ≡ false }
 {
-    clap::Command::new(alloc, name).about(about)
+    clap::Command::new(alloc, name)
+        .about(help.about)
+        .after_help(help.after)
 }
 
 /// The subcommand `get`, with its one word.
@@ -160,12 +144,7 @@ fn get_line<'a>(alloc: Global) -> Result<clap::Command<'a>, AllocError>
     let pointer = Arg::new(alloc, "POINTER").required(true).help(
         "A JSON Pointer (RFC 6901), such as /a/0; the empty word names the whole document",
     );
-    plain_line(
-        alloc,
-        "get",
-        "Print the part of a document that a JSON Pointer names",
-    )
-    .arg(pointer)
+    plain_line(alloc, "get", GET).arg(pointer)
 }
 
 /// The command of the subcommand that was met.

@@ -6,6 +6,7 @@ mod answering;
 pub mod answers;
 mod command;
 mod counted;
+mod help;
 pub mod laws;
 mod running;
 

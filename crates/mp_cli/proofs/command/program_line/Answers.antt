@@ -9,7 +9,7 @@ use Rattle.mp_cli.proofs.command.program_line.Goals as goal
 pub returns-clause-line : goal.returns-clause-line
 unfolding command_line
 returns-clause-line c =
-    let top = app_of-settings c.new.result c.about.result c.subcommand_required.result c.disable_help_subcommand.result _ c.new.ensures.app c.about.ensures
+    let top = app_of-settings c.new.result c.about.result c.after_help.result c.subcommand_required.result c.disable_help_subcommand.result _ _ c.new.ensures.app c.about.ensures c.after_help.ensures
     c.subcommand_required.ensures c.disable_help_subcommand.ensures in
     let get = c.in_ok-line.ensures.shape c.in_ok-get_line.ensures.no_globals ∙ ap₂ with_subcommand top c.in_ok-get_line.ensures.shape in
     let patch = c.in_ok-line-2.ensures.line ∙ ap (λ app. with_subcommand app (new_shape (codes "patch"))) get in

@@ -1,0 +1,61 @@
+// The texts of the help: what each subcommand is for, the shape of its input with an example, and its statuses.
+
+// What stands at the head of a help, and what stands at its end.
+#[derive(Clone, Copy)]
+pub(crate) struct HelpTexts<'a> {
+    pub(crate) about: &'a str,
+    pub(crate) after: &'a str,
+}
+
+pub(crate) const AFTER_HELP: &str = "\
+Limits: 1,048,576 bytes of input, 127 levels of nesting, whole numbers from -2^63 to 2^64 - 1.
+Status: 0 with a result; 1 there is none; 2 the input or a word is at fault; 3 memory or a device failed.
+Each subcommand's help has its input; docs/REFUSALS.md of its repository has each line of refusal.";
+
+pub(crate) const GET: HelpTexts<'static> = HelpTexts {
+    about: "Print the part of a document that a JSON Pointer names",
+    after: "\
+Input: [document]
+Example: echo '[{\"a\":[1,2]}]' | mergejoin get /a/0
+Status: 0; 1 nothing is there; 2 the input or the pointer is at fault; 3 memory or a device failed.",
+};
+
+pub(crate) const PATCH: HelpTexts<'static> = HelpTexts {
+    about: "Apply a JSON Patch to a document",
+    after: "\
+Input: [document, JSON Patch]
+Example: echo '[{\"a\":1},[{\"op\":\"remove\",\"path\":\"/a\"}]]' | mergejoin patch
+Status: 0; 1 an operation is refused; 2 the input or an operation's form is at fault; 3 memory or a device failed.",
+};
+
+pub(crate) const MERGE: HelpTexts<'static> = HelpTexts {
+    about: "Apply merge patches to a document, one after another",
+    after: "\
+Input: [document, merge patch, ..]
+Example: echo '[{\"a\":1},{\"a\":null,\"b\":2}]' | mergejoin merge
+Status: 0; 2 the input is at fault; 3 memory or a device failed.",
+};
+
+pub(crate) const JOIN: HelpTexts<'static> = HelpTexts {
+    about: "Make one merge patch with the effect of several compatible ones",
+    after: "\
+Input: [merge patch, ..]
+Example: echo '[{\"a\":1},{\"b\":null}]' | mergejoin join
+Status: 0; 1 two patches clash, or there is none; 2 the input is at fault; 3 memory or a device failed.",
+};
+
+pub(crate) const REPLAY: HelpTexts<'static> = HelpTexts {
+    about: "Apply compatible merge patches to a document, in whatever order and with whatever repeats",
+    after: "\
+Input: [document, merge patch, ..]
+Example: echo '[{\"k\":0},{\"a\":1},{\"k\":null},{\"a\":1}]' | mergejoin replay
+Status: 0; 1 two patches clash; 2 the input is at fault; 3 memory or a device failed.",
+};
+
+pub(crate) const REWRITE: HelpTexts<'static> = HelpTexts {
+    about: "Make a JSON Patch that does to a document what a merge patch does",
+    after: "\
+Input: [document, merge patch]
+Example: echo '[{\"a\":1},{\"a\":null}]' | mergejoin rewrite
+Status: 0; 2 the input is at fault; 3 memory or a device failed.",
+};
