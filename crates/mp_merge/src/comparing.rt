@@ -105,7 +105,7 @@ fn push_member_clashes(
 {
     for (name, change) in changes.iter() {
         if let Some(other) = others.get(name.as_str()) {
-            path.push(alloc, name.as_str())?;
+            path.push(name.as_str())?;
             push_clashes(change, other, path, places, alloc)?;
             path.pop();
         }

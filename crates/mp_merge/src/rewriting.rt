@@ -157,7 +157,7 @@ fn push_edits(
         Doc::Members(changes) => match value {
             Some(there) => match there {
                 Doc::Members(entries) => {
-                    path.push(alloc, name)?;
+                    path.push(name)?;
                     push_member_edits(changes, entries, path, edits, alloc)?;
                     path.pop();
                     Ok(())

@@ -1,7 +1,5 @@
 -- What the editing of one part says of the document around it.
 use Rattle.std.proofs.Common.{◌≡◌, ◌<◌, ◌+◌, ◌-◌, ℕ, suc, List, [], ◌∷◌, take, drop, Option, None, Some, option_and_then, MatchOption, refl, sym, ap, ap₂, ◌∙◌, subst, arith}
-use Rattle.std.proofs.lemmas.List.{drop_more}
-use Rattle.std.proofs.lemmas.Option.{slice_get_within, get_or_from_slice_get}
 use Rattle.std.specs.List.{slice_get, slice_range}
 use Rattle.mp_tree.specs.Document.{Document}
 use Rattle.mp_tree.specs.View.{document}
@@ -12,6 +10,7 @@ use Rattle.mp_pointer.specs.Only.{DifferOnlyAt}
 use Rattle.mp_pointer.specs.Part.{part, child}
 use Rattle.mp_pointer.specs.Spelling.{Tokens}
 use Rattle.mp_pointer.proofs.PartLemmas.{part-push, DifferOnlyAt-root}
+use Rattle.mp_pointer.proofs.TokenLemmas.{drop_token}
 use Rattle.mp_pointer.proofs.WalkLemmas.{becomes_deeper, nothing_changed}
 
 -- ---- the tokens from a place on
@@ -21,9 +20,8 @@ slice_range-none t place end same = let none : end - place ≡ 0 = omega arith i
 
 pub slice_range-more : (t : Tokens) (place end : ℕ) (token : List ℕ) → slice_get t place ≡ Some token → place < end → slice_range t place end ≡ token ∷ slice_range t (place + 1) end
 slice_range-more t place end token here more =
-    let first : drop place t ≡ token ∷ drop (place + 1) t = drop_more t place [] (slice_get_within t place token here) ∙ ap (λ x. x ∷ drop (place + 1) t) (get_or_from_slice_get t place token [] here) in
     let count : end - place ≡ suc (end - (place + 1)) = omega arith in
-    ap₂ take count first
+    ap₂ take count (drop_token t place token here)
 
 -- ---- a document with one child that was edited
 

@@ -1,4 +1,5 @@
 pub mod ChildLemmas
+pub mod CutLemmas
 pub mod EditLemmas
 pub mod Facts
 pub mod Following

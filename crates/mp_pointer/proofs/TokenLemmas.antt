@@ -1,15 +1,18 @@
 -- Lists of tokens: where one begins with another.
-use Rattle.std.proofs.Common.{◌≡◌, ◌≢◌, ◌<◌, ◌≤◌, ◌+◌, ℕ, List, [], ◌∷◌, ◌++◌, length, get_or, map, take, drop, Some, option_map, String, Global, string_bytes, refl, sym, ap, ◌∙◌, arith, length-append, Bool, true, false, not, true≢false}
-use Rattle.std.proofs.lemmas.List.{take_all, take-append-drop, take_more_same, drop_more, get_or_append_left}
-use Rattle.std.proofs.lemmas.Option.{slice_get-map, slice_get_read, slice_get_within, get_or_from_slice_get}
+use Rattle.std.proofs.Common.{◌≡◌, ◌≢◌, ◌<◌, ◌≤◌, ◌+◌, ℕ, List, [], ◌∷◌, ◌++◌, length, get_or, take, drop, Some, refl, sym, ap, ◌∙◌, arith, length-append, Bool, true, false, not, true≢false}
+use Rattle.std.proofs.lemmas.List.{take_all, take-append-drop, take_more, take_more_same, drop_more, get_or_append_left}
+use Rattle.std.proofs.lemmas.Option.{slice_get_within, get_or_from_slice_get}
 use Rattle.std.proofs.lemmas.Slice.Eq.{bytes_eq-Decides}
 use Rattle.std.specs.List.{slice_get}
 use Rattle.std.specs.Str.{bytes_eq}
 use Rattle.mp_pointer.specs.Spelling.{Tokens, IsProperPrefix}
 
--- the token that is read at a place
-pub token_at : (strings : List (String Global)) (t : Tokens) (i : ℕ) (s : String Global) → map string_bytes strings ≡ t → i < length strings → s ≡ get_or strings i s → slice_get t i ≡ Some (string_bytes s)
-token_at strings t i s is less read = ap (λ t. slice_get t i) (sym is) ∙ slice_get-map string_bytes strings i ∙ ap (option_map string_bytes) (slice_get_read strings (length strings) i s refl less read)
+-- one more token is taken, or dropped
+pub take_token : (t : Tokens) (i : ℕ) (x : List ℕ) → slice_get t i ≡ Some x → take (i + 1) t ≡ take i t ++ x ∷ []
+take_token t i x here = take_more t i [] (slice_get_within t i x here) ∙ ap (λ y. take i t ++ y ∷ []) (get_or_from_slice_get t i x [] here)
+
+pub drop_token : (t : Tokens) (i : ℕ) (x : List ℕ) → slice_get t i ≡ Some x → drop i t ≡ x ∷ drop (i + 1) t
+drop_token t i x here = drop_more t i [] (slice_get_within t i x here) ∙ ap (λ y. y ∷ drop (i + 1) t) (get_or_from_slice_get t i x [] here)
 
 pub take_step : (t u : Tokens) (i : ℕ) (x : List ℕ) → slice_get t i ≡ Some x → slice_get u i ≡ Some x → take i t ≡ take i u → take (i + 1) t ≡ take (i + 1) u
 take_step t u i x here there so_far = take_more_same t u i [] (slice_get_within t i x here) (slice_get_within u i x there) so_far (get_or_from_slice_get t i x [] here ∙ sym (get_or_from_slice_get u i x [] there))

@@ -1,3 +1,4 @@
+pub mod Cuts
 pub mod Edit
 pub mod Laws
 pub mod Lent

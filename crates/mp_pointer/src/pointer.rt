@@ -1,9 +1,9 @@
-ghost use Rattle.std.specs.Prelude.{◌≡◌, ◌≢◌, ◌≤◌, ◌-◌, ◌↔◌, ◌++◌, ◌∷◌, [], length, map, take, slice_get, IsTrue, IfOk, IfErr, OnOk, OnErr, MatchResult, Ok, Err, string_bytes};
+ghost use Rattle.std.specs.Prelude.{◌≡◌, ◌≢◌, ◌≤◌, ◌-◌, ◌↔◌, ◌++◌, ◌∷◌, [], length, map, take, get_or, slice_get, IsTrue, IfOk, IfErr, OnOk, OnErr, MatchResult, Ok, Err, string_bytes};
 ghost use Rattle.std.specs.Option.{option_copied};
 ghost use Rattle.mp_pointer.specs.Spelling.{spell, tokens_in, IsFaultOf, IsProperPrefix};
 
 use crate::fault::PointerFault;
-use crate::spelling::{bad_tilde, push_escaped, tokens_after};
+use crate::spelling::{bad_tilde, pointer_after, push_escaped};
 use std::alloc::{AllocError, Global};
 use std::marker::Model;
 
@@ -16,17 +16,23 @@ use std::marker::Model;
 /// let pointer = Pointer::parse(alloc, "/a~1b/0")?;  // the tokens `a/b` and `0`
 /// let part = get(&doc, &pointer);                   // 5, where doc is {"a/b":[5]}
 /// ```
+// The tokens stand one after another in one text, so that a copy asks for memory twice, however many there are.
 #[derive(Debug, Drop)]
 pub struct Pointer {
-    tokens: Vec<String>,
+    text: String,
+    // where each token ends in the text, in bytes
+    ends: Vec<usize>,
 }
 
 impl Model for Pointer {
-    ghost use Rattle.std.specs.Prelude.{List, ℕ, map, string_bytes};
+    ghost use Rattle.std.specs.Prelude.{List, ℕ, string_bytes};
+    ghost use Rattle.mp_pointer.specs.Cuts.{AreCuts, cut};
 
     ghost Value = { List (List ℕ) };
 
-    ghost view = { λ p. map string_bytes p.tokens.items };
+    ghost view = { λ p. cut 0 p.ends.items (string_bytes p.text) };
+
+    ghost invariant = { λ p. AreCuts 0 p.ends.items (string_bytes p.text) };
 }
 
 impl Pointer {
@@ -56,10 +62,7 @@ impl Pointer {
         };
         match bad_tilde(text.as_bytes()) {
             Some(place) => Err(PointerFault::BadTilde(place)),
-            None => {
-                let tokens = tokens_after(alloc, rest)?;
-                Ok(Pointer { tokens })
-            }
+            None => Ok(pointer_after(alloc, rest)?),
         }
     }
 
@@ -68,7 +71,8 @@ impl Pointer {
         ensures { result ≡ [] }
     {
         Pointer {
-            tokens: Vec::new(alloc),
+            text: String::new(alloc),
+            ends: Vec::new(alloc),
         }
     }
 
@@ -81,9 +85,9 @@ impl Pointer {
         ensures { IfOk result (λ text. string_bytes text ≡ spell self.now) }
     {
         let mut text = String::new(alloc);
-        for token in self.tokens() {
+        for number in 0..self.len() {
             text.push('/')?;
-            push_escaped(&mut text, token.as_str())?;
+            push_escaped(&mut text, self.token(number).unwrap())?;
         }
         Ok(text)
     }
@@ -104,7 +108,7 @@ impl Pointer {
         ensures { IfOk result (λ p. p ≡ self.now ++ token.now ∷ []) }
     {
         let mut child = self.copy(alloc)?;
-        child.tokens.push(String::from_str(alloc, token)?)?;
+        child.push(token)?;
         Ok(child)
     }
 
@@ -114,24 +118,30 @@ impl Pointer {
     /// ```text
     /// pointer.under(alloc, "x/")  // prints as /x~1/a, where pointer prints as /a
     /// ```
-    pub fn under(mut self, alloc: Global, token: &str) -> Result<Pointer, AllocError>
+    pub fn under(self, alloc: Global, token: &str) -> Result<Pointer, AllocError>
         ensures { IfOk result (λ p. p ≡ token.now ∷ self) }
     {
-        self.tokens.insert(0, String::from_str(alloc, token)?)?;
-        Ok(self)
+        let mut pointer = Pointer::empty(alloc);
+        pointer.push(token)?;
+        for number in 0..self.len() {
+            pointer.push(self.token(number).unwrap())?;
+        }
+        Ok(pointer)
     }
 
     /// Adds a token, given unescaped, at the end: the pointer then leads one step further into the document.
     /// `AllocError` where memory ran out: the pointer is as it was.
     ///
     /// ```text
-    /// pointer.push(alloc, "x/")?;  // then it prints as /a/x~1, where it printed as /a
+    /// pointer.push("x/")?;  // then it prints as /a/x~1, where it printed as /a
     /// ```
-    pub fn push(&mut self, alloc: Global, token: &str) -> Result<(), AllocError>
+    pub fn push(&mut self, token: &str) -> Result<(), AllocError>
         ensures ok { OnOk result (self.new ≡ self.old ++ token.now ∷ []) }
         ensures err { OnErr result (self.new ≡ self.old) }
     {
-        self.tokens.push(String::from_str(alloc, token)?)?;
+        self.ends.reserve(1)?;
+        self.text.push_str(token)?;
+        self.ends.push(self.text.as_str().len())?;
         Ok(())
     }
 
@@ -139,7 +149,9 @@ impl Pointer {
     pub fn pop(&mut self)
         ensures { self.new ≡ take (length self.old - 1) self.old }
     {
-        drop(self.tokens.pop());
+        let count = self.ends.len().saturating_sub(1);
+        self.text.truncate(end_of(self.ends.as_slice(), count));
+        self.ends.truncate(count);
     }
 
     /// The pointer of the first `count` tokens, which leads to a part that holds this pointer's.
@@ -148,18 +160,17 @@ impl Pointer {
         requires { count ≤ length self.now }
         ensures { IfOk result (λ p. p ≡ take count self.now) }
     {
-        let mut tokens = Vec::with_capacity(alloc, count)?;
-        for token in &self.tokens()[..count] {
-            tokens.push(String::from_str(alloc, token.as_str())?)?;
-        }
-        Ok(Pointer { tokens })
+        let end = end_of(self.ends.as_slice(), count);
+        let text = String::from_str(alloc, &self.text.as_str()[..end])?;
+        let ends = Vec::from_slice(alloc, &self.ends.as_slice()[..count])?;
+        Ok(Pointer { text, ends })
     }
 
     /// How many tokens there are: 0 for the pointer to the whole document. Takes no memory.
     pub fn len(&self) -> usize
         ensures { result ≡ length self.now }
     {
-        self.tokens.len()
+        self.ends.len()
     }
 
     /// The token at a place, counted from 0, with nothing escaped; None exactly where `place` is not below
@@ -167,9 +178,12 @@ impl Pointer {
     pub fn token(&self, place: usize) -> Option<&str>
         ensures { option_copied result ≡ slice_get self.now place }
     {
-        match self.tokens.get(place) {
-            Some(token) => Some(token.as_str()),
-            None => None,
+        let ends = self.ends.as_slice();
+        if place < ends.len() {
+            let start = end_of(ends, place);
+            Some(&self.text.as_str()[start..ends[place]])
+        } else {
+            None
         }
     }
 
@@ -182,22 +196,22 @@ impl Pointer {
     pub fn is_proper_prefix_of(&self, other: &Pointer) -> bool
         ensures { IsTrue result ↔ IsProperPrefix self.now other.now }
     {
-        let tokens = self.tokens();
-        let others = other.tokens();
-        if others.len() <= tokens.len() {
+        if other.len() <= self.len() {
             return false;
         }
-        for (place, token) in tokens.iter().enumerate() {
-            if token.as_str() != others[place].as_str() {
+        for number in 0..self.len() {
+            if self.token(number).unwrap() != other.token(number).unwrap() {
                 return false;
             }
         }
         true
     }
+}
 
-    pub(crate) fn tokens(&self) -> &[String]
-        ensures { map string_bytes result.now ≡ self.now }
-    {
-        self.tokens.as_slice()
-    }
+// Where the first `count` tokens end.
+fn end_of(ends: &[usize], count: usize) -> usize
+    requires { count ≤ length ends.now }
+    ensures { result ≡ get_or (0 ∷ ends.now) count 0 }
+{
+    if count == 0 { 0 } else { ends[count - 1] }
 }

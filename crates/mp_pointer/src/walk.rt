@@ -47,8 +47,8 @@ pub fn get<'a>(doc: &'a Doc, pointer: &Pointer) -> Option<&'a Doc>
     ensures { option_map (λ d. document d.now) result ≡ part (document doc.now) pointer.now }
 {
     let mut target = doc;
-    for token in pointer.tokens() {
-        target = child_of(target, token.as_str())?;
+    for number in 0..pointer.len() {
+        target = child_of(target, pointer.token(number).unwrap())?;
     }
     Some(target)
 }

@@ -1,7 +1,7 @@
-use Rattle.std.proofs.Common.{◌≡◌, map, drop, string_bytes}
+use Rattle.std.proofs.Common.{◌≡◌, drop}
 use Rattle.mp_tree.specs.View.{document}
 use Rattle.mp_pointer.specs.Part.{part}
 use Rattle.mp_pointer.proofs.walk.get.Given as goal
 
-abbrev pub invariant-loop-token : goal.invariant-loop-token
-invariant-loop-token l = part (document l.fn.doc) l.fn.pointer ≡ part (document l.target) (map string_bytes (drop l.token-index l.token-items))
+abbrev pub invariant-loop-number : goal.invariant-loop-number
+invariant-loop-number l = part (document l.fn.doc) l.fn.pointer ≡ part (document l.target) (drop l.number l.fn.pointer)

@@ -1,9 +1,38 @@
-use Rattle.std.proofs.Common.{map, take, string_bytes, sym, ap, ◌∙◌, arith}
-use Rattle.std.proofs.lemmas.List.{take_all, take-map}
+use Rattle.std.proofs.Common.{◌≡◌, ◌≤◌, ◌-◌, ◌∷◌, length, take, get_or, string_bytes, sym, ap, ◌∙◌, arith}
+use Rattle.std.proofs.lemmas.List.{length-take-le}
+use Rattle.mp_pointer.proofs.CutLemmas.{length-cut, cut_is_boundary, cut-take, AreCuts-take}
 use Rattle.mp_pointer.proofs.pointer.Pointer.front.Goals as goal
+
+pub end_of-end-requires : goal.end_of-end-requires
+end_of-end-requires c = omega (arith, c.requires, ap length c.as_slice.ensures.value, length-cut 0 c.self.inside.ends.items (string_bytes c.self.inside.text), ap length c.self.view_is)
+
+pub range-requires-clause-end_boundary : goal.range-requires-clause-end_boundary
+range-requires-clause-end_boundary c =
+    let ends = c.self.inside.ends.items in
+    let bytes = string_bytes c.self.inside.text in
+    let within : c.args.count ≤ length ends = omega (arith, c.requires, length-cut 0 ends bytes, ap length c.self.view_is) in
+    rw (c.end_of-end.ensures, c.as_slice.ensures.value, c.as_str.ensures.value) (cut_is_boundary 0 ends bytes c.args.count c.self.invariant within)
+
+pub slice_bounds-from_slice-end : goal.slice_bounds-from_slice-end
+slice_bounds-from_slice-end c =
+    let ends = c.self.inside.ends.items in
+    let within : c.args.count ≤ length ends = omega (arith, c.requires, length-cut 0 ends (string_bytes c.self.inside.text), ap length c.self.view_is) in
+    rw c.as_slice-2.ensures.value (sym (length-take-le c.args.count ends within))
+
+pub invariant_of-result : goal.invariant_of-result
+invariant_of-result c =
+    let ends = c.self.inside.ends.items in
+    let bytes = string_bytes c.self.inside.text in
+    let within : c.args.count ≤ length ends = omega (arith, c.requires, length-cut 0 ends bytes, ap length c.self.view_is) in
+    let from_start : get_or (0 ∷ ends) c.args.count 0 - 0 ≡ get_or (0 ∷ ends) c.args.count 0 = omega arith in
+    rw (c.in_ok-ends.ensures.items, c.as_slice-2.ensures.value, c.in_ok-text.ensures.ok, c.range.ensures.value, c.as_str.ensures.value, c.end_of-end.ensures, c.as_slice.ensures.value, from_start)
+    (AreCuts-take 0 ends bytes c.args.count c.self.invariant within)
 
 pub returns : goal.returns
 returns c =
-    let tokens = c.tokens.result.now in
-    let l = c.loop-token in
-    l.invariant ∙ ap (map string_bytes) (take_all l.token-index (take c.args.count tokens) (omega arith)) ∙ sym (take-map string_bytes c.args.count tokens) ∙ ap (take c.args.count) c.tokens.ensures
+    let ends = c.self.inside.ends.items in
+    let bytes = string_bytes c.self.inside.text in
+    let within : c.args.count ≤ length ends = omega (arith, c.requires, length-cut 0 ends bytes, ap length c.self.view_is) in
+    let from_start : get_or (0 ∷ ends) c.args.count 0 - 0 ≡ get_or (0 ∷ ends) c.args.count 0 = omega arith in
+    rw (c.in_ok-ends.ensures.items, c.as_slice-2.ensures.value, c.in_ok-text.ensures.ok, c.range.ensures.value, c.as_str.ensures.value, c.end_of-end.ensures, c.as_slice.ensures.value, from_start)
+    (cut-take 0 ends bytes c.args.count c.self.invariant within ∙ ap (take c.args.count) c.self.view_is)
