@@ -8,7 +8,7 @@ ghost use Rattle.mp_cli.specs.Answered.{Gives, IsAnswered, IsJoinAnswer, IsPatch
 use crate::answers::Answer;
 use crate::command::Command;
 use mp_merge::{ListFault, join_all, merge_owned, replay_owned, rewrite as rewriting};
-use mp_patch::{ApplyFault, Cause, FormCause, FormFault, JsonPatch, apply_owned};
+use mp_patch::{ApplyFault, Cause, FormCause, FormFault, JsonPatch, apply_owned, write_patch};
 use mp_pointer::{Pointer, PointerFault, get as part_at};
 use mp_tree::{Doc, DocsFault, read_docs, write_doc, write_text};
 use std::alloc::{AllocError, Global};
@@ -313,7 +313,7 @@ fn rewritten(alloc: Global, doc: &Doc, patch: &Doc) -> Result<Answer, AllocError
         IsRewriteAnswer (document doc.now) (document patch.now) (answered_by a)) }
 {
     let edits = rewriting(alloc, doc, patch)?;
-    printed(write_doc(alloc, &edits.into_doc(alloc)?)?)
+    printed(write_patch(alloc, &edits)?)
 }
 
 fn printed(mut text: String) -> Result<Answer, AllocError>

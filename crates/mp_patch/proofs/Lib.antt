@@ -14,3 +14,4 @@ pub mod SomeRun
 pub mod SomeStep
 pub mod StepLemmas
 pub mod ValueLaws
+pub mod WritingLemmas

@@ -1,5 +1,7 @@
 //! Worked values: operations on documents, forms, and the texts of the faults.
-use crate::{ApplyFault, Cause, FormCause, FormFault, JsonPatch, Op, apply, apply_owned};
+use crate::{
+    ApplyFault, Cause, FormCause, FormFault, JsonPatch, Op, apply, apply_owned, write_patch,
+};
 use mp_pointer::Pointer;
 use mp_tree::{Doc, read_doc, write_doc};
 use std::alloc::{AllocError, Global};
@@ -222,6 +224,22 @@ fn a_move_there_and_back(rt: HostRuntime) -> Result<(), Fail> {
     assert_eq!(rt; read.ops().len(), 1);
     let doc = read_doc(rt.alloc(), b"{\"a\":1}")?;
     check_text(&rt, &apply(rt.alloc(), &doc, &read)?, r#"{"b":1}"#);
+    Ok(())
+}
+
+#[test]
+fn a_patch_is_written_as_its_document(rt: HostRuntime) -> Result<(), Fail> {
+    let text = concat!(
+        r#"[{"op":"test","path":"","value":{"a":[1,null]}},{"op":"add","path":"/a/-","value":2},"#,
+        r#"{"op":"replace","path":"/a/0","value":"x"},{"op":"remove","path":"/a/1"},"#,
+        r#"{"from":"/a","op":"copy","path":"/~0~1"},{"from":"/a","op":"move","path":"/b"}]"#,
+    );
+    let patch = JsonPatch::from_doc(rt.alloc(), &read_doc(rt.alloc(), text.as_bytes())?)?;
+    assert_eq!(rt; write_patch(rt.alloc(), &patch)?.as_str(), text);
+    assert_eq!(rt;
+        write_patch(rt.alloc(), &JsonPatch::new(rt.alloc()))?.as_str(),
+        "[]"
+    );
     Ok(())
 }
 

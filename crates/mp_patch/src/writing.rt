@@ -35,31 +35,6 @@ fn shape_of(op: &Op, alloc: Global) -> Result<Doc, AllocError>
     }
 }
 
-// The same of operations that are owned: their values are moved.
-pub(crate) fn owned_shapes_of(ops: Vec<Op>, alloc: Global) -> Result<Vec<Doc>, AllocError>
-    ensures { IfOk result (λ docs. items docs.items
-        ≡ items_of (map shape (operations_of ops.items))) }
-{
-    let mut elements = Vec::with_capacity(alloc, ops.len())?;
-    for op in ops {
-        elements.push(owned_shape_of(op, alloc)?)?;
-    }
-    Ok(elements)
-}
-
-fn owned_shape_of(op: Op, alloc: Global) -> Result<Doc, AllocError>
-    ensures { IfOk result (λ d. document d ≡ shape (operation_of op)) }
-{
-    match op {
-        Op::Add(path, value) => with_value(alloc, "add", &path, value),
-        Op::Remove(path) => without_value(alloc, "remove", &path),
-        Op::Replace(path, value) => with_value(alloc, "replace", &path, value),
-        Op::Move { origin, path } => with_origin(alloc, "move", &origin, &path),
-        Op::Copy { origin, path } => with_origin(alloc, "copy", &origin, &path),
-        Op::Test(path, value) => with_value(alloc, "test", &path, value),
-    }
-}
-
 fn with_value(alloc: Global, name: &str, path: &Pointer, value: Doc) -> Result<Doc, AllocError>
     ensures { IfOk result (λ d. document d ≡ object (members_of
         (op_member name.now ∷ path_member path.now
