@@ -3,7 +3,7 @@ ghost use Rattle.std.specs.Option.{option_copied};
 ghost use Rattle.mp_pointer.specs.Spelling.{spell, tokens_in, IsFaultOf, IsProperPrefix};
 
 use crate::fault::PointerFault;
-use crate::spelling::{bad_tilde, pointer_after, push_escaped};
+use crate::spelling::{bad_tilde, is_plain, pointer_after, push_escaped};
 use std::alloc::{AllocError, Global};
 use std::marker::Model;
 
@@ -16,23 +16,26 @@ use std::marker::Model;
 /// let pointer = Pointer::parse(alloc, "/a~1b/0")?;  // the tokens `a/b` and `0`
 /// let part = get(&doc, &pointer);                   // 5, where doc is {"a/b":[5]}
 /// ```
-// The tokens stand one after another in one text, so that a copy asks for memory twice, however many there are.
+// The tokens stand in one text, each after a slash, so that a copy asks for memory twice, however many there are, and
+// the text is the spelling where nothing has to be escaped.
 #[derive(Debug, Drop)]
 pub struct Pointer {
     text: String,
     // where each token ends in the text, in bytes
     ends: Vec<usize>,
+    // only where nothing has to be escaped
+    is_plain: bool,
 }
 
 impl Model for Pointer {
     ghost use Rattle.std.specs.Prelude.{List, ℕ, string_bytes};
-    ghost use Rattle.mp_pointer.specs.Cuts.{AreCuts, cut};
+    ghost use Rattle.mp_pointer.specs.Cuts.{IsKept, cut};
 
     ghost Value = { List (List ℕ) };
 
     ghost view = { λ p. cut 0 p.ends.items (string_bytes p.text) };
 
-    ghost invariant = { λ p. AreCuts 0 p.ends.items (string_bytes p.text) };
+    ghost invariant = { λ p. IsKept p.is_plain p.ends.items (string_bytes p.text) };
 }
 
 impl Pointer {
@@ -73,6 +76,7 @@ impl Pointer {
         Pointer {
             text: String::new(alloc),
             ends: Vec::new(alloc),
+            is_plain: true,
         }
     }
 
@@ -82,6 +86,17 @@ impl Pointer {
     /// pointer.print(alloc)  // /a~1b/~0 for the tokens `a/b` and `~`
     /// ```
     pub fn print(&self, alloc: Global) -> Result<String, AllocError>
+        ensures { IfOk result (λ text. string_bytes text ≡ spell self.now) }
+    {
+        if self.is_plain {
+            String::from_str(alloc, self.text.as_str())
+        } else {
+            self.escaped(alloc)
+        }
+    }
+
+    // The spelling, token by token.
+    fn escaped(&self, alloc: Global) -> Result<String, AllocError>
         ensures { IfOk result (λ text. string_bytes text ≡ spell self.now) }
     {
         let mut text = String::new(alloc);
@@ -140,8 +155,11 @@ impl Pointer {
         ensures err { OnErr result (self.new ≡ self.old) }
     {
         self.ends.reserve(1)?;
+        self.text.reserve(token.len() + 1)?;
+        self.text.push_str("/")?;
         self.text.push_str(token)?;
         self.ends.push(self.text.as_str().len())?;
+        self.is_plain = self.is_plain && is_plain(token);
         Ok(())
     }
 
@@ -163,7 +181,11 @@ impl Pointer {
         let end = end_of(self.ends.as_slice(), count);
         let text = String::from_str(alloc, &self.text.as_str()[..end])?;
         let ends = Vec::from_slice(alloc, &self.ends.as_slice()[..count])?;
-        Ok(Pointer { text, ends })
+        Ok(Pointer {
+            text,
+            ends,
+            is_plain: self.is_plain,
+        })
     }
 
     /// How many tokens there are: 0 for the pointer to the whole document. Takes no memory.
@@ -180,8 +202,8 @@ impl Pointer {
     {
         let ends = self.ends.as_slice();
         if place < ends.len() {
-            let start = end_of(ends, place);
-            Some(&self.text.as_str()[start..ends[place]])
+            let slash = end_of(ends, place);
+            Some(&self.text.as_str()[slash + 1..ends[place]])
         } else {
             None
         }

@@ -52,7 +52,7 @@ fn push_unescaped(pointer: &mut Pointer, spelled: &str, alloc: Global) -> Result
 }
 
 // Whether nothing in it is escaped, or has to be.
-fn is_plain(text: &str) -> bool
+pub(crate) fn is_plain(text: &str) -> bool
     ensures { IsTrue result → IsPlain text.now }
 {
     for byte in text.as_bytes() {

@@ -1,6 +1,7 @@
-use Rattle.std.proofs.Common.{◌≡◌, ◌≤◌, ◌-◌, ◌∷◌, length, take, get_or, string_bytes, sym, ap, ◌∙◌, arith}
+use Rattle.std.proofs.Common.{◌≡◌, ◌≤◌, ◌-◌, ◌∷◌, length, take, get_or, string_bytes, sym, ap, ◌∙◌, subst, arith}
 use Rattle.std.proofs.lemmas.List.{length-take-le}
-use Rattle.mp_pointer.proofs.CutLemmas.{length-cut, cut_is_boundary, cut-take, AreCuts-take}
+use Rattle.mp_pointer.specs.Cuts.{EachPlain, cut}
+use Rattle.mp_pointer.proofs.CutLemmas.{length-cut, cut_is_boundary, cut-take, AreCuts-take, EachPlain-take}
 use Rattle.mp_pointer.proofs.pointer.Pointer.front.Goals as goal
 
 pub end_of-end-requires : goal.end_of-end-requires
@@ -11,7 +12,7 @@ range-requires-clause-end_boundary c =
     let ends = c.self.inside.ends.items in
     let bytes = string_bytes c.self.inside.text in
     let within : c.args.count ≤ length ends = omega (arith, c.requires, length-cut 0 ends bytes, ap length c.self.view_is) in
-    rw (c.end_of-end.ensures, c.as_slice.ensures.value, c.as_str.ensures.value) (cut_is_boundary 0 ends bytes c.args.count c.self.invariant within)
+    rw (c.end_of-end.ensures, c.as_slice.ensures.value, c.as_str.ensures.value) (cut_is_boundary 0 ends bytes c.args.count c.self.invariant.cuts within)
 
 pub slice_bounds-from_slice-end : goal.slice_bounds-from_slice-end
 slice_bounds-from_slice-end c =
@@ -26,7 +27,10 @@ invariant_of-result c =
     let within : c.args.count ≤ length ends = omega (arith, c.requires, length-cut 0 ends bytes, ap length c.self.view_is) in
     let from_start : get_or (0 ∷ ends) c.args.count 0 - 0 ≡ get_or (0 ∷ ends) c.args.count 0 = omega arith in
     rw (c.in_ok-ends.ensures.items, c.as_slice-2.ensures.value, c.in_ok-text.ensures.ok, c.range.ensures.value, c.as_str.ensures.value, c.end_of-end.ensures, c.as_slice.ensures.value, from_start)
-    (AreCuts-take 0 ends bytes c.args.count c.self.invariant within)
+    record {
+      cuts = AreCuts-take 0 ends bytes c.args.count c.self.invariant.cuts within;
+      plain = λ plain. subst EachPlain (sym (cut-take 0 ends bytes c.args.count c.self.invariant.cuts within)) (EachPlain-take c.args.count (cut 0 ends bytes) (c.self.invariant.plain plain));
+    }
 
 pub returns : goal.returns
 returns c =
@@ -35,4 +39,4 @@ returns c =
     let within : c.args.count ≤ length ends = omega (arith, c.requires, length-cut 0 ends bytes, ap length c.self.view_is) in
     let from_start : get_or (0 ∷ ends) c.args.count 0 - 0 ≡ get_or (0 ∷ ends) c.args.count 0 = omega arith in
     rw (c.in_ok-ends.ensures.items, c.as_slice-2.ensures.value, c.in_ok-text.ensures.ok, c.range.ensures.value, c.as_str.ensures.value, c.end_of-end.ensures, c.as_slice.ensures.value, from_start)
-    (cut-take 0 ends bytes c.args.count c.self.invariant within ∙ ap (take c.args.count) c.self.view_is)
+    (cut-take 0 ends bytes c.args.count c.self.invariant.cuts within ∙ ap (take c.args.count) c.self.view_is)
