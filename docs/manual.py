@@ -23,8 +23,9 @@ mergejoin \\- merge, join, replay, patch and rewrite JSON documents
 .I SUBCOMMAND
 .br
 .B mergejoin \\-\\-help
-.SH DESCRIPTION
-Prints one JSON text, compact, with names in the order of their UTF\\-8 bytes."""
+.SH DESCRIPTION"""
+
+RESULT = "Prints one JSON text, compact, with names in the order of their UTF\\-8 bytes."
 
 TAIL = """\
 .SH EXIT STATUS
@@ -85,6 +86,7 @@ def main():
     names = re.findall(r"^  (\w+) +\S", text.split("Commands:\n")[1].split("\n\n")[0], flags=re.M)
     print(HEAD)
     print(roff(text.splitlines()[0]) + ".")
+    print(RESULT)
     print(".PP")
     print(roff(re.search(r"^Limits: .*$", text, flags=re.M)[0]))
     print(".SH SUBCOMMANDS")
