@@ -1,6 +1,6 @@
 //! The values of the README and of `docs/REPLICAS.md`.
-use crate::{ShowFault, at, for_a_peer, show};
-use mp_merge::ListFault;
+use crate::{Envelope, Received, Replica, ShowFault, at, for_a_peer, show};
+use mp_merge::{JoinFault, ListFault};
 use mp_tree::{ReadFault, read_doc, read_docs, write_doc};
 use std::process::Abort;
 use std::test::Fail;
@@ -71,5 +71,49 @@ fn parts_are_there_or_not(rt: HostRuntime) -> Result<(), Fail> {
             "at {place}"
         );
     }
+    Ok(())
+}
+
+/// The number of the start that a patch was made for, the patch, and what becomes of it; None where it clashes.
+const ENVELOPES: &[(u64, &str, Option<Received>)] = &[
+    (1, r#"{"a":{"x":1}}"#, Some(Received::Joined)),
+    (0, r#"{"k":5}"#, Some(Received::Late)),
+    (1, r#"{"a":{"y":null}}"#, Some(Received::Joined)),
+    (2, r#"{"k":6}"#, Some(Received::Early)),
+    (1, r#"{"a":{"x":2}}"#, None),
+    (1, r#"{"k":null}"#, Some(Received::Joined)),
+    (1, r#"{"a":{"x":1}}"#, Some(Received::Joined)),
+];
+
+#[test]
+fn a_replica_joins_what_is_of_its_start(rt: HostRuntime) -> Result<(), Fail> {
+    let mut replica = Replica {
+        epoch: 1,
+        start: read_doc(rt.alloc(), START.as_bytes())?,
+        joined: None,
+    };
+    assert_eq!(rt;
+        write_doc(rt.alloc(), &replica.shown(rt.alloc())?)?.as_str(),
+        START
+    );
+    for (epoch, text, wanted) in ENVELOPES {
+        let envelope = Envelope {
+            epoch: *epoch,
+            patch: read_doc(rt.alloc(), text.as_bytes())?,
+        };
+        match replica.receive(rt.alloc(), &envelope) {
+            Ok(received) => assert_eq!(rt; Some(received), *wanted, "{text}"),
+            Err(JoinFault::Conflict(places)) => {
+                assert!(rt; wanted.is_none(), "{text} clashes");
+                assert_eq!(rt; places.len(), 1);
+                assert_eq!(rt; places[0].print(rt.alloc())?.as_str(), "/a/x");
+            }
+            Err(JoinFault::OutOfMemory) => assert!(rt; false, "memory ran out"),
+        }
+    }
+    assert_eq!(rt;
+        write_doc(rt.alloc(), &replica.shown(rt.alloc())?)?.as_str(),
+        SHOWN
+    );
     Ok(())
 }
