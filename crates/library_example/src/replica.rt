@@ -1,12 +1,12 @@
 //! What a replica does with its start and the patches that it received, in whatever order they came.
-ghost use Rattle.std.specs.Prelude.{◌≡◌, map, option_map, IfOk, MatchResult, string_bytes};
+ghost use Rattle.std.specs.Prelude.{◌≡◌, map, option_map, IfOk, IfErr, MatchResult, string_bytes};
 ghost use Rattle.mp_tree.specs.Document.{Document, depth_limit};
 ghost use Rattle.mp_tree.specs.View.{document};
 ghost use Rattle.mp_pointer.specs.Part.{part};
-ghost use Rattle.mp_pointer.specs.Spelling.{Tokens, spell};
+ghost use Rattle.mp_pointer.specs.Spelling.{Tokens, IsFaultOf, spell};
 ghost use Rattle.mp_patch.specs.Run.{Runs};
 ghost use Rattle.mp_patch.specs.View.{operations_of};
-ghost use Rattle.mp_merge.specs.Lists.{AreWithin};
+ghost use Rattle.mp_merge.specs.Lists.{AreWithin, IsListFault};
 ghost use Rattle.mp_merge.specs.Outcome.{IsOutcome};
 ghost use Rattle.library_example.specs.Shown.{IsNotShown, IsShown};
 
@@ -30,9 +30,10 @@ pub fn show(alloc: Global, start: &[u8], patches: &[u8]) -> Result<String, ShowF
 
 /// A JSON Patch that leads a peer from the start to that document.
 pub fn for_a_peer(alloc: Global, start: &Doc, patches: &[Doc]) -> Result<JsonPatch, ListFault>
-    ensures { AreWithin depth_limit (map document patches.now) → IfOk result (λ edits.
+    ensures runs { AreWithin depth_limit (map document patches.now) → IfOk result (λ edits.
         (shown : Document) × IsOutcome (document start.now) (map document patches.now) shown
         × Runs (document start.now) (operations_of edits) shown) }
+    ensures refused { IfErr result (λ fault. IsListFault fault (map document patches.now)) }
 {
     // A law is a call that runs nothing.
     mp_tree::laws::docs_are_documents();
@@ -43,8 +44,9 @@ pub fn for_a_peer(alloc: Global, start: &Doc, patches: &[Doc]) -> Result<JsonPat
 
 /// The part of a document that stands at a place, as `/colour`.
 pub fn at<'a>(alloc: Global, doc: &'a Doc, place: &str) -> Result<Option<&'a Doc>, PointerFault>
-    ensures { IfOk result (λ found. (tokens : Tokens) × (place.now ≡ spell tokens)
+    ensures found { IfOk result (λ found. (tokens : Tokens) × (place.now ≡ spell tokens)
         × (option_map (λ d. document d.now) found ≡ part (document doc.now) tokens)) }
+    ensures refused { IfErr result (λ fault. IsFaultOf fault place.now) }
 {
     let pointer = Pointer::parse(alloc, place)?;
     Ok(get(doc, &pointer))
