@@ -3,7 +3,7 @@ use Rattle.std.proofs.Common.{◌≡◌, suc, List, [], ◌∷◌, length, map, 
 use Rattle.serde_json.specs.Data as json
 use Rattle.serde_json.specs.Events.{items_len}
 use Rattle.mp_tree.specs.Text.{items_data}
-use Rattle.mp_tree.specs.View.{items_of}
+use Rattle.mp_tree.specs.Elements.{items_of}
 use Rattle.mp_patch.specs.Form.{shape}
 use Rattle.mp_patch.specs.View.{operations_of}
 use Rattle.mp_patch.specs.declared.op.Op.{Op}

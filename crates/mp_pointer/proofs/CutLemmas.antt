@@ -9,7 +9,7 @@ use Rattle.std.specs.List.{slice_get, slice_range}
 use Rattle.std.specs.Str.{IsUtf8, IsCharBoundary}
 use Rattle.mp_pointer.specs.Cuts.{cut, AreCuts, EachPlain, IsPlain}
 use Rattle.mp_pointer.specs.Spelling.{spell}
-use Rattle.mp_pointer.proofs.SpellingLemmas.{escape-plain}
+use Rattle.mp_pointer.proofs.Spellings.{escape-plain}
 
 -- ---- a part of what a text begins with
 

@@ -64,7 +64,7 @@ impl Pointer {
             return Err(PointerFault::NoSlash);
         };
         match bad_tilde(text.as_bytes()) {
-            Some(place) => Err(PointerFault::BadTilde(place)),
+            Some(offset) => Err(PointerFault::BadTilde(offset)),
             None => Ok(pointer_after(alloc, rest)?),
         }
     }
@@ -195,15 +195,15 @@ impl Pointer {
         self.ends.len()
     }
 
-    /// The token at a place, counted from 0, with nothing escaped; None exactly where `place` is not below
+    /// The token at a place, counted from 0, with nothing escaped; None exactly where `number` is not below
     /// `len()`. Takes no memory.
-    pub fn token(&self, place: usize) -> Option<&str>
-        ensures { option_copied result ≡ slice_get self.now place }
+    pub fn token(&self, number: usize) -> Option<&str>
+        ensures { option_copied result ≡ slice_get self.now number }
     {
         let ends = self.ends.as_slice();
-        if place < ends.len() {
-            let slash = end_of(ends, place);
-            Some(&self.text.as_str()[slash + 1..ends[place]])
+        if number < ends.len() {
+            let slash = end_of(ends, number);
+            Some(&self.text.as_str()[slash + 1..ends[number]])
         } else {
             None
         }

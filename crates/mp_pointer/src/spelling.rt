@@ -9,19 +9,19 @@ use std::alloc::{AllocError, Global};
 pub(crate) fn bad_tilde(text: &[u8]) -> Option<usize>
     ensures { MatchOption result ((k : ℕ) → ¬ (IsBadTilde text.now k)) (IsFirstBadTilde text.now) }
 {
-    for (place, byte) in text.iter().enumerate() {
-        if *byte == b'~' && !is_escape(text, place + 1) {
-            return Some(place);
+    for (offset, byte) in text.iter().enumerate() {
+        if *byte == b'~' && !is_escape(text, offset + 1) {
+            return Some(offset);
         }
     }
     None
 }
 
-fn is_escape(text: &[u8], place: usize) -> bool
+fn is_escape(text: &[u8], offset: usize) -> bool
     ensures { IsTrue result
-        ↔ (slice_index text.now place ≡ 48) ⊎ (slice_index text.now place ≡ 49) }
+        ↔ (slice_index text.now offset ≡ 48) ⊎ (slice_index text.now offset ≡ 49) }
 {
-    place < text.len() && (text[place] == b'0' || text[place] == b'1')
+    offset < text.len() && (text[offset] == b'0' || text[offset] == b'1')
 }
 
 // The pointer that is spelled by a slash and then `rest`.
@@ -48,7 +48,7 @@ fn push_unescaped(pointer: &mut Pointer, spelled: &str, alloc: Global) -> Result
     if is_plain(spelled) {
         return pointer.push(spelled);
     }
-    pointer.push(unescaped(alloc, spelled)?.as_str())
+    pointer.push(unescape(alloc, spelled)?.as_str())
 }
 
 // Whether nothing in it is escaped, or has to be.
@@ -63,7 +63,7 @@ pub(crate) fn is_plain(text: &str) -> bool
     true
 }
 
-fn unescaped(alloc: Global, spelled: &str) -> Result<String, AllocError>
+fn unescape(alloc: Global, spelled: &str) -> Result<String, AllocError>
     requires between { (k : ℕ) → k < length spelled.now → slice_index spelled.now k ≢ 47 }
     requires escapes { first_bad_tilde spelled.now ≡ None }
     ensures { IfOk result (λ token. escape (string_bytes token) ≡ spelled.now) }

@@ -3,8 +3,8 @@ use Rattle.std.specs.List.{slice_get}
 use Rattle.std.specs.Option.{option_copied}
 use lib.Utf8.{encode}
 use Rattle.mp_pointer.specs.Spelling.{escape, spell}
-use Rattle.mp_pointer.proofs.SpellingLemmas.{spell-push}
-use Rattle.mp_pointer.proofs.TokenLemmas.{take_token}
+use Rattle.mp_pointer.proofs.Spellings.{spell-push}
+use Rattle.mp_pointer.proofs.TokenLists.{take_token}
 use Rattle.mp_pointer.proofs.pointer.Pointer.escaped.Goals as goal
 
 pub loop-number-preserved : goal.loop-number-preserved

@@ -14,8 +14,8 @@ invariant_of-self-2 c =
     rw (listed, grown) record {
       cuts = AreCuts-push 0 ends bytes token c.utf8.token c.self.invariant.cuts;
       plain = λ plain. subst EachPlain (sym (cut-push 0 ends bytes token c.self.invariant.cuts)) (elim c.if-self.branch [
-        then-self w ↦ EachPlain-push (cut 0 ends bytes) token (c.self.invariant.plain w.if-self.true) (w.is_plain-self-inside.ensures (sym w.self-is ∙ plain))
-      | else-self w ↦ absurd (true≢false (sym plain ∙ w.self-is ∙ w.if-self.false))
+        | then-self w ↦ EachPlain-push (cut 0 ends bytes) token (c.self.invariant.plain w.if-self.true) (w.is_plain-self-inside.ensures (sym w.self-is ∙ plain))
+        | else-self w ↦ absurd (true≢false (sym plain ∙ w.self-is ∙ w.if-self.false))
       ]);
     }
 

@@ -1,9 +1,0 @@
-use Rattle.std.proofs.Common.{◌∙◌, ap}
-use Rattle.std.proofs.lemmas.Result.{IfOk-weaker}
-use Rattle.mp_patch.specs.View.{operations_of}
-use Rattle.mp_cli.specs.Answered.{line, rewritten}
-use Rattle.mp_cli.proofs.answering.rewritten.Goals as goal
-
-pub returns : goal.returns
-returns c =
-    IfOk-weaker c.printed.result _ _ (λ a is. rewritten (operations_of c.in_ok-edits.edits) c.in_ok-edits.ensures.rewriting (is ∙ ap (λ t. line t 0) c.in_ok-write_patch.ensures)) c.printed.ensures
