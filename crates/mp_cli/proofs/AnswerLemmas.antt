@@ -6,7 +6,8 @@ use Rattle.mp_tree.specs.declared.doc.Doc.{Doc}
 use Rattle.mp_merge.specs.Lists.{IsListFault, IsReplayFault}
 use Rattle.mp_merge.specs.declared.fault.ListFault.{ListFault}
 use Rattle.mp_merge.specs.declared.fault.ListFault.TheVariants.{NoPatches, ConflictOf, OutOfMemory}
-use Rattle.mp_cli.specs.Answered.{Answered, listed, list_fault, IsJoinAnswer, none_joined, join_refused, IsReplayAnswer, replay_refused, IsPatchAnswerTo, IsReplayAnswerTo, IsRewriteAnswerTo, wrong_shape}
+use Rattle.mp_cli.specs.Answered.{Answered, listed, IsJoinAnswer, none_joined, join_refused, IsReplayAnswer, replay_refused, IsPatchAnswerTo, IsReplayAnswerTo, IsRewriteAnswerTo, wrong_shape}
+use Rattle.mp_cli.specs.Private.Answers.{list_fault}
 
 pub listed-items : (docs : List Doc) → listed (items docs) ≡ map document docs
 listed-items [] = refl

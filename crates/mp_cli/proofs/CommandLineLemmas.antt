@@ -17,7 +17,8 @@ use Rattle.clap.specs.declared.builder.command.Command.{Command}
 use Rattle.clap.specs.declared.builder.command.Command.TheViews.{out-Command}
 use Rattle.clap.specs.declared.parser.matches.ArgMatches.{ArgMatches}
 use Rattle.clap.specs.declared.parser.matches.ArgMatches.TheViews.{out-ArgMatches, out-SubCommand}
-use Rattle.mp_cli.specs.CommandLine.{command_line, asked_for, pointer_in, subcommands, HasMistake, HasPointer, IsOneOf, IsSubcommand}
+use Rattle.mp_cli.specs.CommandLine.{command_line, asked_for, pointer_in, subcommands, HasMistake}
+use Rattle.mp_cli.specs.Private.Matches.{HasPointer, IsOneOf, IsSubcommand}
 
 -- the line is of the kind whose matches and faults are functions of the words
 pub command_line-simple : is_simple_and_free command_line ≡ true

@@ -5,7 +5,8 @@ use Rattle.std.proofs.Math.Seq.{take-add}
 use Rattle.std.proofs.lemmas.List.{drop-drop, length-append, length-drop, length-take-le, take-append-drop}
 use Rattle.std.specs.Io.KnownBytes.{Appends, Consumes, Keeps}
 use Rattle.mp_cli.specs.declared.counted.Counted.{Counted}
-use Rattle.mp_cli.specs.Counted.{device_of, calls_of, failures_of, bytes_of, CountsBytes, CountsFailure}
+use Rattle.mp_cli.specs.Counted.{device_of, calls_of, failures_of, bytes_of}
+use Rattle.mp_cli.specs.Private.Counts.{CountsBytes, CountsFailure}
 use Rattle.mp_cli.specs.Run.{ReadsBytes, WritesPart}
 
 -- after `reads` reads, each of which gave a byte, these bytes were read

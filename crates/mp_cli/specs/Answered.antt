@@ -1,5 +1,5 @@
 -- What the program answers to its command and its input bytes.
-use Rattle.std.specs.Prelude.{◌≡◌, ◌≢◌, ℕ, IfOk, string_bytes, List, [], ◌∷◌, ◌++◌, codes, Result, Ok, Err, Option, None, Some}
+use Rattle.std.specs.Prelude.{◌≡◌, ◌≢◌, ℕ, string_bytes, List, [], ◌∷◌, ◌++◌, codes, Result, Ok, Err, Option, None, Some}
 use Rattle.std.specs.List.{flat_map}
 use Rattle.mp_tree.specs.Document.{Document, string, Items, no_items, item, IsDocument}
 use Rattle.mp_tree.specs.Look.{Path}
@@ -10,9 +10,6 @@ use Rattle.mp_pointer.specs.Part.{numeral, part}
 use Rattle.mp_pointer.specs.Spelling.{Tokens, spell, tokens_in}
 use Rattle.mp_pointer.specs.declared.fault.PointerFault.{PointerFault}
 use Rattle.mp_pointer.specs.declared.fault.PointerFault.TheVariants.{NoSlash, BadTilde, OutOfMemory as NoMemory}
-use Rattle.mp_merge.specs.declared.fault.ListFault.{ListFault}
-use Rattle.mp_merge.specs.declared.fault.ListFault.TheVariants.{NoPatches, ConflictOf, OutOfMemory as ListMemory}
-use Rattle.std.specs.declared.alloc.AllocError.{AllocError}
 use Rattle.mp_merge.specs.Application.{in_turn}
 use Rattle.mp_merge.specs.Join.{IsJoin}
 use Rattle.mp_merge.specs.Lists.{IsToldPair}
@@ -159,12 +156,6 @@ conflict_line first second places =
 abbrev pub no_patches : Answered
 no_patches = line (codes "no patches") 1
 
--- why a list has no join, or can't be replayed
-abbrev pub list_fault : ListFault → Answered
-list_fault NoPatches = no_patches
-list_fault (ConflictOf first second places) = conflict_line first second places.items
-list_fault ListMemory = line (codes "out of memory") 3
-
 -- `join` wants `[patch, ..]`: its join, or why there is none
 pub data IsJoinAnswer (patches : List Document) (a : Answered) : Type 0 where
   joined : (j : Document) → IsDocument j → IsJoin patches j → a ≡ result_line j → IsJoinAnswer patches a
@@ -214,7 +205,3 @@ IsAnswered command input a = IsChecked command (documents_in input) a
 -- the text and the status of an answer
 abbrev pub answered_by : Answer → Answered
 answered_by a = record { text = string_bytes a.text; status = a.status }
-
--- the call gives that answer
-abbrev pub Gives : Result Answer AllocError → Answered → Type 0
-Gives result expected = IfOk result (λ a. answered_by a ≡ expected)

@@ -3,4 +3,5 @@ pub mod CommandLine
 pub mod Counted
 pub mod FaultLine
 pub mod Laws
+pub mod Private
 pub mod Run

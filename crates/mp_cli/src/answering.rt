@@ -3,7 +3,8 @@ ghost use Rattle.std.specs.Prelude.{◌≡◌, ◌≢◌, ◌++◌, ◌∷◌, [
 ghost use Rattle.mp_tree.specs.View.{document, items};
 ghost use Rattle.mp_patch.specs.View.{operations_of};
 ghost use Rattle.mp_pointer.specs.Part.{numeral};
-ghost use Rattle.mp_cli.specs.Answered.{Gives, IsAnswered, IsJoinAnswer, IsPatchAnswer, IsPatchAnswerTo, IsReplayAnswerTo, IsRewriteAnswer, IsRewriteAnswerTo, IsRunAnswer, answered_by, bad_tilde_line, cause_words, conflict_line, form_fault, form_words, get_answer, input_fault, line as line_with, list_fault, merge_answer, operation_line, part_line, pointer_text, pointers_text, run_fault, spelling_fault, wrong_shape as shape_fault};
+ghost use Rattle.mp_cli.specs.Answered.{IsAnswered, IsJoinAnswer, IsPatchAnswer, IsPatchAnswerTo, IsReplayAnswerTo, IsRewriteAnswer, IsRewriteAnswerTo, IsRunAnswer, answered_by, bad_tilde_line, cause_words, conflict_line, form_fault, form_words, get_answer, input_fault, line as line_with, merge_answer, operation_line, part_line, pointer_text, pointers_text, run_fault, spelling_fault, wrong_shape as shape_fault};
+ghost use Rattle.mp_cli.specs.Private.Answers.{Gives, list_fault};
 
 use crate::answers::Answer;
 use crate::command::Command;

@@ -3,7 +3,8 @@ ghost use Rattle.std.specs.Prelude.{◌≡◌, ◌≢◌, map, true, false, Some
 ghost use Rattle.clap.specs.Words.{app_of, kind_of, shape_of, subcommand_name_of, subcommand_rows_of, takes, with_subcommand, IsAmong};
 ghost use Rattle.clap.specs.Simple.{new_shape};
 ghost use Rattle.clap.specs.declared.builder.command.Command.TheViews.{out-Command};
-ghost use Rattle.mp_cli.specs.CommandLine.{command_line, get_shape, asked_for, faults_of, pointer_given, pointer_in, word_of, CarriesPointer, HasMistake, HasPointer, IsSubcommand, IsHelp, IsUsage};
+ghost use Rattle.mp_cli.specs.CommandLine.{command_line, get_shape, asked_for, faults_of, pointer_given, pointer_in, word_of, CarriesPointer, HasMistake, IsHelp, IsUsage};
+ghost use Rattle.mp_cli.specs.Private.Matches.{HasPointer, IsSubcommand};
 ghost use Rattle.mp_cli.specs.declared.command.CommandFault.TheVariants.{OutOfMemory};
 
 use crate::help::{AFTER_HELP, GET, HelpTexts, JOIN, MERGE, PATCH, REPLAY, REWRITE};

@@ -7,8 +7,8 @@ use Rattle.mp_tree.specs.Document.{Document, null, flag, whole, string, list, ob
 use Rattle.mp_tree.specs.Look.{Path, an_object, look, look_of}
 use Rattle.mp_tree.proofs.Facts.{is_here, find-below, cases_same}
 use Rattle.mp_merge.specs.Clash.{Clash, Compatible, AreAllClashes, AreConflicts}
-use Rattle.mp_merge.specs.ClashWalk.{IsOneClash, WalksClashes, WalksMembers}
-use Rattle.mp_merge.specs.Walks.{Grew}
+use Rattle.mp_merge.specs.Private.Clashes.{IsOneClash, WalksClashes, WalksMembers}
+use Rattle.mp_merge.specs.Private.Growth.{Grew}
 use Rattle.mp_merge.specs.Laws.{ClashesExist, EmptyIfCompatible, HaveOneList}
 use Rattle.mp_merge.proofs.ClashesByName.{ClashOf, at_first, clash_of, clash_from, same_plain}
 use Rattle.mp_merge.proofs.Elements.{Contains-nil, no_member}

@@ -8,9 +8,9 @@ use Rattle.mp_tree.specs.View.{document}
 use Rattle.mp_tree.specs.declared.doc.Doc.{Doc}
 use Rattle.mp_patch.specs.Operation.{add, remove, replace, test}
 use Rattle.mp_merge.specs.Application.{mp, unless_null}
-use Rattle.mp_merge.specs.EditWalk.{Guarded, IsOneEdit, NotBothMaps, AreEdits, AreMemberEdits, all_guarded, guarded_of}
+use Rattle.mp_merge.specs.Private.Edits.{Guarded, IsOneEdit, NotBothMaps, AreEdits, AreMemberEdits, all_guarded, guarded_of}
 use Rattle.mp_merge.specs.Rewriting.{part_left, leaving}
-use Rattle.mp_merge.specs.Walks.{Grew}
+use Rattle.mp_merge.specs.Private.Growth.{Grew}
 use Rattle.mp_merge.specs.declared.rewriting.Edit.{Edit}
 use Rattle.mp_merge.proofs.Grown.{IsRestOf, rest_after_one}
 

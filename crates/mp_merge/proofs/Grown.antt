@@ -1,6 +1,6 @@
 -- A list that a walk adds to, part by part.
 use Rattle.std.proofs.Common.{◌≡◌, List, [], ◌∷◌, ◌++◌, sym, ap, ◌∙◌, append-nil, append_assoc}
-use Rattle.mp_merge.specs.Walks.{Grew}
+use Rattle.mp_merge.specs.Private.Growth.{Grew}
 
 module _ {X : Type 0} where
   pub grew_weaker : (old new : List X) (Holds Other : List X → Type 0) → ((added : List X) → Holds added → Other added) → Grew old new Holds → Grew old new Other

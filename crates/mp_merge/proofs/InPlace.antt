@@ -8,7 +8,7 @@ use Rattle.mp_tree.proofs.Facts.{IsDocument-find, cases_same, find-below, find-p
 use Rattle.mp_merge.specs.Application.{after_patch, changed, in_turn, mp, mp_members, target_members, unless_null}
 use Rattle.mp_merge.specs.Laws.{AppliedOnce, HaveSameMembers, MergesIntoNull, TriesResume}
 use Rattle.mp_merge.specs.Lists.{PairwiseCompatible}
-use Rattle.mp_merge.specs.MergeWalk.{NeedsNoneAt, NeedsNoneIn, ResumesAt}
+use Rattle.mp_merge.specs.Private.Merging.{NeedsNoneAt, NeedsNoneIn, ResumesAt}
 use Rattle.mp_merge.specs.Resumption.{NeedsNoMemory}
 use Rattle.mp_merge.proofs.ApplicationLemmas.{IsDocument-mp, IsMap-mp_members, find-changed, find-mp_members}
 use Rattle.mp_merge.proofs.ClashesByName.{compatible-self}

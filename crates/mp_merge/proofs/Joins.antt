@@ -9,7 +9,7 @@ use Rattle.mp_merge.specs.Clash.{Clash, Compatible}
 use Rattle.mp_merge.specs.Join.{IsJoin}
 use Rattle.mp_merge.specs.Laws.{ClashWithAJoin, ClashesWithAMember, JoinIsIdempotent, JoinIsCommutative, IsJoinFromLeft, IsJoinFromRight, JoinIsAssociative, JoinGrows, HasOneJoin, EmptyHasNoJoin, JoinExists, PairHasJoin, JoinIsNoDeeper}
 use Rattle.mp_merge.specs.Lists.{PairwiseCompatible, AreWithin}
-use Rattle.mp_merge.specs.Walks.{union}
+use Rattle.mp_merge.specs.Private.Unions.{union}
 use Rattle.mp_merge.proofs.Elements.{Contains-nil, Contains-head, Contains-tail, Contains-cases, Contains-one, some_or_all}
 use Rattle.mp_merge.proofs.Looks.{nothing_or}
 use Rattle.mp_merge.proofs.Unions.{IsDocument-union, depth-union, join-one, union_is_join, union_joins_first}

@@ -9,7 +9,7 @@ use Rattle.mp_tree.proofs.Facts.{is_here, find-below, cases_same, is_name-self}
 use Rattle.mp_pointer.specs.Part.{part}
 use Rattle.mp_patch.specs.Operation.{Operation}
 use Rattle.mp_merge.specs.Clash.{path_cmp}
-use Rattle.mp_merge.specs.EditWalk.{Guarded, IsOneEdit, NotBothMaps, AreEdits, AreMemberEdits}
+use Rattle.mp_merge.specs.Private.Edits.{Guarded, IsOneEdit, NotBothMaps, AreEdits, AreMemberEdits}
 use Rattle.mp_merge.specs.Rewriting.{guard_of, guards, part_left, leaving, edit, IsRewriting}
 use Rattle.mp_merge.proofs.ClashesByName.{same_plain}
 use Rattle.mp_merge.proofs.EditPlaces.{differs_at_edit, edit_where_differs, left_by-no_map}

@@ -12,7 +12,7 @@ use Rattle.mp_tree.proofs.Facts.{IsDocument-document}
 use Rattle.mp_merge.specs.Clash.{Compatible}
 use Rattle.mp_merge.specs.Join.{IsJoin}
 use Rattle.mp_merge.specs.Lists.{CompatibleBelow, IsFreeBelow, IsClashBelow, IsToldPair}
-use Rattle.mp_merge.specs.Walks.{union}
+use Rattle.mp_merge.specs.Private.Unions.{union}
 use Rattle.mp_merge.proofs.ClashesByName.{compatible-sym}
 use Rattle.mp_merge.proofs.Joins.{compatible_from_join, compatible_with_join}
 use Rattle.mp_merge.proofs.Unions.{union_grows_join}

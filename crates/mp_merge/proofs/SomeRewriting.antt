@@ -8,7 +8,7 @@ use Rattle.mp_pointer.specs.Part.{part}
 use Rattle.mp_patch.specs.Laws.{HasDocument, HaveDocuments}
 use Rattle.mp_patch.proofs.Facts.{part-document}
 use Rattle.mp_patch.specs.Operation.{Operation}
-use Rattle.mp_merge.specs.EditWalk.{Guarded, IsOneEdit, AreEdits, AreMemberEdits}
+use Rattle.mp_merge.specs.Private.Edits.{Guarded, IsOneEdit, AreEdits, AreMemberEdits}
 use Rattle.mp_merge.specs.Laws.{RewritingExists, RewritingHasDocuments}
 use Rattle.mp_merge.specs.Rewriting.{guard_of, guards, part_left, leaving, edit}
 use Rattle.mp_merge.specs.Application.{mp, unless_null}

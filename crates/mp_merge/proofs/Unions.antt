@@ -8,7 +8,7 @@ use Rattle.mp_tree.proofs.Facts.{find-put, find-below, IsMap-put, members_same, 
 use Rattle.mp_merge.specs.Application.{target_members, depth_of}
 use Rattle.mp_merge.specs.Clash.{Compatible}
 use Rattle.mp_merge.specs.Join.{IsJoin}
-use Rattle.mp_merge.specs.Walks.{kept, beside, united, union_members, union}
+use Rattle.mp_merge.specs.Private.Unions.{kept, beside, united, union_members, union}
 use Rattle.mp_merge.proofs.ApplicationLemmas.{IsMap-target_members}
 use Rattle.mp_merge.proofs.DepthLemmas.{depth-find, depth-put}
 use Rattle.mp_merge.proofs.Elements.{Contains-head, Contains-tail, Contains-cases, Contains-one}

@@ -1,15 +1,12 @@
 pub mod Application
 pub mod Clash
-pub mod ClashWalk
 pub mod Converging
 pub mod EditPlace
-pub mod EditWalk
 pub mod Headline
 pub mod Join
 pub mod Laws
 pub mod Lists
-pub mod MergeWalk
 pub mod Outcome
+pub mod Private
 pub mod Resumption
 pub mod Rewriting
-pub mod Walks

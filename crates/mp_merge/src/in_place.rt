@@ -1,9 +1,10 @@
 //! Merging a patch into a document where it stands.
 ghost use Rattle.std.specs.Prelude.{◌≡◌, ◌≤◌, max, None, Some, IsOk, OnOk, OnErr, string_bytes};
 ghost use Rattle.mp_tree.specs.Document.{object, find, depth};
-ghost use Rattle.mp_tree.specs.View.{document, members};
+ghost use Rattle.mp_tree.specs.View.{document};
+ghost use Rattle.mp_tree.specs.Private.Entries.{members};
 ghost use Rattle.mp_merge.specs.Application.{changed, mp, mp_members, target_members};
-ghost use Rattle.mp_merge.specs.MergeWalk.{ResumesAt, NeedsNoneAt, NeedsNoneIn};
+ghost use Rattle.mp_merge.specs.Private.Merging.{ResumesAt, NeedsNoneAt, NeedsNoneIn};
 ghost use Rattle.mp_merge.specs.Resumption.{NeedsNoMemory, Resumes};
 
 use crate::merging::{entries_of, is_null};

@@ -1,9 +1,10 @@
 //! The join of two merge patches.
 ghost use Rattle.std.specs.Prelude.{◌≡◌, ◌≤◌, ◌∷◌, [], max, IfOk, OnOk, MatchResult, string_bytes};
 ghost use Rattle.mp_tree.specs.Document.{depth, find, put};
-ghost use Rattle.mp_tree.specs.View.{document, members};
+ghost use Rattle.mp_tree.specs.View.{document};
+ghost use Rattle.mp_tree.specs.Private.Entries.{members};
 ghost use Rattle.mp_merge.specs.Join.{IsJoin, IsJoinFault};
-ghost use Rattle.mp_merge.specs.Walks.{union, union_members, united as united_at};
+ghost use Rattle.mp_merge.specs.Private.Unions.{union, union_members, united as united_at};
 
 use crate::comparing::{compatible, conflict};
 use crate::fault::JoinFault;

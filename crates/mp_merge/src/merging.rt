@@ -1,7 +1,8 @@
 //! Applying a merge patch (RFC 7396 section 2).
 ghost use Rattle.std.specs.Prelude.{◌≡◌, ◌≤◌, ◌↔◌, max, IsTrue, IfOk, OnOk, option_map, string_bytes};
 ghost use Rattle.mp_tree.specs.Document.{null, find, depth};
-ghost use Rattle.mp_tree.specs.View.{document, members};
+ghost use Rattle.mp_tree.specs.View.{document};
+ghost use Rattle.mp_tree.specs.Private.Entries.{members};
 ghost use Rattle.mp_merge.specs.Application.{changed, depth_of, mp, mp_members, target_members};
 
 use crate::in_place::merge_into;

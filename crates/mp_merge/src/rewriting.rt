@@ -3,13 +3,14 @@ ghost use Rattle.std.specs.Prelude.{◌≡◌, ◌≤◌, ◌++◌, ◌∷◌, [
 ghost use Rattle.std.specs.List.{flat_map};
 ghost use Rattle.mp_patch.specs.Operation.{test};
 ghost use Rattle.mp_tree.specs.Document.{depth, depth_limit};
-ghost use Rattle.mp_tree.specs.View.{document, members};
+ghost use Rattle.mp_tree.specs.View.{document};
+ghost use Rattle.mp_tree.specs.Private.Entries.{members};
 ghost use Rattle.mp_patch.specs.Run.{Runs};
 ghost use Rattle.mp_patch.specs.View.{operation_of, operations_of};
 ghost use Rattle.mp_merge.specs.Application.{mp};
-ghost use Rattle.mp_merge.specs.EditWalk.{IsOneEdit, NotBothMaps, AreEdits, AreMemberEdits, all_guarded, guarded_of};
+ghost use Rattle.mp_merge.specs.Private.Edits.{IsOneEdit, NotBothMaps, AreEdits, AreMemberEdits, all_guarded, guarded_of};
 ghost use Rattle.mp_merge.specs.Rewriting.{IsRewriting};
-ghost use Rattle.mp_merge.specs.Walks.{Grew};
+ghost use Rattle.mp_merge.specs.Private.Growth.{Grew};
 
 use crate::merging::{is_null, merge};
 use mp_patch::{JsonPatch, Op};

@@ -9,7 +9,7 @@ use Rattle.mp_pointer.specs.declared.fault.PointerFault.{PointerFault}
 use Rattle.mp_pointer.proofs.Facts.{reads_spellings, count_of-items}
 use Rattle.mp_patch.specs.Form.{NamesOp, Need, path_alone, a_value, an_origin, HasOp, HasNoPointer, Carries, EachForm, IsForm, IsFormFault, IsNoPointer, deepest, needed, op_member, path_member, from_member, shape, shapes, text_at, value_depth, value_member}
 use Rattle.mp_patch.specs.Operation.{Operation, add, remove, replace, move, copy, test}
-use Rattle.mp_patch.specs.Read.{FindsNoPointer, IsMapFault, IsOpFault, IsOriginFault, fault_at}
+use Rattle.mp_patch.specs.Private.Reading.{FindsNoPointer, IsMapFault, IsOpFault, IsOriginFault, fault_at}
 use Rattle.mp_patch.specs.View.{operation_of, operations_of}
 use Rattle.mp_patch.specs.declared.fault.FormCause.TheVariants.{NotAnObject, NoOp, UnknownOp, NoPath, NoFrom, BadPointer, NoValue}
 use Rattle.mp_patch.specs.declared.op.Op.{Op}

@@ -5,7 +5,7 @@ use Rattle.mp_pointer.specs.Part.{part}
 use Rattle.mp_pointer.specs.Spelling.{Tokens, IsProperPrefix}
 use Rattle.mp_patch.specs.Operation.{add, move, copy, remove, Removes}
 use Rattle.mp_patch.specs.Refusal.{HasNoPlace, IsTooDeep, LeavesNoPlace, PartIsTooDeep, RefusedBy, causes}
-use Rattle.mp_patch.specs.Steps.{Answers}
+use Rattle.mp_patch.specs.Private.Steps.{Answers}
 use Rattle.mp_patch.specs.declared.fault.Cause.{Cause}
 use Rattle.mp_patch.specs.declared.steps.StepFault.{StepFault}
 use Rattle.mp_patch.specs.declared.steps.StepFault.TheVariants.{Refused, OutOfMemory}

@@ -8,7 +8,7 @@ use Rattle.mp_patch.specs.Operation.{Operation, Step}
 use Rattle.mp_patch.specs.Run.{IsRefused, Runs, IsFaultOf}
 use Rattle.mp_patch.specs.View.{operation_of, operations_of}
 use Rattle.mp_patch.specs.declared.op.Op.{Op}
-use Rattle.mp_patch.specs.Steps.{Answers, fault_at}
+use Rattle.mp_patch.specs.Private.Steps.{Answers, fault_at}
 use Rattle.mp_patch.specs.declared.steps.StepFault.{StepFault}
 use Rattle.mp_patch.specs.declared.steps.StepFault.TheVariants.{Refused, OutOfMemory}
 

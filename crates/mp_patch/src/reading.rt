@@ -2,10 +2,11 @@
 ghost use Rattle.std.specs.Prelude.{◌≡◌, ◌≢◌, codes, string_bytes, Some, None, MatchOption, MatchResult};
 ghost use Rattle.std.specs.Option.{option_copied};
 ghost use Rattle.mp_tree.specs.Document.{find, list, object};
-ghost use Rattle.mp_tree.specs.View.{document, items, members};
+ghost use Rattle.mp_tree.specs.View.{document, items};
+ghost use Rattle.mp_tree.specs.Private.Entries.{members};
 ghost use Rattle.mp_pointer.specs.Spelling.{spell};
 ghost use Rattle.mp_patch.specs.Form.{Carries, EachForm, IsFaulty, IsFormFault, IsForm, NamesOp, IsNoPointer, needed, text_at as text_under};
-ghost use Rattle.mp_patch.specs.Read.{IsOpFault, IsMapFault, IsOriginFault, IsTextFault, IsValueFault, fault_at, name_of};
+ghost use Rattle.mp_patch.specs.Private.Reading.{IsOpFault, IsMapFault, IsOriginFault, IsTextFault, IsValueFault, fault_at, name_of};
 ghost use Rattle.mp_patch.specs.View.{operation_of, operations_of};
 
 use crate::fault::{FormCause, FormFault};

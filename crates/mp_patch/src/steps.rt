@@ -7,7 +7,7 @@ ghost use Rattle.mp_pointer.specs.Part.{numeral, part};
 ghost use Rattle.mp_patch.specs.Operation.{dash, add as add_operation, remove as remove_operation, replace as replace_operation, move as move_operation, copy as copy_operation, test as test_operation, Removes};
 ghost use Rattle.mp_patch.specs.Refusal.{RefusedBy};
 ghost use Rattle.mp_patch.specs.Run.{IsRefused};
-ghost use Rattle.mp_patch.specs.Steps.{Answers, Inserts, Takes, fault_at};
+ghost use Rattle.mp_patch.specs.Private.Steps.{Answers, Inserts, Takes, fault_at};
 ghost use Rattle.mp_patch.specs.View.{operation_of};
 
 use crate::fault::{ApplyFault, Cause};

@@ -7,11 +7,13 @@ use Rattle.std.specs.List.{slice_get}
 use Rattle.std.specs.Option.{OnSome, IfSome, IsSome, option_copied_mut}
 use Rattle.std.specs.Vec.{with_item}
 use Rattle.mp_tree.specs.Document.{Document, null, flag, whole, string, list, object, Items, item, Members, name_cmp, find, put}
-use Rattle.mp_tree.specs.View.{document, items, members}
+use Rattle.mp_tree.specs.View.{document, items}
+use Rattle.mp_tree.specs.Private.Entries.{members}
 use Rattle.mp_tree.specs.declared.doc.Doc
 use Rattle.mp_tree.specs.declared.doc.Doc.{Doc}
 use Rattle.mp_tree.proofs.Facts.{find-members, members-inserted, IsMap-members, document-Items, document-Members}
-use Rattle.mp_pointer.specs.Lent.{PartBecomes, IsList, one_token}
+use Rattle.mp_pointer.specs.Lent.{PartBecomes}
+use Rattle.mp_pointer.specs.Private.Child.{IsList, one_token}
 use Rattle.mp_pointer.specs.Part.{part, child, numeral, nth}
 use Rattle.mp_pointer.specs.Spelling.{Tokens}
 use Rattle.mp_pointer.proofs.ChildLemmas.{ChildChanges, set_item, element_changes, value_changes}

@@ -5,7 +5,8 @@ use Rattle.mp_tree.specs.Document.{Document}
 use Rattle.mp_tree.specs.View.{document}
 use Rattle.mp_tree.specs.declared.doc.Doc.{Doc}
 use Rattle.mp_tree.proofs.Facts.{IsDocument-document}
-use Rattle.mp_pointer.specs.Lent.{PartBecomes, one_token}
+use Rattle.mp_pointer.specs.Lent.{PartBecomes}
+use Rattle.mp_pointer.specs.Private.Child.{one_token}
 use Rattle.mp_pointer.specs.Part.{part, kind}
 use Rattle.mp_pointer.specs.Spelling.{Tokens, BeginsWith}
 use Rattle.mp_pointer.proofs.KindLemmas.{cases_begins, equals_by_part}

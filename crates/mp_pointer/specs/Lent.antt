@@ -1,9 +1,8 @@
 -- What a document ends as, once a `&mut` to one of its parts has ended.
-use Rattle.std.specs.Prelude.{◌≡◌, ◌+◌, ℕ, Option, Some, ⊤}
-use Rattle.std.specs.List.{slice_range}
+use Rattle.std.specs.Prelude.{◌≡◌, Option, Some}
 use Rattle.std.specs.Option.{OnSome}
 use Rattle.std.specs.Borrow.{Fml, LendsSo, MutBor, RattleType}
-use Rattle.mp_tree.specs.Document.{Document, null, flag, whole, string, list, object}
+use Rattle.mp_tree.specs.Document.{Document}
 use Rattle.mp_tree.specs.Rows.{doc_row}
 use Rattle.mp_tree.specs.View.{document}
 use Rattle.mp_tree.specs.declared.doc.Doc.{Doc}
@@ -27,17 +26,3 @@ LendsPartOf R doc_of t lender r =
 -- the same of a document
 abbrev pub LendsPart : Tokens → MutBor Doc → Option (MutBor Doc) → Fml
 LendsPart = LendsPartOf doc_row (λ d. d)
-
--- ---- one step
-
--- the token at a place, as a list of tokens
-abbrev pub one_token : Tokens → ℕ → Tokens
-one_token t place = slice_range t place (place + 1)
-
-abbrev pub IsList : Document → Type 0
-IsList null = ⊥
-IsList (flag b) = ⊥
-IsList (whole z) = ⊥
-IsList (string s) = ⊥
-IsList (list ds) = ⊤
-IsList (object ms) = ⊥

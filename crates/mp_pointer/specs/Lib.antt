@@ -3,4 +3,5 @@ pub mod Laws
 pub mod Lent
 pub mod Only
 pub mod Part
+pub mod Private
 pub mod Spelling

@@ -4,7 +4,8 @@ ghost use Rattle.std.specs.Borrow.{sem, Lends};
 ghost use Rattle.mp_tree.specs.Rows.{doc_row, items_row, members_row};
 ghost use Rattle.mp_tree.specs.View.{document};
 ghost use Rattle.mp_tree.specs.declared.doc.Doc.TheVariants.{Items, Members};
-ghost use Rattle.mp_pointer.specs.Lent.{IsList, LendsPart, LendsPartOf, one_token};
+ghost use Rattle.mp_pointer.specs.Lent.{LendsPart, LendsPartOf};
+ghost use Rattle.mp_pointer.specs.Private.Child.{IsList, one_token};
 ghost use Rattle.mp_pointer.specs.Part.{part};
 
 use crate::pointer::Pointer;

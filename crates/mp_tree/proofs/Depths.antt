@@ -3,7 +3,8 @@ use Rattle.std.proofs.Common.{◌≡◌, ◌≤◌, ◌<◌, ℕ, zero, suc, max
 use Rattle.std.specs.List.Sorted.{IsStrictlySortedBy}
 use Rattle.std.specs.Map.{keys_of, values_of}
 use Rattle.mp_tree.specs.Document.{depth, items_depth, members_depth}
-use Rattle.mp_tree.specs.View.{document, items, members}
+use Rattle.mp_tree.specs.View.{document, items}
+use Rattle.mp_tree.specs.Private.Entries.{members}
 use Rattle.mp_tree.specs.declared.doc.Doc.{Doc}
 use Rattle.mp_tree.proofs.IntoData.{put-below, IsBelow-members}
 

@@ -2,7 +2,8 @@
 use Rattle.std.proofs.Common.{◌≡◌, ℕ, List, [], ◌∷◌, map, Bool, IsUtf8, Ordering, Less, Equal, Greater, String, Vec, BTreeMap, Global, string_bytes, refl, sym, ap, ◌∙◌, subst, rules}
 use Rattle.mp_tree.specs.Document.{Document, null, flag, whole, string, list, object, IsDocument, AreDocuments, IsMap, HasTexts, ItemsHaveTexts, MembersHaveTexts, IsInRange, AreInRange, MembersAreInRange, Members, member, no_members, put, name_cmp}
 use Rattle.mp_tree.specs.Laws.{DocsAreDocuments}
-use Rattle.mp_tree.specs.View.{number_of, named, members_of, document, document_step, items, members}
+use Rattle.mp_tree.specs.View.{number_of, named, members_of, document, document_step, items}
+use Rattle.mp_tree.specs.Private.Entries.{members}
 use Rattle.mp_tree.specs.declared.whole.Whole.{Whole}
 use Rattle.mp_tree.specs.declared.doc.Doc.{Doc, Null, Flag, Text, Items, Members as Map, map-Doc, fold-roll-Doc, ind-Doc, the_lemmas}
 use Rattle.mp_tree.specs.declared.doc.Doc.TheOpen.{Doc-F}

@@ -40,7 +40,3 @@ document = fold-Doc Document document_step
 -- the documents of a list's elements
 abbrev pub items : List Doc → Items
 items ds = items_of (map document ds)
-
--- the members of a map's entries
-abbrev pub members : List (String Global × Doc) → Members
-members es = members_of (map (λ e. (string_bytes e.0, document e.1)) es)

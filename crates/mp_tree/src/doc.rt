@@ -73,7 +73,8 @@ impl Doc {
     }
 }
 
-ghost use Rattle.mp_tree.specs.View.{document, items, members};
+ghost use Rattle.mp_tree.specs.View.{document, items};
+ghost use Rattle.mp_tree.specs.Private.Entries.{members};
 
 #[cycle(copy)]
 fn copy_of(doc: &Doc, alloc: Global) -> Result<Doc, AllocError>

@@ -1,7 +1,8 @@
 // Whether a document is as shallow as asked: nothing is allocated, and the first part that is too deep ends it.
 ghost use Rattle.std.specs.Prelude.{◌≤◌, ◌↔◌, IsTrue};
 ghost use Rattle.mp_tree.specs.Document.{depth, items_depth, members_depth};
-ghost use Rattle.mp_tree.specs.View.{document, items, members};
+ghost use Rattle.mp_tree.specs.View.{document, items};
+ghost use Rattle.mp_tree.specs.Private.Entries.{members};
 
 use crate::doc::Doc;
 use std::collections::BTreeMap;

@@ -1,7 +1,8 @@
 // From `serde_json`'s value to a document, by value: texts and names are moved.
 ghost use Rattle.std.specs.Prelude.{◌≡◌, ◌≢◌, None, Some, Err, IfOk, option_map};
 ghost use Rattle.serde_json.specs.View.{view, items_view, members_view, number_view};
-ghost use Rattle.mp_tree.specs.View.{document, items, members, number_of};
+ghost use Rattle.mp_tree.specs.View.{document, items, number_of};
+ghost use Rattle.mp_tree.specs.Private.Entries.{members};
 ghost use Rattle.mp_tree.specs.Text.{document_from, items_from, members_from, whole_number};
 
 use crate::built::{FEW, map_of};

@@ -56,7 +56,7 @@ pub fn read_doc(alloc: Global, bytes: &[u8]) -> Result<Doc, ReadFault>
 }
 
 impl From<Unread> for ReadFault {
-    ghost use Rattle.mp_tree.specs.Unread.{read_fault};
+    ghost use Rattle.mp_tree.specs.Private.Faults.{read_fault};
 
     ghost from_gives = { λ unread fault. fault ≡ read_fault unread };
 
@@ -109,7 +109,7 @@ pub fn read_docs(alloc: Global, bytes: &[u8]) -> Result<Vec<Doc>, DocsFault>
 }
 
 impl From<Unread> for DocsFault {
-    ghost use Rattle.mp_tree.specs.Unread.{docs_fault};
+    ghost use Rattle.mp_tree.specs.Private.Faults.{docs_fault};
 
     ghost from_gives = { λ unread fault. fault ≡ docs_fault unread };
 

@@ -1,6 +1,7 @@
 // Equality of documents: nothing is allocated, each part is looked at once at most, and the first difference ends it.
 ghost use Rattle.std.specs.Prelude.{◌≡◌, ◌↔◌, IsTrue};
-ghost use Rattle.mp_tree.specs.View.{document, items, members};
+ghost use Rattle.mp_tree.specs.View.{document, items};
+ghost use Rattle.mp_tree.specs.Private.Entries.{members};
 
 use crate::doc::Doc;
 use std::collections::BTreeMap;

@@ -4,7 +4,8 @@ ghost use Rattle.serde_json.specs.Data.{array, number, object};
 ghost use Rattle.serde_json.specs.Events.{SendsValue};
 ghost use Rattle.serde_json.specs.Find.{of_integer};
 ghost use Rattle.mp_tree.specs.Text.{data_of, items_data, members_data};
-ghost use Rattle.mp_tree.specs.View.{document, items, members, number_of};
+ghost use Rattle.mp_tree.specs.View.{document, items, number_of};
+ghost use Rattle.mp_tree.specs.Private.Entries.{members};
 
 use crate::doc::Doc;
 use crate::whole::Whole;

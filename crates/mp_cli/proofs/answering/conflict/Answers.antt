@@ -1,6 +1,7 @@
 use Rattle.std.proofs.Common.{◌≡◌, ◌∙◌, ◌++◌, ℕ, List, ap, append_assoc, codes, rules, subst, sym}
 use Rattle.mp_pointer.specs.Part.{numeral}
-use Rattle.mp_cli.specs.Answered.{Gives, line, pointers_text}
+use Rattle.mp_cli.specs.Answered.{line, pointers_text}
+use Rattle.mp_cli.specs.Private.Answers.{Gives}
 use Rattle.mp_cli.proofs.answering.conflict.Goals as goal
 
 -- texts that were joined in another order

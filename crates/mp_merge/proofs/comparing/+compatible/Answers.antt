@@ -1,6 +1,7 @@
 use Rattle.std.proofs.Common.{◌≡◌, [], ◌∷◌, Some, None, String, Global, string_bytes, sym, ap, ◌∙◌, subst, true≢false}
 use Rattle.mp_tree.specs.Document.{object, find}
-use Rattle.mp_tree.specs.View.{document, members}
+use Rattle.mp_tree.specs.View.{document}
+use Rattle.mp_tree.specs.Private.Entries.{members}
 use Rattle.mp_tree.specs.declared.doc.Doc.{Doc}
 use Rattle.mp_tree.proofs.Facts.{document-Members}
 use Rattle.mp_merge.specs.Clash.{Clash, Compatible}

@@ -1,8 +1,8 @@
 use Rattle.std.proofs.Common.{◌≡◌, string_cmp}
 use Rattle.std.specs.List.Sorted.{IsStrictlySortedBy}
 use Rattle.std.specs.Map.{keys_of}
-use Rattle.mp_tree.specs.View.{members}
-use Rattle.mp_merge.specs.ClashWalk.{WalksMembers}
+use Rattle.mp_tree.specs.Private.Entries.{members}
+use Rattle.mp_merge.specs.Private.Clashes.{WalksMembers}
 use Rattle.mp_merge.proofs.Grown.{IsRestOf}
 use Rattle.mp_merge.proofs.comparing.+push_clashes.Given as goal
 

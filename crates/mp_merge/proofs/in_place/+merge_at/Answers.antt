@@ -3,11 +3,12 @@ use Rattle.std.proofs.lemmas.Result.{on_ok_weaker, on_err_weaker, err_from_is_er
 use Rattle.std.specs.List.Sorted.{IsStrictlySortedBy}
 use Rattle.std.specs.Map.{keys_of}
 use Rattle.mp_tree.specs.Document.{Document, Members, member, null, object, find, put, IsMap}
-use Rattle.mp_tree.specs.View.{document, members}
+use Rattle.mp_tree.specs.View.{document}
+use Rattle.mp_tree.specs.Private.Entries.{members}
 use Rattle.mp_tree.specs.declared.doc.Doc.{Doc}
 use Rattle.mp_tree.proofs.Facts.{IsMap-members, IsDocument-document, members-cons, find-members, members-inserted, members-removed, document-Members, document-Null}
 use Rattle.mp_merge.specs.Application.{changed, mp, mp_members, target_members}
-use Rattle.mp_merge.specs.MergeWalk.{NeedsNoneAt, NeedsNoneIn, ResumesAt}
+use Rattle.mp_merge.specs.Private.Merging.{NeedsNoneAt, NeedsNoneIn, ResumesAt}
 use Rattle.mp_merge.specs.Resumption.{NeedsNoMemory}
 use Rattle.mp_merge.proofs.ApplicationLemmas.{mp_members-step, changed-other}
 use Rattle.mp_merge.proofs.InPlace.{IsAmong, IsUntouched, absent_needs, changed_resumes, first_among, first_untouched, merges_into_null, needs_in, present_needs, rest_among, rest_untouched, resumes_all, set_resumes}

@@ -1,7 +1,7 @@
 use Rattle.std.proofs.Common.{◌≡◌, string_cmp}
 use Rattle.std.specs.List.Sorted.{IsStrictlySortedBy}
 use Rattle.std.specs.Map.{keys_of}
-use Rattle.mp_tree.specs.View.{members}
+use Rattle.mp_tree.specs.Private.Entries.{members}
 use Rattle.mp_merge.specs.Application.{mp_members}
 use Rattle.mp_merge.proofs.InPlace.{IsAmong, IsUntouched}
 use Rattle.mp_merge.proofs.in_place.+merge_at.Given as goal

@@ -1,9 +1,10 @@
 use Rattle.std.proofs.Common.{◌≡◌, Some, None, option_map, String, Global, string_bytes, sym, ap, ◌∙◌, subst, rules}
 use Rattle.mp_tree.specs.Document.{object, find, put, member, IsMap}
-use Rattle.mp_tree.specs.View.{document, members}
+use Rattle.mp_tree.specs.View.{document}
+use Rattle.mp_tree.specs.Private.Entries.{members}
 use Rattle.mp_tree.specs.declared.doc.Doc.{Doc}
 use Rattle.mp_tree.proofs.Facts.{document-Members, find-members, IsMap-members, members-inserted}
-use Rattle.mp_merge.specs.Walks.{united, union_members}
+use Rattle.mp_merge.specs.Private.Unions.{united, union_members}
 use Rattle.mp_merge.proofs.Unions.{united-absent, union_members-step}
 use Rattle.mp_merge.proofs.WalkLemmas.{next_member, rest_ascends}
 use Rattle.mp_merge.proofs.joining.+united.Goals as goal

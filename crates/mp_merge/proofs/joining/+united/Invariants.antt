@@ -1,8 +1,8 @@
 use Rattle.std.proofs.Common.{◌≡◌, string_cmp}
 use Rattle.std.specs.List.Sorted.{IsStrictlySortedBy}
 use Rattle.std.specs.Map.{keys_of}
-use Rattle.mp_tree.specs.View.{members}
-use Rattle.mp_merge.specs.Walks.{union_members}
+use Rattle.mp_tree.specs.Private.Entries.{members}
+use Rattle.mp_merge.specs.Private.Unions.{union_members}
 use Rattle.mp_merge.proofs.joining.+united.Given as goal
 
 -- the changes that are left, joined with the entries as they are, give the result

@@ -4,7 +4,7 @@ use Rattle.mp_tree.specs.View.{document}
 use Rattle.mp_tree.proofs.Facts.{IsDocument-document}
 use Rattle.mp_merge.specs.Clash.{Compatible}
 use Rattle.mp_merge.specs.Join.{IsJoin}
-use Rattle.mp_merge.specs.Walks.{union}
+use Rattle.mp_merge.specs.Private.Unions.{union}
 use Rattle.mp_merge.proofs.ClashesByName.{compatible-sym}
 use Rattle.mp_merge.proofs.Unions.{union_grows_join, join-one, depth-union}
 use Rattle.mp_merge.proofs.joining.join.Goals as goal

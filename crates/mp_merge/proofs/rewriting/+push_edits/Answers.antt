@@ -1,10 +1,11 @@
 use Rattle.std.proofs.Common.{◌≡◌, [], Some, option_map, String, Global, string_bytes, sym, ap, ◌∙◌, subst, refl, Bor}
 use Rattle.std.specs.Option.{option_copied}
 use Rattle.mp_tree.specs.Document.{object, no_members, find}
-use Rattle.mp_tree.specs.View.{document, members}
+use Rattle.mp_tree.specs.View.{document}
+use Rattle.mp_tree.specs.Private.Entries.{members}
 use Rattle.mp_tree.specs.declared.doc.Doc.{Doc}
 use Rattle.mp_tree.proofs.Facts.{document-Members}
-use Rattle.mp_merge.specs.EditWalk.{AreMemberEdits, all_guarded}
+use Rattle.mp_merge.specs.Private.Edits.{AreMemberEdits, all_guarded}
 use Rattle.mp_merge.proofs.Clashes.{back_again}
 use Rattle.mp_merge.proofs.EditWalks.{both_maps, IsEditsRest, edits_after_one, lent_part, renamed}
 use Rattle.mp_merge.proofs.Grown.{grew_by_all}

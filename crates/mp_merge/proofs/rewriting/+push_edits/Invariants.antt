@@ -1,8 +1,8 @@
 use Rattle.std.proofs.Common.{◌≡◌, string_cmp}
 use Rattle.std.specs.List.Sorted.{IsStrictlySortedBy}
 use Rattle.std.specs.Map.{keys_of}
-use Rattle.mp_tree.specs.View.{members}
-use Rattle.mp_merge.specs.EditWalk.{all_guarded}
+use Rattle.mp_tree.specs.Private.Entries.{members}
+use Rattle.mp_merge.specs.Private.Edits.{all_guarded}
 use Rattle.mp_merge.proofs.EditWalks.{IsEditsRest}
 use Rattle.mp_merge.proofs.rewriting.+push_edits.Given as goal
 

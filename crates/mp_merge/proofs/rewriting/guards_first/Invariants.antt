@@ -1,7 +1,7 @@
 use Rattle.std.proofs.Common.{◌≡◌, map}
 use Rattle.std.specs.List.{flat_map}
 use Rattle.mp_patch.specs.View.{operations_of}
-use Rattle.mp_merge.specs.EditWalk.{Guarded, all_guarded}
+use Rattle.mp_merge.specs.Private.Edits.{Guarded, all_guarded}
 use Rattle.mp_merge.proofs.rewriting.guards_first.Given as goal
 
 -- the tests and the edits of what was passed

@@ -2,8 +2,8 @@ use Rattle.std.proofs.Common.{◌≡◌, ◌≢◌, [], ◌∷◌, ◌++◌, Som
 use Rattle.mp_tree.specs.Document.{null}
 use Rattle.mp_tree.specs.View.{document}
 use Rattle.mp_tree.specs.declared.doc.Doc.{Doc}
-use Rattle.mp_merge.specs.EditWalk.{IsOneEdit, NotBothMaps, all_guarded}
-use Rattle.mp_merge.specs.Walks.{Grew}
+use Rattle.mp_merge.specs.Private.Edits.{IsOneEdit, NotBothMaps, all_guarded}
+use Rattle.mp_merge.specs.Private.Growth.{Grew}
 use Rattle.mp_merge.proofs.EditWalks.{grew_by_one, leaves_value, edit_removes, edit_adds, edit_replaces}
 use Rattle.mp_merge.proofs.rewriting.push_edit.Goals as goal
 

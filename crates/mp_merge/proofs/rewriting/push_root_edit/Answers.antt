@@ -1,6 +1,6 @@
 use Rattle.std.proofs.Common.{[], ◌∷◌, Some, refl, sym, ◌∙◌, subst, true≢false}
 use Rattle.mp_tree.specs.View.{document}
-use Rattle.mp_merge.specs.EditWalk.{IsOneEdit}
+use Rattle.mp_merge.specs.Private.Edits.{IsOneEdit}
 use Rattle.mp_merge.proofs.EditWalks.{grew_by_one, edit_replaces}
 use Rattle.mp_merge.proofs.rewriting.push_root_edit.Goals as goal
 

@@ -8,9 +8,9 @@ use Rattle.mp_patch.specs.Operation.{Operation}
 use Rattle.mp_patch.specs.Run.{Runs}
 use Rattle.mp_patch.specs.View.{operations_of}
 use Rattle.mp_merge.specs.Application.{mp}
-use Rattle.mp_merge.specs.EditWalk.{AreEdits, Guarded, all_guarded}
+use Rattle.mp_merge.specs.Private.Edits.{AreEdits, Guarded, all_guarded}
 use Rattle.mp_merge.specs.Rewriting.{IsRewriting}
-use Rattle.mp_merge.specs.Walks.{Grew}
+use Rattle.mp_merge.specs.Private.Growth.{Grew}
 use Rattle.mp_merge.proofs.AnyOrder.{rewriting_runs}
 use Rattle.mp_merge.proofs.Listings.{walk_is_rewriting}
 use Rattle.mp_merge.proofs.rewriting.rewrite.Goals as goal

@@ -2,9 +2,9 @@ use Rattle.std.proofs.Common.{◌≡◌, Some, inl, inr, ap, sym, ◌∙◌, cod
 use Rattle.std.proofs.lemmas.Result.{err_from_is_err_and}
 use Rattle.std.specs.Option.{option_copied}
 use Rattle.mp_tree.specs.Document.{object}
-use Rattle.mp_tree.specs.View.{members}
+use Rattle.mp_tree.specs.Private.Entries.{members}
 use Rattle.mp_patch.specs.Form.{text_at}
-use Rattle.mp_patch.specs.Read.{name_of}
+use Rattle.mp_patch.specs.Private.Reading.{name_of}
 use Rattle.mp_patch.proofs.FormLemmas.{origin_fault}
 use Rattle.mp_patch.proofs.reading.read_members.Goals as goal
 

@@ -1,6 +1,7 @@
 use Rattle.std.proofs.Common.{◌≡◌, Some, IsTrue, string_bytes, sym, subst, ap, ◌∙◌}
 use Rattle.mp_tree.specs.Document.{put}
-use Rattle.mp_tree.specs.View.{document, members}
+use Rattle.mp_tree.specs.View.{document}
+use Rattle.mp_tree.specs.Private.Entries.{members}
 use Rattle.mp_tree.specs.declared.doc.Doc
 use Rattle.mp_tree.specs.declared.doc.Doc.{Doc}
 use Rattle.mp_tree.proofs.Facts.{members-inserted}

@@ -47,7 +47,8 @@ use Rattle.mp_tree.specs.declared.doc.Doc.{Doc}
 use Rattle.mp_tree.specs.declared.doc.Doc.TheVariants.{Items, Members}
 use Rattle.mp_tree.proofs.doc.Doc.TheLaws as doc_laws
 use Rattle.mp_pointer.specs.contracts.pointer.Pointer as pointer
-use Rattle.mp_pointer.specs.Lent.{IsList, LendsPart, LendsPartOf, PartBecomes, one_token}
+use Rattle.mp_pointer.specs.Lent.{LendsPart, LendsPartOf, PartBecomes}
+use Rattle.mp_pointer.specs.Private.Child.{IsList, one_token}
 use Rattle.mp_tree.specs.Rows.{doc_row, items_row, members_row}
 use Rattle.mp_pointer.proofs.LentLemmas.{scalar_part}
 use Rattle.mp_pointer.proofs.Following.{arm_of, when_true, when_false, cases, spelled, spelled_typed, option_spelled, some_apart, none_apart, none_so, then_so, shares_again, shared_back, Kept}

@@ -2,7 +2,8 @@ use Rattle.std.proofs.Common.{◌≡◌, ◌<◌, ◌^◌, length, option_map, s
 use Rattle.std.specs.List.{slice_get}
 use Rattle.std.specs.Option.{option_copied}
 use Rattle.mp_tree.specs.Document.{list, object}
-use Rattle.mp_tree.specs.View.{document, items, members}
+use Rattle.mp_tree.specs.View.{document, items}
+use Rattle.mp_tree.specs.Private.Entries.{members}
 use Rattle.mp_tree.proofs.Facts.{find-members}
 use Rattle.mp_tree.proofs.Facts.{document-Null, document-Flag, document-Whole, document-Text, document-Items, document-Members}
 use Rattle.mp_pointer.specs.Part.{child}

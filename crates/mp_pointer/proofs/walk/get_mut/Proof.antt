@@ -46,7 +46,8 @@ use denote.Triple.Table.{framed}
 use denote.Triple.Walked.{Stays, walk_of, says, stay_dropped, Goes-dropped, Goes-spent_ref, ends_at}
 use Rattle.mp_tree.specs.View.{document}
 use Rattle.mp_tree.specs.declared.doc.Doc.{Doc}
-use Rattle.mp_pointer.specs.Lent.{LendsPart, PartBecomes, one_token}
+use Rattle.mp_pointer.specs.Lent.{LendsPart, PartBecomes}
+use Rattle.mp_pointer.specs.Private.Child.{one_token}
 use Rattle.mp_pointer.specs.Part.{part}
 use Rattle.mp_tree.specs.Rows.{doc_row}
 use Rattle.mp_pointer.specs.contracts.pointer.Pointer as pointer

@@ -1,7 +1,8 @@
 use Rattle.std.proofs.Common.{◌≡◌, ◌≤◌, [], ◌∷◌, ◌++◌, get_or, suc, sym, ap, ◌∙◌, append_assoc, append-nil, rules, arith}
 use Rattle.std.specs.BTreeMap.{values}
 use Rattle.mp_tree.specs.Document.{depth, object, items_depth, members_depth}
-use Rattle.mp_tree.specs.View.{document, items, members}
+use Rattle.mp_tree.specs.View.{document, items}
+use Rattle.mp_tree.specs.Private.Entries.{members}
 use Rattle.mp_tree.proofs.Depths.{items_depth_from_each, items_depth-append, members_depth-members}
 use Rattle.mp_tree.proofs.Meaning.{document-Members}
 use Rattle.mp_tree.proofs.ReadLemmas.{item_depth}

@@ -3,7 +3,8 @@ use Rattle.std.proofs.lemmas.Slice.Eq.{bytes_eq-Decides}
 use Rattle.std.proofs.lemmas.Slice.Zip.{zip_turn, zip_end}
 use Rattle.std.specs.Iterator.Adapters.{zip_first, zip_second}
 use Rattle.mp_tree.specs.Document.{object}
-use Rattle.mp_tree.specs.View.{document, members}
+use Rattle.mp_tree.specs.View.{document}
+use Rattle.mp_tree.specs.Private.Entries.{members}
 use Rattle.mp_tree.specs.declared.doc.Doc.{Doc}
 use Rattle.mp_tree.proofs.BuiltMaps.{seen}
 use Rattle.mp_tree.proofs.Lists.{map-push}

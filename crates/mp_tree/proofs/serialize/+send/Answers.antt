@@ -5,7 +5,8 @@ use Rattle.serde.specs.Event.{Logs, seq_begins, map_begins}
 use Rattle.serde_json.specs.Events.{members_len, SendsItems, SendsMembers}
 use Rattle.mp_tree.specs.Document.{object}
 use Rattle.mp_tree.specs.Text.{items_data}
-use Rattle.mp_tree.specs.View.{document, items, members}
+use Rattle.mp_tree.specs.View.{document, items}
+use Rattle.mp_tree.specs.Private.Entries.{members}
 use Rattle.mp_tree.proofs.IntoData.{entries_data, items_len-items, members_len-entries, members_data-entries}
 use Rattle.mp_tree.proofs.Meaning.{document-Members}
 use Rattle.mp_tree.proofs.serialize.+send.Goals as goal

@@ -1,11 +1,7 @@
--- What the private walks over two patches compute. Public contracts speak of clashes and joins alone.
-use Rattle.std.specs.Prelude.{◌≡◌, ◌++◌, List, Option, None, Some}
+-- What the walk over two compatible patches computes. Only private clauses cite it.
+use Rattle.std.specs.Prelude.{Option, None, Some}
 use Rattle.mp_tree.specs.Document.{Document, null, flag, whole, string, list, object, Members, no_members, member, find, put}
 use Rattle.mp_merge.specs.Application.{target_members}
-
--- the list has grown at its end by elements of which that holds
-abbrev pub Grew : {X : Type 0} → List X → List X → (List X → Type 0) → Type 0
-Grew {X} old new Holds = (added : List X) × (new ≡ old ++ added) × Holds added
 
 -- what was joined before stays, where there is something
 abbrev pub kept : Option Document → Document → Document

@@ -1,4 +1,4 @@
--- What the private walk over a patch and a document adds to a list of edits. Public contracts speak of rewritings alone.
+-- What the walk over a patch and a document adds to a list of edits. Only private clauses cite it.
 use Rattle.std.specs.Prelude.{◌≡◌, ◌≢◌, ◌⊎◌, List, [], ◌∷◌, ◌++◌, map, Option, None, Some}
 use Rattle.mp_tree.specs.Document.{Document, object, Members, no_members, member, find}
 use Rattle.mp_tree.specs.Look.{Path, an_object, look, look_of}

@@ -1,4 +1,4 @@
--- What the private walk over two patches adds to a list of places. Public contracts speak of all conflicts alone.
+-- What the walk over two patches adds to a list of paths. Only private clauses cite it.
 use Rattle.std.specs.Prelude.{◌≡◌, ◌≢◌, ◌⊎◌, List, [], ◌∷◌, ◌++◌, Option, None, Some}
 use Rattle.mp_tree.specs.Document.{Document, object, Members, no_members, member, find}
 use Rattle.mp_tree.specs.Look.{Path}

@@ -1,4 +1,4 @@
--- The fault that is answered where a reading fails.
+-- The fault that is answered where a reading fails. Only private clauses cite it.
 use Rattle.mp_tree.specs.declared.parts.Unread.{Unread}
 use Rattle.mp_tree.specs.declared.parts.Unread.TheVariants as unread
 use Rattle.mp_tree.specs.declared.read.DocsFault.{DocsFault}

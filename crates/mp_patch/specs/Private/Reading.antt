@@ -1,4 +1,4 @@
--- What reading a single element of a patch answers.
+-- What reading a single element of a patch answers. Only private clauses cite it.
 use Rattle.std.specs.Prelude.{◌≡◌, ◌⊎◌, ℕ, codes, List, None, Some, ⊤}
 use Rattle.mp_tree.specs.Document.{Document}
 use Rattle.mp_pointer.specs.Spelling.{Tokens, spell}

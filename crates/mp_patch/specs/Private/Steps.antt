@@ -1,4 +1,4 @@
--- What a single operation answers.
+-- What a single operation answers. Only private clauses cite it.
 use Rattle.std.specs.Prelude.{◌≡◌, ℕ, List, Bool, IsTrue, IsFalse, Option, None, Some, MatchOption, Result, Ok, Err, ⊤}
 use Rattle.mp_tree.specs.Document.{Document}
 use Rattle.mp_tree.specs.View.{document}

@@ -1,4 +1,4 @@
--- What the private walk of merging in place does to one name of an object. Public contracts speak of application alone.
+-- What merging in place does to one name of an object. Only private clauses cite it.
 use Rattle.std.specs.Prelude.{◌≡◌, ◌⊎◌, ℕ, List, Option, Some, false}
 use Rattle.mp_tree.specs.Document.{Document, null, Members, find, is_name}
 use Rattle.mp_merge.specs.Application.{mp}
