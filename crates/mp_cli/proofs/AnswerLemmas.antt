@@ -3,17 +3,17 @@ use Rattle.std.proofs.Common.{◌≡◌, ◌==◌, false, List, [], ◌∷◌, l
 use Rattle.mp_tree.specs.Document.{Document}
 use Rattle.mp_tree.specs.View.{document, items}
 use Rattle.mp_tree.specs.declared.doc.Doc.{Doc}
-use Rattle.mp_merge.specs.Lists.{IsListFault, IsReplayFault}
+use Rattle.mp_merge.specs.Lists.{IsJoinAllFault, IsReplayFault}
 use Rattle.mp_merge.specs.declared.fault.ListFault.{ListFault}
 use Rattle.mp_merge.specs.declared.fault.ListFault.TheVariants.{NoPatches, ConflictOf, OutOfMemory}
-use Rattle.mp_cli.specs.Answered.{Answered, listed, IsJoinAnswer, none_joined, join_refused, IsReplayAnswer, replay_refused, IsPatchAnswerTo, IsReplayAnswerTo, IsRewriteAnswerTo, wrong_shape}
+use Rattle.mp_cli.specs.Answered.{Answered, list_of, IsJoinAnswer, none_joined, join_refused, IsReplayAnswer, replay_refused, IsPatchAnswerTo, IsReplayAnswerTo, IsRewriteAnswerTo, wrong_shape}
 use Rattle.mp_cli.specs.Private.Answers.{list_fault}
 
-pub listed-items : (docs : List Doc) → listed (items docs) ≡ map document docs
-listed-items [] = refl
-listed-items (d ∷ docs) = ap (λ ds. document d ∷ ds) (listed-items docs)
+pub list_of-items : (docs : List Doc) → list_of (items docs) ≡ map document docs
+list_of-items [] = refl
+list_of-items (d ∷ docs) = ap (λ ds. document d ∷ ds) (list_of-items docs)
 
-pub no_join : (fault : ListFault) (patches : List Document) (a : Answered) → (fault ≡ OutOfMemory → ⊥) → IsListFault fault patches → a ≡ list_fault fault → IsJoinAnswer patches a
+pub no_join : (fault : ListFault) (patches : List Document) (a : Answered) → (fault ≡ OutOfMemory → ⊥) → IsJoinAllFault fault patches → a ≡ list_fault fault → IsJoinAnswer patches a
 no_join NoPatches patches a memory none is = none_joined none is
 no_join (ConflictOf first second places) patches a memory clash is = join_refused first second places.items clash is
 no_join OutOfMemory patches a memory none is = absurd (memory refl)
@@ -36,7 +36,7 @@ first_and_rest (e ∷ docs) ps d some first rest = ap₂ (λ x xs. x ∷ xs) (sy
 -- the input of `replay` is its start and the patches
 pub replay_answer : (docs ps : List Doc) (d : Doc) (a : Answered) → docs ≡ d ∷ ps → IsReplayAnswer (document d) (map document ps) a → IsReplayAnswerTo (items docs) a
 replay_answer docs ps d a split is =
-    subst (λ (ds : List Doc). IsReplayAnswerTo (items ds) a) (sym split) (subst (λ (qs : List Document). IsReplayAnswer (document d) qs a) (sym (listed-items ps)) is)
+    subst (λ (ds : List Doc). IsReplayAnswerTo (items ds) a) (sym split) (subst (λ (qs : List Document). IsReplayAnswer (document d) qs a) (sym (list_of-items ps)) is)
 
 -- `patch` and `rewrite` take two documents
 pub not_two : (docs : List Doc) (a : Answered) → (length docs ≡ 2 → ⊥) → a ≡ wrong_shape → IsPatchAnswerTo (items docs) a × IsRewriteAnswerTo (items docs) a

@@ -4,8 +4,8 @@ use Rattle.std.specs.List.{flat_map}
 use Rattle.mp_tree.specs.Document.{Document, string, Items, no_items, item, IsDocument}
 use Rattle.mp_tree.specs.Look.{Path}
 use Rattle.mp_tree.specs.Text.{documents_in, text as compact}
-use Rattle.mp_tree.specs.declared.read.DocsFault.{DocsFault}
-use Rattle.mp_tree.specs.declared.read.DocsFault.TheVariants.{NotJson, NotWhole, NotAnArray, OutOfMemory}
+use Rattle.mp_tree.specs.declared.reading.DocsFault.{DocsFault}
+use Rattle.mp_tree.specs.declared.reading.DocsFault.TheVariants.{NotJson, NotWhole, NotAnArray, OutOfMemory}
 use Rattle.mp_pointer.specs.Part.{numeral, part}
 use Rattle.mp_pointer.specs.Spelling.{Tokens, spell, tokens_in}
 use Rattle.mp_pointer.specs.declared.fault.PointerFault.{PointerFault}
@@ -55,11 +55,11 @@ input_fault OutOfMemory = line (codes "out of memory") 3
 
 -- what is wrong with the spelling of a pointer, a tilde with its place in plain decimals
 abbrev pub bad_tilde_line : ℕ → Answered
-bad_tilde_line place = line (codes "pointer: bad tilde at " ++ numeral place) 2
+bad_tilde_line offset = line (codes "pointer: bad tilde at " ++ numeral offset) 2
 
 abbrev pub spelling_fault : PointerFault → Answered
 spelling_fault NoSlash = line (codes "pointer: no slash") 2
-spelling_fault (BadTilde place) = bad_tilde_line place
+spelling_fault (BadTilde offset) = bad_tilde_line offset
 spelling_fault NoMemory = line (codes "out of memory") 3
 
 -- a part of a document, where there is one
@@ -79,20 +79,20 @@ get_answer pointer (item d no_items) = part_answer d (tokens_in pointer)
 get_answer pointer (item d (item e ds)) = wrong_shape
 
 -- the elements of the input array
-abbrev pub listed : Items → List Document
-listed no_items = []
-listed (item d ds) = d ∷ listed ds
+abbrev pub list_of : Items → List Document
+list_of no_items = []
+list_of (item d ds) = d ∷ list_of ds
 
 -- `merge` wants `[document, patch, ..]`, also with no patch: each patch is applied in turn, with no check of compatibility
 abbrev pub merge_answer : Items → Answered
 merge_answer no_items = wrong_shape
-merge_answer (item d ps) = result_line (in_turn d (listed ps))
+merge_answer (item d ps) = result_line (in_turn d (list_of ps))
 
 -- ---- `patch`
 
 -- an operation by its number, and what is wrong with it
 abbrev pub operation_line : ℕ → List ℕ → ℕ → Answered
-operation_line op words status = line (codes "operation " ++ numeral op ++ codes ": " ++ words) status
+operation_line number words status = line (codes "operation " ++ numeral number ++ codes ": " ++ words) status
 
 abbrev pub form_words : FormCause → List ℕ
 form_words NotAnObject = codes "not an object"
@@ -114,12 +114,12 @@ cause_words TestFailed = codes "test failed"
 -- what is wrong with the form of a patch
 abbrev pub form_fault : FormFault → Answered
 form_fault NoList = wrong_shape
-form_fault (Form op cause) = operation_line op (form_words cause) 2
+form_fault (Form number cause) = operation_line number (form_words cause) 2
 form_fault FormMemory = line (codes "out of memory") 3
 
 -- why a patch has no result
 abbrev pub run_fault : ApplyFault → Answered
-run_fault (Refused op cause) = operation_line op (cause_words cause) 1
+run_fault (Refused number cause) = operation_line number (cause_words cause) 1
 run_fault RunMemory = line (codes "out of memory") 3
 
 -- where the operations run, the document that they lead to, and else the first that is refused
@@ -169,7 +169,7 @@ pub data IsReplayAnswer (start : Document) (patches : List Document) (a : Answer
 
 abbrev pub IsReplayAnswerTo : Items → Answered → Type 0
 IsReplayAnswerTo no_items a = a ≡ wrong_shape
-IsReplayAnswerTo (item d ps) a = IsReplayAnswer d (listed ps) a
+IsReplayAnswerTo (item d ps) a = IsReplayAnswer d (list_of ps) a
 
 -- ---- `rewrite`
 
@@ -189,7 +189,7 @@ abbrev pub IsAnswerTo : Command → Items → Answered → Type 0
 IsAnswerTo (Get pointer) inputs a = a ≡ get_answer (string_bytes pointer) inputs
 IsAnswerTo Patch inputs a = IsPatchAnswerTo inputs a
 IsAnswerTo Merge inputs a = a ≡ merge_answer inputs
-IsAnswerTo Join inputs a = IsJoinAnswer (listed inputs) a
+IsAnswerTo Join inputs a = IsJoinAnswer (list_of inputs) a
 IsAnswerTo Replay inputs a = IsReplayAnswerTo inputs a
 IsAnswerTo Rewrite inputs a = IsRewriteAnswerTo inputs a
 

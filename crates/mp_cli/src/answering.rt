@@ -99,15 +99,15 @@ fn fault_in_spelling(alloc: Global, fault: PointerFault) -> Result<Answer, Alloc
 {
     match fault {
         PointerFault::NoSlash => line(alloc, "pointer: no slash", REFUSED),
-        PointerFault::BadTilde(place) => bad_tilde(alloc, place),
+        PointerFault::BadTilde(offset) => bad_tilde(alloc, offset),
         PointerFault::OutOfMemory => Err(AllocError),
     }
 }
 
-fn bad_tilde(alloc: Global, place: usize) -> Result<Answer, AllocError>
-    ensures { Gives result (bad_tilde_line place) }
+fn bad_tilde(alloc: Global, offset: usize) -> Result<Answer, AllocError>
+    ensures { Gives result (bad_tilde_line offset) }
 {
-    let text = numbered(alloc, "pointer: bad tilde at ", place)?;
+    let text = with_number(alloc, "pointer: bad tilde at ", offset)?;
     line(alloc, text.as_str(), REFUSED)
 }
 
@@ -115,7 +115,7 @@ fn part(alloc: Global, found: Option<&Doc>) -> Result<Answer, AllocError>
     ensures { Gives result (part_line (option_map (λ d. document d.now) found.entry)) }
 {
     match found {
-        Some(doc) => printed(write_doc(alloc, doc)?),
+        Some(doc) => result_line(write_doc(alloc, doc)?),
         None => line(alloc, "missing", NO_RESULT),
     }
 }
@@ -128,24 +128,24 @@ fn patch(alloc: Global, mut docs: Vec<Doc>) -> Result<Answer, AllocError>
     }
     let patch = docs.remove(1);
     let doc = docs.remove(0);
-    patched(alloc, doc, &patch)
+    read_and_apply(alloc, doc, &patch)
 }
 
-fn patched(alloc: Global, doc: Doc, patch: &Doc) -> Result<Answer, AllocError>
+fn read_and_apply(alloc: Global, doc: Doc, patch: &Doc) -> Result<Answer, AllocError>
     ensures { IfOk result (λ a. IsPatchAnswer (document doc) (document patch.now) (answered_by a)) }
 {
     match JsonPatch::from_doc(alloc, patch) {
-        Ok(patch) => applied(alloc, doc, &patch),
+        Ok(patch) => apply_patch(alloc, doc, &patch),
         Err(fault) => fault_in_form(alloc, fault),
     }
 }
 
-fn applied(alloc: Global, doc: Doc, patch: &JsonPatch) -> Result<Answer, AllocError>
+fn apply_patch(alloc: Global, doc: Doc, patch: &JsonPatch) -> Result<Answer, AllocError>
     ensures { IfOk result (λ a.
         IsRunAnswer (document doc) (operations_of patch.now) (answered_by a)) }
 {
     match apply_owned(alloc, doc, patch) {
-        Ok(result) => printed(write_doc(alloc, &result)?),
+        Ok(result) => result_line(write_doc(alloc, &result)?),
         Err(fault) => fault_in_run(alloc, fault),
     }
 }
@@ -201,7 +201,7 @@ fn words_of_cause(cause: Cause) -> &'static str
 fn operation(alloc: Global, op: usize, words: &str, status: u8) -> Result<Answer, AllocError>
     ensures { Gives result (operation_line op words.now status) }
 {
-    let mut text = numbered(alloc, "operation ", op)?;
+    let mut text = with_number(alloc, "operation ", op)?;
     text.push_str(": ")?;
     text.push_str(words)?;
     line(alloc, text.as_str(), status)
@@ -217,14 +217,14 @@ fn merge(alloc: Global, docs: Vec<Doc>) -> Result<Answer, AllocError>
     for patch in inputs {
         doc = merge_owned(alloc, Some(doc), patch)?;
     }
-    printed(write_doc(alloc, &doc)?)
+    result_line(write_doc(alloc, &doc)?)
 }
 
 fn join(alloc: Global, patches: &[Doc]) -> Result<Answer, AllocError>
     ensures { IfOk result (λ a. IsJoinAnswer (map document patches.now) (answered_by a)) }
 {
     match join_all(alloc, patches) {
-        Ok(joined) => printed(write_doc(alloc, &joined)?),
+        Ok(joined) => result_line(write_doc(alloc, &joined)?),
         Err(fault) => fault_in_list(alloc, fault),
     }
 }
@@ -237,7 +237,7 @@ fn replay(alloc: Global, mut docs: Vec<Doc>) -> Result<Answer, AllocError>
     }
     let start = docs.remove(0);
     match replay_owned(alloc, start, docs.as_slice()) {
-        Ok(doc) => printed(write_doc(alloc, &doc)?),
+        Ok(doc) => result_line(write_doc(alloc, &doc)?),
         Err(fault) => fault_in_list(alloc, fault),
     }
 }
@@ -265,8 +265,8 @@ fn conflict(
 ) -> Result<Answer, AllocError>
     ensures { Gives result (conflict_line first second places.now) }
 {
-    let mut text = numbered(alloc, "conflict: patches ", first)?;
-    text.push_str(numbered(alloc, " and ", second)?.as_str())?;
+    let mut text = with_number(alloc, "conflict: patches ", first)?;
+    text.push_str(with_number(alloc, " and ", second)?.as_str())?;
     text.push_str(" at ")?;
     text.push_str(pointers(alloc, places)?.as_str())?;
     line(alloc, text.as_str(), NO_RESULT)
@@ -294,7 +294,7 @@ fn pointer(alloc: Global, place: &Pointer) -> Result<String, AllocError>
 }
 
 // The text before a number, and the number in plain decimals.
-fn numbered(alloc: Global, before: &str, number: usize) -> Result<String, AllocError>
+fn with_number(alloc: Global, before: &str, number: usize) -> Result<String, AllocError>
     ensures { IfOk result (λ text. string_bytes text ≡ before.now ++ numeral number) }
 {
     format!(in alloc; "{before}{number}")
@@ -306,18 +306,18 @@ fn rewrite(alloc: Global, docs: &[Doc]) -> Result<Answer, AllocError>
     if docs.len() != 2 {
         return wrong_shape(alloc);
     }
-    rewritten(alloc, &docs[0], &docs[1])
+    rewrite_patch(alloc, &docs[0], &docs[1])
 }
 
-fn rewritten(alloc: Global, doc: &Doc, patch: &Doc) -> Result<Answer, AllocError>
+fn rewrite_patch(alloc: Global, doc: &Doc, patch: &Doc) -> Result<Answer, AllocError>
     ensures { IfOk result (λ a.
         IsRewriteAnswer (document doc.now) (document patch.now) (answered_by a)) }
 {
     let edits = rewriting(alloc, doc, patch)?;
-    printed(write_doc(alloc, &edits.into_doc(alloc)?)?)
+    result_line(write_doc(alloc, &edits.into_doc(alloc)?)?)
 }
 
-fn printed(mut text: String) -> Result<Answer, AllocError>
+fn result_line(mut text: String) -> Result<Answer, AllocError>
     ensures { Gives result (line_with (string_bytes text) 0) }
 {
     text.push_str("\n")?;

@@ -84,7 +84,7 @@ pub fn command_of(alloc: Global, words: Vec<String>) -> Result<Command, CommandF
 {
     let line = program_line(alloc)?;
     match line.try_get_matches_from(words.as_slice()) {
-        Ok(matches) => Ok(chosen(alloc, &matches)?),
+        Ok(matches) => Ok(command_from(alloc, &matches)?),
         Err(error) => Err(refusal(alloc, &error)),
     }
 }
@@ -149,7 +149,7 @@ fn get_line<'a>(alloc: Global) -> Result<clap::Command<'a>, AllocError>
 }
 
 /// The command of the subcommand that was met.
-fn chosen(alloc: Global, matches: &ArgMatches<'_>) -> Result<Command, AllocError>
+fn command_from(alloc: Global, matches: &ArgMatches<'_>) -> Result<Command, AllocError>
     requires known { IsSubcommand (subcommand_name_of matches.now) }
     requires pointer { HasPointer (subcommand_rows_of matches.now) }
     ensures command { IfOk result (λ command.

@@ -8,19 +8,19 @@ use Rattle.mp_pointer.specs.Part.{part}
 use Rattle.mp_pointer.specs.Spelling.{BeginsWith}
 use Rattle.mp_patch.specs.Operation.{Step}
 use Rattle.mp_patch.specs.Run.{IsRefused, Runs}
-use Rattle.mp_merge.specs.Application.{target_members, mp, mp_members, unless_null, after_patch, depth_of}
+use Rattle.mp_merge.specs.Application.{target_members, merge_patch, merge_patch_members, unless_null, after_patch, depth_of}
 use Rattle.mp_merge.specs.EditPlace.{IsEditPlace}
 use Rattle.mp_merge.specs.Laws.{EditsInAnyOrder, RewritingRuns}
-use Rattle.mp_merge.specs.Rewriting.{part_left, leaving, edit, AreEditPlaces, HasNoRepeats}
-use Rattle.mp_merge.proofs.ApplicationLemmas.{IsDocument-mp}
-use Rattle.mp_merge.proofs.DepthLemmas.{depth-find, depth-mp}
+use Rattle.mp_merge.specs.Rewriting.{part_left, edit_to, edit, AreEditPlaces, HasNoRepeats}
+use Rattle.mp_merge.proofs.ApplicationLemmas.{IsDocument-merge_patch}
+use Rattle.mp_merge.proofs.DepthLemmas.{depth-find, depth-merge_patch}
 use Rattle.mp_merge.proofs.Edits.{with_at, IsDocument-with_at, look-with_at, look-elsewhere, made}
 use Rattle.mp_merge.proofs.EditPlaces.{Differs, differs_at_edit, edit_places_apart, stays_without_edit, look-left}
 use Rattle.mp_merge.proofs.EditSteps.{Fits, leaves}
 use Rattle.mp_merge.proofs.Elements.{Contains-nil, Contains-head, Contains-tail, Contains-cases}
 use Rattle.mp_merge.proofs.Guards.{guards_run}
 use Rattle.mp_merge.proofs.Looks.{same_look}
-use Rattle.mp_merge.proofs.Places.{MapsAbove, at_path, look-at_path, look-end, to_maps_above, IsDocument-at_path, part-at_path, at_path-mp, Compared, same, longer, shorter, compared}
+use Rattle.mp_merge.proofs.Places.{MapsAbove, at_path, look-at_path, look-end, to_maps_above, IsDocument-at_path, part-at_path, at_path-merge_patch, Compared, same, longer, shorter, compared}
 use Rattle.mp_merge.proofs.Rewritings.{no_repeats}
 use Rattle.mp_merge.proofs.Says.{left_of}
 
@@ -39,24 +39,24 @@ no_members_there (Some (object ts)) other = absurd (other refl)
 abbrev NoMapUnder : Option Document → Document → Type 0
 NoMapUnder t q = look q [] ≡ an_object → look_of t [] ≢ an_object
 
-mp-fresh : (t : Option Document) (q : Document) → NoMapUnder t q → mp t q ≡ mp None q
-mp-fresh t null other = refl
-mp-fresh t (flag b) other = refl
-mp-fresh t (whole z) other = refl
-mp-fresh t (string s) other = refl
-mp-fresh t (list ds) other = refl
-mp-fresh t (object ps) other = ap (λ ts. object (mp_members ts ps)) (no_members_there t (other refl))
+merge_patch-fresh : (t : Option Document) (q : Document) → NoMapUnder t q → merge_patch t q ≡ merge_patch None q
+merge_patch-fresh t null other = refl
+merge_patch-fresh t (flag b) other = refl
+merge_patch-fresh t (whole z) other = refl
+merge_patch-fresh t (string s) other = refl
+merge_patch-fresh t (list ds) other = refl
+merge_patch-fresh t (object ps) other = ap (λ ts. object (merge_patch_members ts ps)) (no_members_there t (other refl))
 
 part_left-below : (n : List ℕ) (w : Path) (t o : Option Document) → ((q : Document) → o ≡ Some q → NoMapUnder t q) → look_of o [] ≢ nothing → after_patch t o ≡ part_left (n ∷ w) o
 part_left-below n w t None fresh here = absurd (here refl)
-part_left-below n w t (Some q) fresh here = ap (unless_null q) (mp-fresh t q (fresh q refl))
+part_left-below n w t (Some q) fresh here = ap (unless_null q) (merge_patch-fresh t q (fresh q refl))
 
 module _ (d p : Document) (good : IsDocument d) (patch : IsDocument p) where
   abbrev result : Document
-  result = mp (Some d) p
+  result = merge_patch (Some d) p
 
   result_good : IsDocument result
-  result_good = IsDocument-mp (Some d) p good patch
+  result_good = IsDocument-merge_patch (Some d) p good patch
 
   -- where the patch has a map the document has none
   fresh_at : (w : Path) → Differs d p w → (q : Document) → at_path (Some p) w ≡ Some q → NoMapUnder (at_path (Some d) w) q
@@ -65,9 +65,9 @@ module _ (d p : Document) (good : IsDocument d) (patch : IsDocument p) where
       place.differs (look-end w (Some d) ∙ here ∙ sym (ap (λ l. left_of l w) patch_map))
 
   left_at : (w : Path) → Differs d p w → at_path (Some result) w ≡ part_left w (at_path (Some p) w)
-  left_at [] place = ap Some (mp-fresh (Some d) p (fresh_at [] place p refl))
+  left_at [] place = ap Some (merge_patch-fresh (Some d) p (fresh_at [] place p refl))
   left_at (n ∷ w) place =
-      at_path-mp n w (Some d) p good patch place.patch_maps
+      at_path-merge_patch n w (Some d) p good patch place.patch_maps
       ∙ part_left-below n w (at_path (Some d) (n ∷ w)) (at_path (Some p) (n ∷ w)) (fresh_at (n ∷ w) place) (λ none. place.speaks (look-end (n ∷ w) (Some p) ∙ none))
 
 -- ---- what an edit leaves is not too deep
@@ -88,8 +88,8 @@ depth-unless_null (object ms) e = omega arith
 
 depth-part_left : (w : Path) (o : Option Document) → depth_of (part_left w o) ≤ depth_of o
 depth-part_left w None = omega arith
-depth-part_left [] (Some q) = omega (arith, depth-mp None q)
-depth-part_left (n ∷ w) (Some q) = omega (arith, depth-unless_null q (mp None q), depth-mp None q)
+depth-part_left [] (Some q) = omega (arith, depth-merge_patch None q)
+depth-part_left (n ∷ w) (Some q) = omega (arith, depth-unless_null q (merge_patch None q), depth-merge_patch None q)
 
 each_within : (k : ℕ) (w : Path) (v : Option Document) → length w + depth_of v ≤ k → IfSome v (λ c. length w + depth c ≤ k)
 each_within k w None within = tt
@@ -171,7 +171,7 @@ module _ (d p : Document) (good : IsDocument d) (patch : IsDocument p) (shallow 
     next = made (with_at w value (Some x))
 
     edit_leads : ¬ IsRefused x (edit d p w) × Step x (edit d p w) next
-    edit_leads = subst (λ l. ¬ IsRefused x (leaving w l value) × Step x (leaving w l value) next) now (leaves x w value fits)
+    edit_leads = subst (λ l. ¬ IsRefused x (edit_to w l value) × Step x (edit_to w l value) next) now (leaves x w value fits)
 
     next_is : with_at w value (Some x) ≡ Some next
     next_is = made_there w value (Some x) (λ none. (removed none).0)
@@ -241,13 +241,13 @@ module _ (d p : Document) (good : IsDocument d) (patch : IsDocument p) (shallow 
     kept = λ v none. refl;
   }
 
-edits_run : (d p : Document) → IsDocument d → IsDocument p → depth p ≤ depth_limit → (taken : List Path) → HasNoRepeats taken → AreEditPlaces d p taken → Runs d (map (edit d p) taken) (mp (Some d) p)
+edits_run : (d p : Document) → IsDocument d → IsDocument p → depth p ≤ depth_limit → (taken : List Path) → HasNoRepeats taken → AreEditPlaces d p taken → Runs d (map (edit d p) taken) (merge_patch (Some d) p)
 edits_run d p good patch shallow taken once all =
     run_from d p good patch shallow taken [] d (λ u at. absurd (Contains-nil u at)) (λ u at. (all u).0 at) once (λ u at none. Contains-nil u none) (λ u place. inr ((all u).1 place)) (start d p good patch shallow)
 
 pub edits_in_any_order : EditsInAnyOrder
 edits_in_any_order d p operations good patch shallow lists =
-    subst (λ os. Runs d os (mp (Some d) p)) (sym lists.guarded) (guards_run d lists.places (map (edit d p) lists.taken) (mp (Some d) p) (edits_run d p good patch shallow lists.taken lists.once lists.same))
+    subst (λ os. Runs d os (merge_patch (Some d) p)) (sym lists.guarded) (guards_run d lists.places (map (edit d p) lists.taken) (merge_patch (Some d) p) (edits_run d p good patch shallow lists.taken lists.once lists.same))
 
 pub rewriting_runs : RewritingRuns
 rewriting_runs d p operations good patch shallow is = edits_in_any_order d p operations good patch shallow (record {

@@ -6,7 +6,7 @@ use Rattle.std.specs.List.{Contains}
 use Rattle.mp_tree.specs.Document.{Document, null, flag, whole, string, list, object, Members, no_members, member, is_name, find, IsBelow, IsDocument, IsMap}
 use Rattle.mp_tree.specs.Look.{Path, an_object, look, look_of}
 use Rattle.mp_tree.proofs.Facts.{is_here, find-below, cases_same}
-use Rattle.mp_merge.specs.Clash.{Clash, Compatible, AreAllClashes, AreConflicts}
+use Rattle.mp_merge.specs.Clash.{Clash, Compatible, AreAllClashes, AreConflictsOfPair}
 use Rattle.mp_merge.specs.Private.Clashes.{IsOneClash, WalksClashes, WalksMembers}
 use Rattle.mp_merge.specs.Private.Growth.{Grew}
 use Rattle.mp_merge.specs.Laws.{ClashesExist, EmptyIfCompatible, HaveOneList}
@@ -214,17 +214,17 @@ empty_if_compatible p q places are = (
 )
 
 -- two patches are compatible, or have conflicts
-pub compatible_or_conflicts : (p q : Document) → IsDocument p → Compatible p q ⊎ ((places : List Path) × AreConflicts p q places)
+pub compatible_or_conflicts : (p q : Document) → IsDocument p → Compatible p q ⊎ ((places : List Path) × AreConflictsOfPair p q places)
 compatible_or_conflicts p q good = let all = clashes_exist p q good in by all.0 all.1
   where
-    by : (places : List Path) → AreAllClashes p q places → Compatible p q ⊎ ((places : List Path) × AreConflicts p q places)
+    by : (places : List Path) → AreAllClashes p q places → Compatible p q ⊎ ((places : List Path) × AreConflictsOfPair p q places)
     by [] are = inl ((empty_if_compatible p q [] are).0 refl)
     by (w ∷ places) are = inr (w ∷ places, record { some = λ none. cc; clashes = are })
 
 -- patches with conflicts are not compatible
-pub conflicts_clash : (p q : Document) (places : List Path) → AreConflicts p q places → ¬ Compatible p q
+pub conflicts_clash : (p q : Document) (places : List Path) → AreConflictsOfPair p q places → ¬ Compatible p q
 conflicts_clash p q places conflicts free = conflicts.some ((empty_if_compatible p q places conflicts.clashes).1 free)
 
 -- all conflicts of patches that are not compatible
-pub conflicts_of : (p q : Document) (places : List Path) → ¬ Compatible p q → AreAllClashes p q places → AreConflicts p q places
+pub conflicts_of : (p q : Document) (places : List Path) → ¬ Compatible p q → AreAllClashes p q places → AreConflictsOfPair p q places
 conflicts_of p q places apart are = record { some = λ none. apart ((empty_if_compatible p q places are).0 none); clashes = are }

@@ -3,7 +3,7 @@ use Rattle.std.proofs.Common.{◌≤◌, ℕ, List, Bool, true, false, cond, max
 use Rattle.std.specs.Ordering.{match_ordering}
 use Rattle.std.specs.declared.cmp.Ordering.TheVariants.{Less, Equal, Greater}
 use Rattle.mp_tree.specs.Document.{Document, null, flag, whole, string, list, object, Members, no_members, member, name_cmp, is_name, find, put, without, depth, members_depth}
-use Rattle.mp_merge.specs.Application.{target_members, changed, depth_of, mp, mp_members}
+use Rattle.mp_merge.specs.Application.{target_members, set_or_remove, depth_of, merge_patch, merge_patch_members}
 
 pub depth-find : (q : List ℕ) (ms : Members) → depth_of (find q ms) ≤ members_depth ms
 depth-find q no_members = omega arith
@@ -30,13 +30,13 @@ depth-without n (member m d ms) = picked (is_name n m) (depth-without n ms)
     picked true later = omega arith
     picked false later = omega (arith, later)
 
-depth-changed : (n : List ℕ) (p d : Document) (ms : Members) → members_depth (changed n p d ms) ≤ max (depth d) (members_depth ms)
-depth-changed n null d ms = omega (arith, depth-without n ms)
-depth-changed n (flag b) d ms = depth-put n d ms
-depth-changed n (whole z) d ms = depth-put n d ms
-depth-changed n (string s) d ms = depth-put n d ms
-depth-changed n (list ds) d ms = depth-put n d ms
-depth-changed n (object ps) d ms = depth-put n d ms
+depth-set_or_remove : (n : List ℕ) (p d : Document) (ms : Members) → members_depth (set_or_remove n p d ms) ≤ max (depth d) (members_depth ms)
+depth-set_or_remove n null d ms = omega (arith, depth-without n ms)
+depth-set_or_remove n (flag b) d ms = depth-put n d ms
+depth-set_or_remove n (whole z) d ms = depth-put n d ms
+depth-set_or_remove n (string s) d ms = depth-put n d ms
+depth-set_or_remove n (list ds) d ms = depth-put n d ms
+depth-set_or_remove n (object ps) d ms = depth-put n d ms
 
 depth-target_members : (t : Option Document) → members_depth (target_members t) ≤ depth_of t
 depth-target_members None = omega arith
@@ -47,7 +47,7 @@ depth-target_members (Some (string s)) = omega arith
 depth-target_members (Some (list ds)) = omega arith
 depth-target_members (Some (object ts)) = omega arith
 
-members_at_most : (t : Option Document) (ps : Members) → members_depth (mp_members (target_members t) ps) ≤ max (members_depth (target_members t)) (members_depth ps) → depth (mp t (object ps)) ≤ max (depth_of t) (depth (object ps))
+members_at_most : (t : Option Document) (ps : Members) → members_depth (merge_patch_members (target_members t) ps) ≤ max (members_depth (target_members t)) (members_depth ps) → depth (merge_patch t (object ps)) ≤ max (depth_of t) (depth (object ps))
 members_at_most None ps inner = omega (arith, inner)
 members_at_most (Some null) ps inner = omega (arith, inner)
 members_at_most (Some (flag b)) ps inner = omega (arith, inner)
@@ -57,15 +57,15 @@ members_at_most (Some (list ds)) ps inner = omega (arith, inner)
 members_at_most (Some (object ts)) ps inner = omega (arith, inner)
 
 mutual
-  pub depth-mp : (t : Option Document) (p : Document) → depth (mp t p) ≤ max (depth_of t) (depth p)
-  depth-mp t null = omega arith
-  depth-mp t (flag b) = omega arith
-  depth-mp t (whole z) = omega arith
-  depth-mp t (string s) = omega arith
-  depth-mp t (list ds) = omega arith
-  depth-mp t (object ps) = members_at_most t ps (depth-mp_members (target_members t) ps)
+  pub depth-merge_patch : (t : Option Document) (p : Document) → depth (merge_patch t p) ≤ max (depth_of t) (depth p)
+  depth-merge_patch t null = omega arith
+  depth-merge_patch t (flag b) = omega arith
+  depth-merge_patch t (whole z) = omega arith
+  depth-merge_patch t (string s) = omega arith
+  depth-merge_patch t (list ds) = omega arith
+  depth-merge_patch t (object ps) = members_at_most t ps (depth-merge_patch_members (target_members t) ps)
 
-  depth-mp_members : (ts ps : Members) → members_depth (mp_members ts ps) ≤ max (members_depth ts) (members_depth ps)
-  depth-mp_members ts no_members = omega arith
-  depth-mp_members ts (member n p ps) =
-      omega (arith, depth-changed n p (mp (find n ts) p) (mp_members ts ps), depth-mp (find n ts) p, depth-find n ts, depth-mp_members ts ps)
+  depth-merge_patch_members : (ts ps : Members) → members_depth (merge_patch_members ts ps) ≤ max (members_depth ts) (members_depth ps)
+  depth-merge_patch_members ts no_members = omega arith
+  depth-merge_patch_members ts (member n p ps) =
+      omega (arith, depth-set_or_remove n p (merge_patch (find n ts) p) (merge_patch_members ts ps), depth-merge_patch (find n ts) p, depth-find n ts, depth-merge_patch_members ts ps)

@@ -2,14 +2,14 @@
 use Rattle.std.proofs.Common.{◌≡◌, ◌≢◌, ◌⊎◌, inl, inr, ℕ, List, [], ◌∷◌, ◌++◌, Some, refl, sym, ap, ◌∙◌, append-nil, append_assoc}
 use Rattle.mp_tree.specs.Document.{Document, null, flag, whole, string, list, object, IsDocument}
 use Rattle.mp_tree.specs.Look.{Path, Look, nothing, an_object, plain, look}
-use Rattle.mp_merge.specs.Application.{mp}
+use Rattle.mp_merge.specs.Application.{merge_patch}
 use Rattle.mp_merge.specs.EditPlace.{IsEditPlace, Changes, sets, clears, enters}
 use Rattle.mp_merge.specs.Outcome.{left_by}
 use Rattle.mp_merge.proofs.Exchange.{object_above}
 use Rattle.mp_merge.proofs.Looks.{same_look}
 use Rattle.mp_merge.proofs.Outcomes.{says-below_plain}
 use Rattle.mp_merge.proofs.Places.{MapsAbove, to_maps_above, from_maps_above, nothing_below, Gap, maps_or_gap}
-use Rattle.mp_merge.proofs.Says.{says, or_else, left_of, look-mp, says-has, Reach, has, below, alone, reach}
+use Rattle.mp_merge.proofs.Says.{says, or_else, left_of, look-merge_patch, says-has, Reach, has, below, alone, reach}
 
 -- both have maps above, the patch has something there, and leaves another look than the document's
 pub record Differs (d p : Document) (w : Path) : Type 0 where
@@ -131,8 +131,8 @@ left_by-no_map (string s) (n ∷ w) e = cc
 left_by-no_map (list ds) (n ∷ w) e = cc
 left_by-no_map (object ms) (n ∷ w) e = cc
 
-pub stays_without_edit : (d p : Document) → IsDocument d → IsDocument p → (w : Path) → NoEditTo d p w → look (mp (Some d) p) w ≡ look d w
-stays_without_edit d p good patch w none = look-mp (Some d) p w good patch ∙ by (reach p w)
+pub stays_without_edit : (d p : Document) → IsDocument d → IsDocument p → (w : Path) → NoEditTo d p w → look (merge_patch (Some d) p) w ≡ look d w
+stays_without_edit d p good patch w none = look-merge_patch (Some d) p w good patch ∙ by (reach p w)
   where
     by : Reach (Some p) w (says p w) → or_else (says p w) (look d w) ≡ look d w
     by (has here) = ap (λ s. or_else s (look d w)) (says-has p w here) ∙ sym (looks_as_left d p w here none)
@@ -144,10 +144,10 @@ stays_without_edit d p good patch w none = look-mp (Some d) p w good patch ∙ b
     by (alone quiet) = ap (λ s. or_else s (look d w)) quiet
 
 -- at an edit place the application leaves another look
-pub look-left : (d p : Document) → IsDocument d → IsDocument p → (w : Path) → look p w ≢ nothing → look (mp (Some d) p) w ≡ left_of (look p w) w
-look-left d p good patch w speaks = look-mp (Some d) p w good patch ∙ ap (λ s. or_else s (look d w)) (says-has p w speaks)
+pub look-left : (d p : Document) → IsDocument d → IsDocument p → (w : Path) → look p w ≢ nothing → look (merge_patch (Some d) p) w ≡ left_of (look p w) w
+look-left d p good patch w speaks = look-merge_patch (Some d) p w good patch ∙ ap (λ s. or_else s (look d w)) (says-has p w speaks)
 
-pub no_edit_if_same : (d p : Document) → IsDocument d → IsDocument p → mp (Some d) p ≡ d → (w : Path) → ¬ IsEditPlace d p w
+pub no_edit_if_same : (d p : Document) → IsDocument d → IsDocument p → merge_patch (Some d) p ≡ d → (w : Path) → ¬ IsEditPlace d p w
 no_edit_if_same d p good patch same w place =
     let here = differs_at_edit d p w place in
     here.differs (ap (λ e. look e w) (sym same) ∙ look-left d p good patch w here.speaks)

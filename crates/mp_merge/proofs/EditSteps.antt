@@ -9,7 +9,7 @@ use Rattle.mp_patch.specs.Refusal.{HasNoPlace, LacksPlace}
 use Rattle.mp_patch.specs.Run.{IsRefused}
 use Rattle.mp_patch.proofs.Facts.{unrefused}
 use Rattle.mp_merge.specs.Application.{target_members}
-use Rattle.mp_merge.specs.Rewriting.{leaving}
+use Rattle.mp_merge.specs.Rewriting.{edit_to}
 use Rattle.mp_merge.proofs.Edits.{with_name, with_at, at_path-with_at, maps-with_at, made, made_is, differ_at, with_at-push}
 use Rattle.mp_merge.proofs.Places.{MapsAbove, at_path, at_path-push, look-end, to_maps_above, from_maps_above, part-at_path}
 
@@ -145,11 +145,11 @@ module _ (x : Document) (w : Path) where
       )
 
   -- the operation that leaves it there
-  pub leaves : (v : Option Document) → Fits x w v → Leads x (leaving w (look x w) v) (made (with_at w v (Some x)))
+  pub leaves : (v : Option Document) → Fits x w v → Leads x (edit_to w (look x w) v) (made (with_at w v (Some x)))
   leaves None fits = removes fits
   leaves (Some v) fits = by (look x w) refl
     where
-      by : (l : Look) → look x w ≡ l → Leads x (leaving w l (Some v)) (made (with_at w (Some v) (Some x)))
+      by : (l : Look) → look x w ≡ l → Leads x (edit_to w l (Some v)) (made (with_at w (Some v) (Some x)))
       by nothing is = adds v fits is
       by an_object is = replaces v fits (λ none. let other = sym is ∙ none in cc)
       by (plain u) is = replaces v fits (λ none. let other = sym is ∙ none in cc)

@@ -3,13 +3,13 @@ use Rattle.std.proofs.Common.{◌≡◌, ◌≢◌, ℕ, List, [], ◌∷◌, �
 use Rattle.mp_tree.specs.Document.{Document, null, object, find, IsDocument}
 use Rattle.mp_tree.specs.Look.{Path, Look, nothing, an_object, plain, look_of, look}
 use Rattle.mp_tree.proofs.Facts.{equal_looks}
-use Rattle.mp_merge.specs.Application.{mp, in_turn}
+use Rattle.mp_merge.specs.Application.{merge_patch, in_turn}
 use Rattle.mp_merge.specs.Clash.{Clash, Compatible}
 use Rattle.mp_merge.specs.Laws.{Exchange}
-use Rattle.mp_merge.proofs.ApplicationLemmas.{IsDocument-mp}
+use Rattle.mp_merge.proofs.ApplicationLemmas.{IsDocument-merge_patch}
 use Rattle.mp_merge.proofs.ClashesByName.{clash-sym}
 use Rattle.mp_merge.proofs.Outcomes.{says-below_plain}
-use Rattle.mp_merge.proofs.Says.{says, or_else, left_of, look-mp, says-has, IsBelowPlain, Reach, has, below, alone, reach}
+use Rattle.mp_merge.proofs.Says.{says, or_else, left_of, look-merge_patch, says-has, IsBelowPlain, Reach, has, below, alone, reach}
 use Rattle.mp_merge.proofs.Unions.{same_where_both}
 
 -- ---- compatible patches do not disagree
@@ -62,10 +62,10 @@ mp_both d p q = in_turn d (p ∷ q ∷ [])
 
 look-mp_both : (d p q : Document) → IsDocument d → IsDocument p → IsDocument q → (w : Path) → look (mp_both d p q) w ≡ or_else (says q w) (or_else (says p w) (look d w))
 look-mp_both d p q good first second w =
-    look-mp (Some (mp (Some d) p)) q w (IsDocument-mp (Some d) p good first) second ∙ ap (or_else (says q w)) (look-mp (Some d) p w good first)
+    look-merge_patch (Some (merge_patch (Some d) p)) q w (IsDocument-merge_patch (Some d) p good first) second ∙ ap (or_else (says q w)) (look-merge_patch (Some d) p w good first)
 
 IsDocument-mp_both : (d p q : Document) → IsDocument d → IsDocument p → IsDocument q → IsDocument (mp_both d p q)
-IsDocument-mp_both d p q good first second = IsDocument-mp (Some (mp (Some d) p)) q (IsDocument-mp (Some d) p good first) second
+IsDocument-mp_both d p q good first second = IsDocument-merge_patch (Some (merge_patch (Some d) p)) q (IsDocument-merge_patch (Some d) p good first) second
 
 same_if_compatible : (d p q : Document) → IsDocument d → IsDocument p → IsDocument q → Compatible p q → mp_both d p q ≡ mp_both d q p
 same_if_compatible d p q good first second free =

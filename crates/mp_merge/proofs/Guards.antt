@@ -9,7 +9,7 @@ use Rattle.mp_patch.specs.Refusal.{RefusedBy}
 use Rattle.mp_patch.specs.Run.{IsRefused, Runs}
 use Rattle.mp_patch.specs.declared.fault.Cause.{Cause}
 use Rattle.mp_merge.specs.Laws.{GuardedList, RefusedGuardTells}
-use Rattle.mp_merge.specs.Rewriting.{edit, guard_of, guards, leaving, part_left}
+use Rattle.mp_merge.specs.Rewriting.{edit, guard_of, guards, edit_to, part_left}
 use Rattle.mp_merge.proofs.Elements.{Contains-nil, Contains-cases}
 
 -- ---- on the document itself
@@ -51,7 +51,7 @@ guarded_list d p x e operations w v is runs place here =
 no_test : (d p v : Document) (w u : Path) → edit d p w ≡ test u v → ⊥
 no_test d p v w u same = by (look d w) (part_left w (part p w)) same
   where
-    by : (l : Look) (o : Option Document) → leaving w l o ≡ test u v → ⊥
+    by : (l : Look) (o : Option Document) → edit_to w l o ≡ test u v → ⊥
     by l None same = cc
     by nothing (Some x) same = cc
     by an_object (Some x) same = cc

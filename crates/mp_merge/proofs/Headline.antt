@@ -5,17 +5,17 @@ use Rattle.std.specs.List.{All, Contains}
 use Rattle.mp_tree.specs.Document.{Document, IsDocument, depth, depth_limit}
 use Rattle.mp_patch.specs.Operation.{Operation}
 use Rattle.mp_patch.proofs.Facts.{has_one_end, runs_unrefused}
-use Rattle.mp_merge.specs.Application.{mp, in_turn}
-use Rattle.mp_merge.specs.Headline.{Converge, LeadsTo, ReachesEnd, ReplicasConverge}
+use Rattle.mp_merge.specs.Application.{merge_patch, in_turn}
+use Rattle.mp_merge.specs.Convergence.{Converge, LeadsTo, ReachesEnd, ReplicasConverge}
 use Rattle.mp_merge.specs.Join.{IsJoin}
-use Rattle.mp_merge.specs.Laws.{HaveSameMembers}
-use Rattle.mp_merge.specs.Lists.{PairwiseCompatible, AreWithin, IsListFault, IsReplayFault}
+use Rattle.mp_merge.specs.Lists.{HaveSameMembers}
+use Rattle.mp_merge.specs.Lists.{PairwiseCompatible, AreWithin, IsJoinAllFault, IsReplayFault}
 use Rattle.mp_merge.specs.Outcome.{IsOutcome}
 use Rattle.mp_merge.specs.Rewriting.{IsRewriting}
 use Rattle.mp_merge.specs.declared.fault.ListFault.{ListFault}
 use Rattle.mp_merge.specs.declared.fault.ListFault.TheVariants.{NoPatches, ConflictOf, OutOfMemory}
 use Rattle.mp_merge.proofs.AnyOrder.{rewriting_runs}
-use Rattle.mp_merge.proofs.ApplicationLemmas.{IsDocument-mp}
+use Rattle.mp_merge.proofs.ApplicationLemmas.{IsDocument-merge_patch}
 use Rattle.mp_merge.proofs.Elements.{Contains-nil, Contains-head}
 use Rattle.mp_merge.proofs.InTurn.{IsDocument-in_turn, applied_in_turn}
 use Rattle.mp_merge.proofs.Joins.{join_exists, join_is_no_deeper, join_of_same, one_join}
@@ -26,10 +26,10 @@ use Rattle.mp_merge.proofs.ToldPairs.{compatible_have_none}
 module _ (start : Document) (patches : List Document) (good : IsDocument start) (some : patches ≢ []) (all : All IsDocument patches) (free : PairwiseCompatible patches) (j : Document) (patch : IsDocument j)
     (joined : IsJoin patches j) where
   abbrev end : Document
-  end = mp (Some start) j
+  end = merge_patch (Some start) j
 
   end_is_document : IsDocument end
-  end_is_document = IsDocument-mp (Some start) j good patch
+  end_is_document = IsDocument-merge_patch (Some start) j good patch
 
   module _ (received : List Document) (same : HaveSameMembers patches received) where
     -- what a replica received is patches too, at least one, and pairwise compatible
@@ -43,7 +43,7 @@ module _ (start : Document) (patches : List Document) (good : IsDocument start) 
     received_some [] is none = some is
     received_some (p ∷ ps) is none = Contains-nil p (subst (λ (rs : List Document). Contains rs p) none ((same p).0 (subst (λ (rs : List Document). Contains rs p) (sym is) (Contains-head p ps))))
 
-    joins : (fault : ListFault) → IsListFault fault received → fault ≡ OutOfMemory
+    joins : (fault : ListFault) → IsJoinAllFault fault received → fault ≡ OutOfMemory
     joins NoPatches none = absurd (received_some patches refl none)
     joins (ConflictOf first second places) told = absurd (compatible_have_none received first second places.items told received_compatible)
     joins OutOfMemory is = refl

@@ -5,12 +5,13 @@ use Rattle.std.specs.List.{All, Contains}
 use Rattle.mp_tree.specs.Document.{Document, null, flag, whole, string, list, object, Members, member, is_name, find, put, IsDocument, IsMap, IsBelow}
 use Rattle.mp_tree.specs.Look.{Path, nothing, an_object, plain, look, look_of}
 use Rattle.mp_tree.proofs.Facts.{IsDocument-find, cases_same, find-below, find-put, is_name-self, members_same}
-use Rattle.mp_merge.specs.Application.{after_patch, changed, in_turn, mp, mp_members, target_members, unless_null}
-use Rattle.mp_merge.specs.Laws.{AppliedOnce, HaveSameMembers, MergesIntoNull, TriesResume}
+use Rattle.mp_merge.specs.Application.{after_patch, set_or_remove, in_turn, merge_patch, merge_patch_members, target_members, unless_null}
+use Rattle.mp_merge.specs.Laws.{AppliedOnce, MergesIntoNull, TriesResume}
+use Rattle.mp_merge.specs.Lists.{HaveSameMembers}
 use Rattle.mp_merge.specs.Lists.{PairwiseCompatible}
 use Rattle.mp_merge.specs.Private.Merging.{NeedsNoneAt, NeedsNoneIn, ResumesAt}
 use Rattle.mp_merge.specs.Resumption.{NeedsNoMemory}
-use Rattle.mp_merge.proofs.ApplicationLemmas.{IsDocument-mp, IsMap-mp_members, find-changed, find-mp_members}
+use Rattle.mp_merge.proofs.ApplicationLemmas.{IsDocument-merge_patch, IsMap-merge_patch_members, find-set_or_remove, find-merge_patch_members}
 use Rattle.mp_merge.proofs.ClashesByName.{compatible-self}
 use Rattle.mp_merge.proofs.Elements.{Contains-head, Contains-tail, Contains-cases, Contains-one}
 use Rattle.mp_merge.proofs.InTurn.{applied_in_turn}
@@ -37,15 +38,15 @@ applied_once d p good patch =
     let all : (q r : Document) → Contains (p ∷ p ∷ []) q → Contains (p ∷ p ∷ []) r → q ≡ r = λ q r one two. sym (twice_once p q one) ∙ twice_once p r two in
     let free : PairwiseCompatible (p ∷ p ∷ []) = λ q r one two. compatible-self q r (all q r one two) in
     let documents : All IsDocument (p ∷ p ∷ []) = All-weaker (Contains (p ∷ p ∷ [])) IsDocument (λ q at. subst IsDocument (twice_once p q at) patch) (p ∷ p ∷ []) (All-contains_itself (p ∷ p ∷ [])) in
-    replicas_agree d (p ∷ p ∷ []) (p ∷ []) (in_turn d (p ∷ p ∷ [])) (mp (Some d) p) (same_twice p) (IsDocument-mp (Some (mp (Some d) p)) p (IsDocument-mp (Some d) p good patch) patch) (IsDocument-mp (Some d) p good patch)
+    replicas_agree d (p ∷ p ∷ []) (p ∷ []) (in_turn d (p ∷ p ∷ [])) (merge_patch (Some d) p) (same_twice p) (IsDocument-merge_patch (Some (merge_patch (Some d) p)) p (IsDocument-merge_patch (Some d) p good patch) patch) (IsDocument-merge_patch (Some d) p good patch)
     (applied_in_turn d (p ∷ p ∷ []) good documents free) (application_is_outcome d p good patch)
 
-mp_twice : (t : Option Document) (p : Document) → IfSome t IsDocument → IsDocument p → mp (Some (mp t p)) p ≡ mp t p
-mp_twice None p target good = ap (λ d. mp (Some d) p) (sym (merges_into_null p)) ∙ applied_once null p tt good ∙ merges_into_null p
+mp_twice : (t : Option Document) (p : Document) → IfSome t IsDocument → IsDocument p → merge_patch (Some (merge_patch t p)) p ≡ merge_patch t p
+mp_twice None p target good = ap (λ d. merge_patch (Some d) p) (sym (merges_into_null p)) ∙ applied_once null p tt good ∙ merges_into_null p
 mp_twice (Some d) p target good = applied_once d p target good
 
 -- what one name has after a change is changed no more
-changed_once : (t : Option Document) (p : Document) → IfSome t IsDocument → IsDocument p → mp (unless_null p (mp t p)) p ≡ mp t p
+changed_once : (t : Option Document) (p : Document) → IfSome t IsDocument → IsDocument p → merge_patch (unless_null p (merge_patch t p)) p ≡ merge_patch t p
 changed_once t null target good = refl
 changed_once t (flag b) target good = refl
 changed_once t (whole z) target good = refl
@@ -59,33 +60,33 @@ tries_resume d p (e ∷ rest) tries = tries_resume e p rest tries.1 ∙ tries.0
 
 -- ---- one name
 
-pub changed_resumes : (n : List ℕ) (p : Document) (ts : Members) → IsMap ts → IsDocument p → ResumesAt n p ts (changed n p (mp (find n ts) p) ts)
+pub changed_resumes : (n : List ℕ) (p : Document) (ts : Members) → IsMap ts → IsDocument p → ResumesAt n p ts (set_or_remove n p (merge_patch (find n ts) p) ts)
 changed_resumes n p ts map good = record {
-  others = λ m other. find-changed m n p (mp (find n ts) p) ts map ∙ ap (λ b. cond b (unless_null p (mp (find n ts) p)) (find m ts)) other;
-  here = ap (λ t. mp t p) (find-changed n n p (mp (find n ts) p) ts map ∙ ap (λ b. cond b (unless_null p (mp (find n ts) p)) (find n ts)) (is_name-self n)) ∙ changed_once (find n ts) p (IsDocument-find n ts map) good;
+  others = λ m other. find-set_or_remove m n p (merge_patch (find n ts) p) ts map ∙ ap (λ b. cond b (unless_null p (merge_patch (find n ts) p)) (find m ts)) other;
+  here = ap (λ t. merge_patch t p) (find-set_or_remove n n p (merge_patch (find n ts) p) ts map ∙ ap (λ b. cond b (unless_null p (merge_patch (find n ts) p)) (find n ts)) (is_name-self n)) ∙ changed_once (find n ts) p (IsDocument-find n ts map) good;
 }
 
 -- so it is where the value at the name is another one from which the patch's value gives the same
-pub set_resumes : (n : List ℕ) (p d : Document) (ts us : Members) → us ≡ put n d ts → mp (Some d) p ≡ mp (find n ts) p → ResumesAt n p ts us
+pub set_resumes : (n : List ℕ) (p d : Document) (ts us : Members) → us ≡ put n d ts → merge_patch (Some d) p ≡ merge_patch (find n ts) p → ResumesAt n p ts us
 set_resumes n p d ts us is same = record {
   others = λ m other. ap (find m) is ∙ find-put m n d ts ∙ ap (λ b. cond b (Some d) (find m ts)) other;
-  here = ap (λ o. mp o p) (ap (find n) is ∙ find-put n n d ts ∙ ap (λ b. cond b (Some d) (find n ts)) (is_name-self n)) ∙ same;
+  here = ap (λ o. merge_patch o p) (ap (find n) is ∙ find-put n n d ts ∙ ap (λ b. cond b (Some d) (find n ts)) (is_name-self n)) ∙ same;
 }
 
 -- so applying all of the patch gives the same as before
-pub resumes_all : (ts us ps : Members) (n : List ℕ) (p : Document) → IsMap ts → IsMap us → IsMap ps → find n ps ≡ Some p → ResumesAt n p ts us → mp_members us ps ≡ mp_members ts ps
-resumes_all ts us ps n p map now good carried resumes = members_same (mp_members us ps) (mp_members ts ps) (IsMap-mp_members us ps now good) (IsMap-mp_members ts ps map good) at_name
+pub resumes_all : (ts us ps : Members) (n : List ℕ) (p : Document) → IsMap ts → IsMap us → IsMap ps → find n ps ≡ Some p → ResumesAt n p ts us → merge_patch_members us ps ≡ merge_patch_members ts ps
+resumes_all ts us ps n p map now good carried resumes = members_same (merge_patch_members us ps) (merge_patch_members ts ps) (IsMap-merge_patch_members us ps now good) (IsMap-merge_patch_members ts ps map good) at_name
   where
     here : after_patch (find n us) (find n ps) ≡ after_patch (find n ts) (find n ps)
     here = ap (after_patch (find n us)) carried ∙ ap (unless_null p) resumes.here ∙ sym (ap (after_patch (find n ts)) carried)
 
-    at_name : (q : List ℕ) → find q (mp_members us ps) ≡ find q (mp_members ts ps)
+    at_name : (q : List ℕ) → find q (merge_patch_members us ps) ≡ find q (merge_patch_members ts ps)
     at_name q =
-        find-mp_members us ps now good q
+        find-merge_patch_members us ps now good q
         ∙ cases_same q n
         (λ same. subst (λ k. after_patch (find k us) (find k ps) ≡ after_patch (find k ts) (find k ps)) (sym same) here)
         (λ other. ap (λ t. after_patch t (find q ps)) (resumes.others q other))
-        ∙ sym (find-mp_members ts ps map good q)
+        ∙ sym (find-merge_patch_members ts ps map good q)
 
 -- ---- the names that are left
 

@@ -9,8 +9,8 @@ use Rattle.mp_tree.proofs.Facts.{is_here, find-below, cases_same, is_name-self}
 use Rattle.mp_pointer.specs.Part.{part}
 use Rattle.mp_patch.specs.Operation.{Operation}
 use Rattle.mp_merge.specs.Clash.{path_cmp}
-use Rattle.mp_merge.specs.Private.Edits.{Guarded, IsOneEdit, NotBothMaps, AreEdits, AreMemberEdits}
-use Rattle.mp_merge.specs.Rewriting.{guard_of, guards, part_left, leaving, edit, IsRewriting}
+use Rattle.mp_merge.specs.Private.Edits.{GuardedEdit, IsOneEdit, NotBothMaps, AreEdits, AreMemberEdits}
+use Rattle.mp_merge.specs.Rewriting.{guard_of, guards, part_left, edit_to, edit, IsRewriting}
 use Rattle.mp_merge.proofs.ClashesByName.{same_plain}
 use Rattle.mp_merge.proofs.EditPlaces.{differs_at_edit, edit_where_differs, left_by-no_map}
 use Rattle.mp_merge.proofs.Elements.{Contains-nil, Contains-head, Contains-tail, Contains-one}
@@ -25,10 +25,10 @@ record DiffersAt (s : Path) (t p : Option Document) (w : Path) : Type 0 where
   speaks : look_of p w ≢ nothing
   differs : look_of t w ≢ left_of (look_of p w) (s ++ w)
 
-abbrev edit_at : Path → Option Document → Option Document → Path → Guarded
-edit_at s t p w = (guard_of (s ++ w) (at_path t w), leaving (s ++ w) (look_of t w) (part_left (s ++ w) (at_path p w)))
+abbrev edit_at : Path → Option Document → Option Document → Path → GuardedEdit
+edit_at s t p w = (guard_of (s ++ w) (at_path t w), edit_to (s ++ w) (look_of t w) (part_left (s ++ w) (at_path p w)))
 
-record Listing (s : Path) (t p : Option Document) (operations : List Guarded) : Type 0 where
+record Listing (s : Path) (t p : Option Document) (operations : List GuardedEdit) : Type 0 where
   places : List Path
   rising : IsStrictlySortedBy path_cmp places
   all : (w : Path) → Contains places w ↔ DiffersAt s t p w
@@ -70,7 +70,7 @@ at_root_alone : (s : Path) (p : Document) (t : Option Document) (w : Path) → N
 at_root_alone s p t [] other here = refl
 at_root_alone s p t (n ∷ w) other here = absurd (other here.patch_maps.0 here.maps.0)
 
-one_listing : (s : Path) (p : Document) (t : Option Document) (operations : List Guarded) → NotBothMaps p t → IsOneEdit s p t operations → Listing s t (Some p) operations
+one_listing : (s : Path) (p : Document) (t : Option Document) (operations : List GuardedEdit) → NotBothMaps p t → IsOneEdit s p t operations → Listing s t (Some p) operations
 unfolding IsStrictlySortedBy
 one_listing s p t operations other (inl (there, none)) = record {
   places = [];
@@ -87,7 +87,7 @@ one_listing s p t operations other (inr (open_yet, one)) = record {
   places = [] ∷ [];
   rising = (tt, tt);
   all = λ w. (λ at. subst (DiffersAt s t (Some p)) (Contains-one [] w at) at_root, λ here. subst (Contains ([] ∷ [])) (sym (at_root_alone s p t w other here)) (Contains-head [] []));
-  edits = one ∙ ap (λ u. (guard_of u t, leaving u (look_of t []) (part_left u (Some p))) ∷ []) (sym (append-nil s));
+  edits = one ∙ ap (λ u. (guard_of u t, edit_to u (look_of t []) (part_left u (Some p))) ∷ []) (sym (append-nil s));
 }
   where
     at_root : DiffersAt s t (Some p) []
@@ -121,7 +121,7 @@ module _ (s : Path) (ds : Members) where
   }
 
   edit_under : (k : List ℕ) (w : Path) (qs : Members) → edit_at s (Some (object ds)) (Some (object qs)) (k ∷ w) ≡ edit_at (s ++ k ∷ []) (find k ds) (find k qs) w
-  edit_under k w qs = ap (λ u. (guard_of u (at_path (find k ds) w), leaving u (look_of (find k ds) w) (part_left u (at_path (find k qs) w)))) (sym (append_assoc s (k ∷ []) w))
+  edit_under k w qs = ap (λ u. (guard_of u (at_path (find k ds) w), edit_to u (look_of (find k ds) w) (part_left u (at_path (find k qs) w)))) (sym (append_assoc s (k ∷ []) w))
 
   carried_over : (k : List ℕ) (w : Path) (qs ps : Members) → find k qs ≡ find k ps → Under qs (k ∷ w) → Under ps (k ∷ w)
   carried_over k w qs ps same here = under_name k w ps (subst (λ o. DiffersAt (s ++ k ∷ []) (find k ds) o w) same (inside_name k w qs here))
@@ -138,7 +138,7 @@ map-same f g (w ∷ ws) same = ap₂ (λ x xs. x ∷ xs) (same w (Contains-head 
 
 -- ---- the edits under the first name, and those under the others
 
-module _ (s : Path) (ds : Members) (n : List ℕ) (p : Document) (ps : Members) (below : IsBelow n ps) (first rest : List Guarded)
+module _ (s : Path) (ds : Members) (n : List ℕ) (p : Document) (ps : Members) (below : IsBelow n ps) (first rest : List GuardedEdit)
     (one : Listing (s ++ n ∷ []) (find n ds) (Some p) first) (others : Listing s (Some (object ds)) (Some (object ps)) rest) where
   abbrev whole_map : Members
   whole_map = member n p ps
@@ -190,10 +190,10 @@ module _ (s : Path) (ds : Members) (n : List ℕ) (p : Document) (ps : Members) 
   same_edit w at =
       let k = among_others w ((others.all w).0 at) in
       ap (edit_at s (Some (object ds)) (Some (object whole_map))) k.2
-      ∙ ap (λ o. (guard_of (s ++ k.0 ∷ k.1) (at_path (find k.0 ds) k.1), leaving (s ++ k.0 ∷ k.1) (look_of (find k.0 ds) k.1) (part_left (s ++ k.0 ∷ k.1) (at_path o k.1)))) k.4
+      ∙ ap (λ o. (guard_of (s ++ k.0 ∷ k.1) (at_path (find k.0 ds) k.1), edit_to (s ++ k.0 ∷ k.1) (look_of (find k.0 ds) k.1) (part_left (s ++ k.0 ∷ k.1) (at_path o k.1)))) k.4
       ∙ ap (edit_at s (Some (object ds)) (Some (object ps))) (sym k.2)
 
-  both_listings : (operations : List Guarded) → operations ≡ first ++ rest → Listing s (Some (object ds)) (Some (object whole_map)) operations
+  both_listings : (operations : List GuardedEdit) → operations ≡ first ++ rest → Listing s (Some (object ds)) (Some (object whole_map)) operations
   both_listings operations is =
       let e = edit_at s (Some (object ds)) (Some (object whole_map)) in
       let under = map-under n e (edit_at (s ++ n ∷ []) (find n ds) (Some p)) (λ w. edit_under s ds n w whole_map ∙ ap (λ o. edit_at (s ++ n ∷ []) (find n ds) o w) first_is) one.places in
@@ -207,7 +207,7 @@ module _ (s : Path) (ds : Members) (n : List ℕ) (p : Document) (ps : Members) 
 
 -- ---- all edits
 
-no_member_edits : (s : Path) (ds : Members) (operations : List Guarded) → operations ≡ [] → Listing s (Some (object ds)) (Some (object no_members)) operations
+no_member_edits : (s : Path) (ds : Members) (operations : List GuardedEdit) → operations ≡ [] → Listing s (Some (object ds)) (Some (object no_members)) operations
 unfolding IsStrictlySortedBy
 no_member_edits s ds operations none = record {
   places = [];
@@ -221,35 +221,35 @@ no_member_edits s ds operations none = record {
     never (n ∷ w) here = here.speaks refl
 
 mutual
-  listing : (p : Document) (s : Path) (t : Option Document) (operations : List Guarded) → IsDocument p → AreEdits s p t operations → Listing s t (Some p) operations
+  listing : (p : Document) (s : Path) (t : Option Document) (operations : List GuardedEdit) → IsDocument p → AreEdits s p t operations → Listing s t (Some p) operations
   listing (object ps) s (Some (object ds)) operations good edits = member_listing ps s ds operations good edits
   listing p s t operations good edits = one_listing s p t operations (λ one two. cc) edits
 
-  member_listing : (ps : Members) (s : Path) (ds : Members) (operations : List Guarded) → IsMap ps → AreMemberEdits s ps ds operations → Listing s (Some (object ds)) (Some (object ps)) operations
+  member_listing : (ps : Members) (s : Path) (ds : Members) (operations : List GuardedEdit) → IsMap ps → AreMemberEdits s ps ds operations → Listing s (Some (object ds)) (Some (object ps)) operations
   member_listing no_members s ds operations good none = no_member_edits s ds operations none
   member_listing (member n p ps) s ds operations good (first, rest, is, here, later) =
       both_listings s ds n p ps good.1 first rest (listing p (s ++ n ∷ []) (find n ds) first good.0 here) (member_listing ps s ds rest good.2 later) operations is
 
 -- the guards and the edits of what was found at the places
 module _ (d p : Document) where
-  abbrev guarded_at : Path → Guarded
+  abbrev guarded_at : Path → GuardedEdit
   guarded_at w = (guard_of w (part d w), edit d p w)
 
-  guards_found : (ws : List Path) → flat_map (λ (g : Guarded). g.0) (map guarded_at ws) ≡ guards d ws
+  guards_found : (ws : List Path) → flat_map (λ (g : GuardedEdit). g.0) (map guarded_at ws) ≡ guards d ws
   guards_found [] = refl
   guards_found (w ∷ ws) = ap (λ os. guard_of w (part d w) ++ os) (guards_found ws)
 
-  edits_found : (ws : List Path) → map (λ (g : Guarded). g.1) (map guarded_at ws) ≡ map (edit d p) ws
+  edits_found : (ws : List Path) → map (λ (g : GuardedEdit). g.1) (map guarded_at ws) ≡ map (edit d p) ws
   edits_found [] = refl
   edits_found (w ∷ ws) = ap (λ os. edit d p w ∷ os) (edits_found ws)
 
-pub walk_is_rewriting : (d p : Document) (found : List Guarded) (operations : List Operation) → IsDocument p → AreEdits [] p (Some d) found
-    → operations ≡ flat_map (λ (g : Guarded). g.0) found ++ map (λ (g : Guarded). g.1) found → IsRewriting d p operations
+pub walk_is_rewriting : (d p : Document) (found : List GuardedEdit) (operations : List Operation) → IsDocument p → AreEdits [] p (Some d) found
+    → operations ≡ flat_map (λ (g : GuardedEdit). g.0) found ++ map (λ (g : GuardedEdit). g.1) found → IsRewriting d p operations
 walk_is_rewriting d p found operations good edits is =
     let all = listing p [] (Some d) found good edits in
     let found_is : found ≡ map (guarded_at d p) all.places = all.edits ∙ map-same (edit_at [] (Some d) (Some p)) (guarded_at d p) all.places (λ w at.
     let here = (all.all w).0 at in
-    ap (λ o. (guard_of w (at_path (Some d) w), leaving w (look d w) (part_left w o))) (sym (part-at_path w p here.patch_maps)) ∙ ap (λ o. (guard_of w o, edit d p w)) (sym (part-at_path w d here.maps))) in
+    ap (λ o. (guard_of w (at_path (Some d) w), edit_to w (look d w) (part_left w o))) (sym (part-at_path w p here.patch_maps)) ∙ ap (λ o. (guard_of w o, edit d p w)) (sym (part-at_path w d here.maps))) in
     record {
       places = all.places;
       rising = all.rising;
@@ -257,6 +257,6 @@ walk_is_rewriting d p found operations good edits is =
         λ at. let here = (all.all w).0 at in edit_where_differs d p w (record { maps = here.maps; patch_maps = here.patch_maps; speaks = here.speaks; differs = here.differs }),
         λ place. let here = differs_at_edit d p w place in (all.all w).1 (record { maps = here.maps; patch_maps = here.patch_maps; speaks = here.speaks; differs = here.differs }),
       );
-      guarded = is ∙ ap (λ (gs : List Guarded). flat_map (λ (g : Guarded). g.0) gs ++ map (λ (g : Guarded). g.1) gs) found_is
+      guarded = is ∙ ap (λ (gs : List GuardedEdit). flat_map (λ (g : GuardedEdit). g.0) gs ++ map (λ (g : GuardedEdit). g.1) gs) found_is
           ∙ ap₂ (λ (xs ys : List Operation). xs ++ ys) (guards_found d p all.places) (edits_found d p all.places);
     }

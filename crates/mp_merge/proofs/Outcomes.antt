@@ -4,14 +4,15 @@ use Rattle.std.specs.List.{Contains}
 use Rattle.mp_tree.specs.Document.{Document}
 use Rattle.mp_tree.specs.Look.{Path, Look, nothing, an_object, plain, look}
 use Rattle.mp_tree.proofs.Facts.{equal_looks}
-use Rattle.mp_merge.specs.Application.{mp}
+use Rattle.mp_merge.specs.Application.{merge_patch}
 use Rattle.mp_merge.specs.Join.{IsJoin}
-use Rattle.mp_merge.specs.Laws.{ApplicationIsOutcome, HasOneOutcome, HaveSameMembers, ReplicasAgree, JoinGivesOutcome}
+use Rattle.mp_merge.specs.Laws.{ApplicationIsOutcome, HasOneOutcome, ReplicasAgree, JoinGivesOutcome}
+use Rattle.mp_merge.specs.Lists.{HaveSameMembers}
 use Rattle.mp_merge.specs.Outcome.{left_by, LeavesAlone, IsOutcome}
 use Rattle.mp_merge.proofs.Elements.{Contains-head, Contains-one, some_or_all}
 use Rattle.mp_merge.proofs.Joins.{from_join}
 use Rattle.mp_merge.proofs.Looks.{nothing_or}
-use Rattle.mp_merge.proofs.Says.{says, or_else, left_of, look-mp, says-has, says-below, IsBelowPlain, Reach, has, below, alone, reach}
+use Rattle.mp_merge.proofs.Says.{says, or_else, left_of, look-merge_patch, says-has, says-below, IsBelowPlain, Reach, has, below, alone, reach}
 
 says-plain : (p : Document) (w : Path) (v : Document) → look p w ≡ plain v → says p w ≡ Some (left_by v w)
 says-plain p w v is = says-has p w (λ none. let differ = sym is ∙ none in cc) ∙ ap (λ l. Some (left_of l w)) is
@@ -77,9 +78,9 @@ follows_from_outcome d patches e outcome = record {
 -- ---- laws of outcomes
 
 pub application_is_outcome : ApplicationIsOutcome
-application_is_outcome d p good patch = outcome_from_follows d (p ∷ []) (mp (Some d) p) (record {
-  told = λ q at w l is. look-mp (Some d) p w good patch ∙ ap (λ s. or_else s (look d w)) (ap (λ x. says x w) (Contains-one p q at) ∙ is);
-  kept = λ w quiet. look-mp (Some d) p w good patch ∙ ap (λ s. or_else s (look d w)) (quiet p (Contains-head p []));
+application_is_outcome d p good patch = outcome_from_follows d (p ∷ []) (merge_patch (Some d) p) (record {
+  told = λ q at w l is. look-merge_patch (Some d) p w good patch ∙ ap (λ s. or_else s (look d w)) (ap (λ x. says x w) (Contains-one p q at) ∙ is);
+  kept = λ w quiet. look-merge_patch (Some d) p w good patch ∙ ap (λ s. or_else s (look d w)) (quiet p (Contains-head p []));
 })
 
 abbrev Tells : Path → Document → Type 0
@@ -137,7 +138,7 @@ quiet_join patches j joined w quiet = by (reach j w)
     by (alone is) = is
 
 pub join_gives_outcome : JoinGivesOutcome
-join_gives_outcome d patches j good whole joined = outcome_from_follows d patches (mp (Some d) j) (record {
-  told = λ p at w l is. look-mp (Some d) j w good whole ∙ ap (λ s. or_else s (look d w)) (says-join patches j joined p at w l is);
-  kept = λ w quiet. look-mp (Some d) j w good whole ∙ ap (λ s. or_else s (look d w)) (quiet_join patches j joined w quiet);
+join_gives_outcome d patches j good whole joined = outcome_from_follows d patches (merge_patch (Some d) j) (record {
+  told = λ p at w l is. look-merge_patch (Some d) j w good whole ∙ ap (λ s. or_else s (look d w)) (says-join patches j joined p at w l is);
+  kept = λ w quiet. look-merge_patch (Some d) j w good whole ∙ ap (λ s. or_else s (look d w)) (quiet_join patches j joined w quiet);
 })

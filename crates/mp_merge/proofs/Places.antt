@@ -6,8 +6,8 @@ use Rattle.mp_tree.specs.Look.{Path, nothing, an_object, look_of}
 use Rattle.mp_tree.proofs.Facts.{IsDocument-find}
 use Rattle.mp_pointer.specs.Part.{part}
 use Rattle.mp_pointer.proofs.Facts.{child-object}
-use Rattle.mp_merge.specs.Application.{target_members, mp, after_patch}
-use Rattle.mp_merge.proofs.ApplicationLemmas.{find-mp_members, IsMap-target_members}
+use Rattle.mp_merge.specs.Application.{target_members, merge_patch, after_patch}
+use Rattle.mp_merge.proofs.ApplicationLemmas.{find-merge_patch_members, IsMap-target_members}
 use Rattle.mp_merge.proofs.Exchange.{object_above}
 use Rattle.mp_merge.proofs.Looks.{nothing_or}
 
@@ -115,14 +115,14 @@ at_path-after [] t p target good above = refl
 at_path-after (n ∷ w) t None target good above = let never = above.0 in absurd (cc)
 at_path-after (n ∷ w) t (Some (object ps)) target good above =
     let targets = IsMap-target_members t target in
-    ap (λ o. at_path o w) (find-mp_members (target_members t) ps targets good n)
+    ap (λ o. at_path o w) (find-merge_patch_members (target_members t) ps targets good n)
     ∙ at_path-after w (find n (target_members t)) (find n ps) (IsDocument-find n (target_members t) targets) (IsDocument-find n ps good) above.1
 at_path-after (n ∷ w) t (Some p) target good above = let never = above.0 in absurd (cc)
 
-pub at_path-mp : (n : List ℕ) (w : Path) (t : Option Document) (p : Document) → IfSome t IsDocument → IsDocument p → MapsAbove (Some p) (n ∷ w)
-    → at_path (Some (mp t p)) (n ∷ w) ≡ after_patch (at_path t (n ∷ w)) (at_path (Some p) (n ∷ w))
-at_path-mp n w t (object ps) target good above = at_path-after (n ∷ w) t (Some (object ps)) target good above
-at_path-mp n w t p target good above = let never = above.0 in absurd (cc)
+pub at_path-merge_patch : (n : List ℕ) (w : Path) (t : Option Document) (p : Document) → IfSome t IsDocument → IsDocument p → MapsAbove (Some p) (n ∷ w)
+    → at_path (Some (merge_patch t p)) (n ∷ w) ≡ after_patch (at_path t (n ∷ w)) (at_path (Some p) (n ∷ w))
+at_path-merge_patch n w t (object ps) target good above = at_path-after (n ∷ w) t (Some (object ps)) target good above
+at_path-merge_patch n w t p target good above = let never = above.0 in absurd (cc)
 
 -- ---- two prefixes of one path
 

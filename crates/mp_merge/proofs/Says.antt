@@ -3,9 +3,9 @@ use Rattle.std.proofs.Common.{◌≡◌, ◌≢◌, ℕ, List, [], ◌∷◌, �
 use Rattle.mp_tree.specs.Document.{Document, null, flag, whole, string, list, object, Members, find, IsDocument, IsMap}
 use Rattle.mp_tree.specs.Look.{Path, Look, nothing, an_object, plain, look_here, look_of, look}
 use Rattle.mp_tree.proofs.Facts.{is_here, IsDocument-find}
-use Rattle.mp_merge.specs.Application.{target_members, mp, mp_members, after_patch}
+use Rattle.mp_merge.specs.Application.{target_members, merge_patch, merge_patch_members, after_patch}
 use Rattle.mp_merge.specs.Outcome.{left_by}
-use Rattle.mp_merge.proofs.ApplicationLemmas.{find-mp_members, IsMap-target_members}
+use Rattle.mp_merge.proofs.ApplicationLemmas.{find-merge_patch_members, IsMap-target_members}
 
 -- below the root a null removes
 abbrev said_here : Document → Look
@@ -55,11 +55,11 @@ look-target_members n w (Some t) = refl
 abbrev LooksAsSaid : Path → Type 0
 LooksAsSaid w = (t p : Option Document) → IfSome t IsDocument → IfSome p IsDocument → look_of (after_patch t p) w ≡ or_else (part_says p w) (look_of t w)
 
-look-mp_members : (n : List ℕ) (w : Path) (t : Option Document) (ps : Members) → IfSome t IsDocument → IsMap ps → LooksAsSaid w
-    → look_of (find n (mp_members (target_members t) ps)) w ≡ or_else (part_says (find n ps) w) (look_of t (n ∷ w))
-look-mp_members n w t ps target good later =
+look-merge_patch_members : (n : List ℕ) (w : Path) (t : Option Document) (ps : Members) → IfSome t IsDocument → IsMap ps → LooksAsSaid w
+    → look_of (find n (merge_patch_members (target_members t) ps)) w ≡ or_else (part_says (find n ps) w) (look_of t (n ∷ w))
+look-merge_patch_members n w t ps target good later =
     let targets = IsMap-target_members t target in
-    ap (λ o. look_of o w) (find-mp_members (target_members t) ps targets good n)
+    ap (λ o. look_of o w) (find-merge_patch_members (target_members t) ps targets good n)
     ∙ later (find n (target_members t)) (find n ps) (IsDocument-find n (target_members t) targets) (IsDocument-find n ps good)
     ∙ ap (or_else (part_says (find n ps) w)) (look-target_members n w t)
 
@@ -67,14 +67,14 @@ look-after_patch : (w : Path) → LooksAsSaid w
 look-after_patch w t None target good = refl
 look-after_patch [] t (Some (object ps)) target good = refl
 look-after_patch [] t (Some p) target good = refl
-look-after_patch (n ∷ w) t (Some (object ps)) target good = look-mp_members n w t ps target good (look-after_patch w)
+look-after_patch (n ∷ w) t (Some (object ps)) target good = look-merge_patch_members n w t ps target good (look-after_patch w)
 look-after_patch (n ∷ w) t (Some p) target good = sym (ap (λ s. or_else s (look_of t (n ∷ w))) (clears w))
 
-pub look-mp : (t : Option Document) (p : Document) (w : Path) → IfSome t IsDocument → IsDocument p → look (mp t p) w ≡ or_else (says p w) (look_of t w)
-look-mp t (object ps) [] target good = refl
-look-mp t (object ps) (n ∷ w) target good = look-mp_members n w t ps target good (look-after_patch w)
-look-mp t p [] target good = refl
-look-mp t p (n ∷ w) target good = sym (ap (λ s. or_else s (look_of t (n ∷ w))) (clears w))
+pub look-merge_patch : (t : Option Document) (p : Document) (w : Path) → IfSome t IsDocument → IsDocument p → look (merge_patch t p) w ≡ or_else (says p w) (look_of t w)
+look-merge_patch t (object ps) [] target good = refl
+look-merge_patch t (object ps) (n ∷ w) target good = look-merge_patch_members n w t ps target good (look-after_patch w)
+look-merge_patch t p [] target good = refl
+look-merge_patch t p (n ∷ w) target good = sym (ap (λ s. or_else s (look_of t (n ∷ w))) (clears w))
 
 -- ---- what a patch says where it has something
 

@@ -5,14 +5,14 @@ use Rattle.std.proofs.Math.Decide.{map_dec}
 use Rattle.mp_tree.specs.Document.{Document, null, flag, whole, string, list, object, Members, no_members, member, find, IsDocument}
 use Rattle.mp_tree.specs.Look.{Path, Look, nothing, an_object, plain, look, look_of}
 use Rattle.mp_pointer.specs.Part.{part}
-use Rattle.mp_patch.specs.Laws.{HasDocument, HaveDocuments}
+use Rattle.mp_patch.specs.Operation.{HasDocument, HaveDocuments}
 use Rattle.mp_patch.proofs.Facts.{part-document}
 use Rattle.mp_patch.specs.Operation.{Operation}
-use Rattle.mp_merge.specs.Private.Edits.{Guarded, IsOneEdit, AreEdits, AreMemberEdits}
+use Rattle.mp_merge.specs.Private.Edits.{GuardedEdit, IsOneEdit, AreEdits, AreMemberEdits}
 use Rattle.mp_merge.specs.Laws.{RewritingExists, RewritingHasDocuments}
-use Rattle.mp_merge.specs.Rewriting.{guard_of, guards, part_left, leaving, edit}
-use Rattle.mp_merge.specs.Application.{mp, unless_null}
-use Rattle.mp_merge.proofs.ApplicationLemmas.{IsDocument-mp}
+use Rattle.mp_merge.specs.Rewriting.{guard_of, guards, part_left, edit_to, edit}
+use Rattle.mp_merge.specs.Application.{merge_patch, unless_null}
+use Rattle.mp_merge.proofs.ApplicationLemmas.{IsDocument-merge_patch}
 use Rattle.mp_merge.proofs.Listings.{walk_is_rewriting}
 use Rattle.mp_tree.proofs.Facts.{decide_document}
 
@@ -22,18 +22,18 @@ decide_part None (Some e) = no (λ same. cc)
 decide_part (Some d) None = no (λ same. cc)
 decide_part (Some d) (Some e) = map_dec (ap Some) (λ same. cc) (decide_document d e)
 
-one_edit : (s : Path) (p : Document) (t : Option Document) → (found : List Guarded) × IsOneEdit s p t found
+one_edit : (s : Path) (p : Document) (t : Option Document) → (found : List GuardedEdit) × IsOneEdit s p t found
 one_edit s p t = elim (decide_part t (part_left s (Some p))) [
   | yes same ↦ ([], inl (same, refl))
-  | no other ↦ ((guard_of s t, leaving s (look_of t []) (part_left s (Some p))) ∷ [], inr (other, refl))
+  | no other ↦ ((guard_of s t, edit_to s (look_of t []) (part_left s (Some p))) ∷ [], inr (other, refl))
 ]
 
 mutual
-  some_edits : (p : Document) (s : Path) (t : Option Document) → (found : List Guarded) × AreEdits s p t found
+  some_edits : (p : Document) (s : Path) (t : Option Document) → (found : List GuardedEdit) × AreEdits s p t found
   some_edits (object ps) s (Some (object ds)) = some_member_edits ps s ds
   some_edits p s t = one_edit s p t
 
-  some_member_edits : (ps : Members) (s : Path) (ds : Members) → (found : List Guarded) × AreMemberEdits s ps ds found
+  some_member_edits : (ps : Members) (s : Path) (ds : Members) → (found : List GuardedEdit) × AreMemberEdits s ps ds found
   some_member_edits no_members s ds = ([], refl)
   some_member_edits (member n p ps) s ds =
       let first = some_edits p (s ++ n ∷ []) (find n ds) in
@@ -43,28 +43,28 @@ mutual
 pub rewriting_exists : RewritingExists
 rewriting_exists d p good =
     let edits = some_edits p [] (Some d) in
-    let operations = flat_map (λ (g : Guarded). g.0) edits.0 ++ map (λ (g : Guarded). g.1) edits.0 in
+    let operations = flat_map (λ (g : GuardedEdit). g.0) edits.0 ++ map (λ (g : GuardedEdit). g.1) edits.0 in
     (operations, walk_is_rewriting d p edits.0 operations good edits.1 refl)
 
 -- ---- its values
 
-HasDocument-leaving : (w : Path) (l : Look) (v : Option Document) → IfSome v IsDocument → HasDocument (leaving w l v)
-HasDocument-leaving w l None good = tt
-HasDocument-leaving w nothing (Some v) good = good
-HasDocument-leaving w an_object (Some v) good = good
-HasDocument-leaving w (plain x) (Some v) good = good
+HasDocument-edit_to : (w : Path) (l : Look) (v : Option Document) → IfSome v IsDocument → HasDocument (edit_to w l v)
+HasDocument-edit_to w l None good = tt
+HasDocument-edit_to w nothing (Some v) good = good
+HasDocument-edit_to w an_object (Some v) good = good
+HasDocument-edit_to w (plain x) (Some v) good = good
 
-IsDocument-unless_null : (q : Document) → IsDocument q → IfSome (unless_null q (mp None q)) IsDocument
+IsDocument-unless_null : (q : Document) → IsDocument q → IfSome (unless_null q (merge_patch None q)) IsDocument
 IsDocument-unless_null null good = tt
 IsDocument-unless_null (flag b) good = tt
 IsDocument-unless_null (whole z) good = tt
 IsDocument-unless_null (string s) good = tt
 IsDocument-unless_null (list ds) good = good
-IsDocument-unless_null (object ms) good = IsDocument-mp None (object ms) tt good
+IsDocument-unless_null (object ms) good = IsDocument-merge_patch None (object ms) tt good
 
 IsDocument-part_left : (w : Path) (q : Option Document) → IfSome q IsDocument → IfSome (part_left w q) IsDocument
 IsDocument-part_left w None good = tt
-IsDocument-part_left [] (Some q) good = IsDocument-mp None q tt good
+IsDocument-part_left [] (Some q) good = IsDocument-merge_patch None q tt good
 IsDocument-part_left (n ∷ w) (Some q) good = IsDocument-unless_null q good
 
 IsDocument-part : (p : Document) (w : Path) → IsDocument p → (q : Option Document) → part p w ≡ q → IfSome q IsDocument
@@ -74,7 +74,7 @@ IsDocument-part p w good (Some q) is = part-document w p q good is
 have_documents : (d p : Document) → IsDocument p → (places : List Path) → HaveDocuments (map (edit d p) places)
 have_documents d p good [] = tt
 have_documents d p good (w ∷ places) = (
-  HasDocument-leaving w (look d w) (part_left w (part p w)) (IsDocument-part_left w (part p w) (IsDocument-part p w good (part p w) refl)),
+  HasDocument-edit_to w (look d w) (part_left w (part p w)) (IsDocument-part_left w (part p w) (IsDocument-part p w good (part p w) refl)),
   have_documents d p good places,
 )
 

@@ -6,7 +6,7 @@ use Rattle.std.specs.List.{All, Contains}
 use Rattle.mp_tree.specs.Document.{Document, IsDocument}
 use Rattle.mp_tree.specs.Look.{Path, look}
 use Rattle.mp_merge.specs.Application.{in_turn}
-use Rattle.mp_merge.specs.Clash.{Compatible, AreConflicts}
+use Rattle.mp_merge.specs.Clash.{Compatible, AreConflictsOfPair}
 use Rattle.mp_merge.specs.Join.{IsJoin}
 use Rattle.mp_merge.specs.Laws.{CompatibleHaveNone, CompatibleOrTold, HasOneToldPair, OutcomeExists}
 use Rattle.mp_merge.specs.Lists.{PairwiseCompatible, CompatibleBelow, IsFreeBelow, IsClashBelow, IsToldPair}
@@ -49,8 +49,8 @@ module _ (patches : List Document) (second : ℕ) where
   same_places first places other_places one two =
       let at_one = same_at patches first two.one one.one two.at_first one.at_first in
       let at_other = same_at patches second two.other one.other two.at_second one.at_second in
-      let same : AreConflicts one.one one.other other_places =
-      subst (λ (q : Document). AreConflicts one.one q other_places) at_other (subst (λ (p : Document). AreConflicts p two.other other_places) at_one two.conflicts) in
+      let same : AreConflictsOfPair one.one one.other other_places =
+      subst (λ (q : Document). AreConflictsOfPair one.one q other_places) at_other (subst (λ (p : Document). AreConflictsOfPair p two.other other_places) at_one two.conflicts) in
       one_list one.one one.other places other_places one.conflicts.clashes same.clashes
 
 same_second : (patches : List Document) (first second other_first other_second : ℕ) (places other_places : List Path)
@@ -126,7 +126,7 @@ module _ (patches : List Document) (good : All IsDocument patches) where
 
   -- the first patch below number k that clashes with q
   abbrev ClashesBelow : ℕ → Document → Type 0
-  ClashesBelow k q = (first : ℕ) × (one : Document) × (places : List Path) × (first < k) × (slice_get patches first ≡ Some one) × AreConflicts one q places × CompatibleBelow patches first q
+  ClashesBelow k q = (first : ℕ) × (one : Document) × (places : List Path) × (first < k) × (slice_get patches first ≡ Some one) × AreConflictsOfPair one q places × CompatibleBelow patches first q
 
   free_or_clash : (q : Document) (k : ℕ) → CompatibleBelow patches k q ⊎ ClashesBelow k q
   free_or_clash q zero = inl (λ i p less. absurd (omega arith))

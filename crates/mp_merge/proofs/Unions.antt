@@ -8,7 +8,7 @@ use Rattle.mp_tree.proofs.Facts.{find-put, find-below, IsMap-put, members_same, 
 use Rattle.mp_merge.specs.Application.{target_members, depth_of}
 use Rattle.mp_merge.specs.Clash.{Compatible}
 use Rattle.mp_merge.specs.Join.{IsJoin}
-use Rattle.mp_merge.specs.Private.Unions.{kept, beside, united, union_members, union}
+use Rattle.mp_merge.specs.Private.Unions.{earlier_or, union_over, union_with, union_members, union}
 use Rattle.mp_merge.proofs.ApplicationLemmas.{IsMap-target_members}
 use Rattle.mp_merge.proofs.DepthLemmas.{depth-find, depth-put}
 use Rattle.mp_merge.proofs.Elements.{Contains-head, Contains-tail, Contains-cases, Contains-one}
@@ -16,67 +16,67 @@ use Rattle.mp_merge.proofs.Looks.{same_look}
 
 -- ---- the union is a document
 
-IsDocument-kept : (j : Option Document) (p : Document) → IfSome j IsDocument → IsDocument p → IsDocument (kept j p)
-IsDocument-kept None p joined good = good
-IsDocument-kept (Some j) p joined good = joined
+IsDocument-earlier_or : (j : Option Document) (p : Document) → IfSome j IsDocument → IsDocument p → IsDocument (earlier_or j p)
+IsDocument-earlier_or None p joined good = good
+IsDocument-earlier_or (Some j) p joined good = joined
 
-IsDocument-beside : (j : Option Document) (ps both : Members) → IfSome j IsDocument → IsMap ps → IsMap both → IsDocument (beside j ps both)
-IsDocument-beside None ps both joined good map = good
-IsDocument-beside (Some (object js)) ps both joined good map = map
-IsDocument-beside (Some j) ps both joined good map = joined
+IsDocument-union_over : (j : Option Document) (ps both : Members) → IfSome j IsDocument → IsMap ps → IsMap both → IsDocument (union_over j ps both)
+IsDocument-union_over None ps both joined good map = good
+IsDocument-union_over (Some (object js)) ps both joined good map = map
+IsDocument-union_over (Some j) ps both joined good map = joined
 
 mutual
-  pub IsDocument-united : (p : Document) (j : Option Document) → IsDocument p → IfSome j IsDocument → IsDocument (united p j)
-  IsDocument-united (object ps) j good joined =
-      IsDocument-beside j ps (union_members ps (target_members j)) joined good (IsMap-union_members ps (target_members j) good (IsMap-target_members j joined))
-  IsDocument-united null j good joined = IsDocument-kept j null joined good
-  IsDocument-united (flag b) j good joined = IsDocument-kept j (flag b) joined good
-  IsDocument-united (whole z) j good joined = IsDocument-kept j (whole z) joined good
-  IsDocument-united (string s) j good joined = IsDocument-kept j (string s) joined good
-  IsDocument-united (list ds) j good joined = IsDocument-kept j (list ds) joined good
+  pub IsDocument-union_with : (p : Document) (j : Option Document) → IsDocument p → IfSome j IsDocument → IsDocument (union_with p j)
+  IsDocument-union_with (object ps) j good joined =
+      IsDocument-union_over j ps (union_members ps (target_members j)) joined good (IsMap-union_members ps (target_members j) good (IsMap-target_members j joined))
+  IsDocument-union_with null j good joined = IsDocument-earlier_or j null joined good
+  IsDocument-union_with (flag b) j good joined = IsDocument-earlier_or j (flag b) joined good
+  IsDocument-union_with (whole z) j good joined = IsDocument-earlier_or j (whole z) joined good
+  IsDocument-union_with (string s) j good joined = IsDocument-earlier_or j (string s) joined good
+  IsDocument-union_with (list ds) j good joined = IsDocument-earlier_or j (list ds) joined good
 
   pub IsMap-union_members : (ps js : Members) → IsMap ps → IsMap js → IsMap (union_members ps js)
   IsMap-union_members no_members js good joined = joined
   IsMap-union_members (member n p ps) js good joined =
-      IsMap-put n (united p (find n js)) (union_members ps js) (IsDocument-united p (find n js) good.0 (IsDocument-find n js joined)) (IsMap-union_members ps js good.2 joined)
+      IsMap-put n (union_with p (find n js)) (union_members ps js) (IsDocument-union_with p (find n js) good.0 (IsDocument-find n js joined)) (IsMap-union_members ps js good.2 joined)
 
 pub IsDocument-union : (p j : Document) → IsDocument p → IsDocument j → IsDocument (union p j)
-IsDocument-union p j good joined = IsDocument-united p (Some j) good joined
+IsDocument-union p j good joined = IsDocument-union_with p (Some j) good joined
 
 -- ---- at each name, and one name after another
 
-pub united-absent : (p : Document) → united p None ≡ p
-united-absent (object ps) = refl
-united-absent p = refl
+pub union_with-absent : (p : Document) → union_with p None ≡ p
+union_with-absent (object ps) = refl
+union_with-absent p = refl
 
 -- what was joined before stays where the patch does not carry the name
-abbrev pub united_at : Option Document → Option Document → Option Document
-united_at None j = j
-united_at (Some p) j = Some (united p j)
+abbrev pub union_at : Option Document → Option Document → Option Document
+union_at None j = j
+union_at (Some p) j = Some (union_with p j)
 
-pub find-union_members : (q : List ℕ) (ps js : Members) → find q (union_members ps js) ≡ united_at (find q ps) (find q js)
+pub find-union_members : (q : List ℕ) (ps js : Members) → find q (union_members ps js) ≡ union_at (find q ps) (find q js)
 find-union_members q no_members js = refl
 find-union_members q (member n p ps) js =
-    find-put q n (united p (find n js)) (union_members ps js)
+    find-put q n (union_with p (find n js)) (union_members ps js)
     ∙ cases_same q n (λ here. rw (here, is_name-self)) (λ other. rw other (find-union_members q ps js))
 
 -- the first name of the patch may be united first
-pub union_members-step : (n : List ℕ) (p : Document) (ps js : Members) → IsMap js → IsMap (member n p ps) → union_members (member n p ps) js ≡ union_members ps (put n (united p (find n js)) js)
+pub union_members-step : (n : List ℕ) (p : Document) (ps js : Members) → IsMap js → IsMap (member n p ps) → union_members (member n p ps) js ≡ union_members ps (put n (union_with p (find n js)) js)
 union_members-step n p ps js joined good =
-    let d = united p (find n js) in
+    let d = union_with p (find n js) in
     let now = put n d js in
-    let now_map : IsMap now = IsMap-put n d js (IsDocument-united p (find n js) good.0 (IsDocument-find n js joined)) joined in
+    let now_map : IsMap now = IsMap-put n d js (IsDocument-union_with p (find n js) good.0 (IsDocument-find n js joined)) joined in
     let same : (q : List ℕ) → find q (union_members (member n p ps) js) ≡ find q (union_members ps now) = λ q.
     find-union_members q (member n p ps) js
     ∙ cases_same q n
     (λ here.
     let none : find q ps ≡ None = ap (λ k. find k ps) here ∙ find-below n ps good.1 in
-    let left : united_at (find q (member n p ps)) (find q js) ≡ Some d = rw (here, is_name-self) in
+    let left : union_at (find q (member n p ps)) (find q js) ≡ Some d = rw (here, is_name-self) in
     let right : find q now ≡ Some d = find-put q n d js ∙ rw (here, is_name-self) in
-    left ∙ sym right ∙ sym (ap (λ o. united_at o (find q now)) none))
+    left ∙ sym right ∙ sym (ap (λ o. union_at o (find q now)) none))
     (λ other.
     let stays : find q now ≡ find q js = find-put q n d js ∙ rw other in
-    rw other (ap (united_at (find q ps)) (sym stays)))
+    rw other (ap (union_at (find q ps)) (sym stays)))
     ∙ sym (find-union_members q ps now) in
     members_same (union_members (member n p ps) js) (union_members ps now) (IsMap-union_members (member n p ps) js good joined) (IsMap-union_members ps now good.2 now_map) same
 
@@ -98,30 +98,30 @@ over-left nothing m here = absurd (here refl)
 over-left an_object m here = refl
 over-left (plain v) m here = refl
 
-here-beside : (j : Document) (ps both : Members) → look_here (beside (Some j) ps both) ≡ look_here j
-here-beside (object js) ps both = refl
-here-beside j ps both = refl
+here-union_over : (j : Document) (ps both : Members) → look_here (union_over (Some j) ps both) ≡ look_here j
+here-union_over (object js) ps both = refl
+here-union_over j ps both = refl
 
 -- two parts have no clash
 abbrev HaveNoClash : Option Document → Option Document → Type 0
 HaveNoClash p j = (w : Path) → look_of p w ≢ nothing → look_of j w ≢ nothing → look_of p w ≢ look_of j w → ⊥
 
-look-united_at : (w : Path) (p j : Option Document) → HaveNoClash p j → look_of (united_at p j) w ≡ over (look_of j w) (look_of p w)
-look-united_at w None j free = sym (over-nothing (look_of j w))
-look-united_at [] (Some (object ps)) None free = refl
-look-united_at [] (Some (object ps)) (Some j) free = here-beside j ps (union_members ps (target_members (Some j))) ∙ sym (over-left (look_here j) an_object (is_here j))
-look-united_at [] (Some p) None free = refl
-look-united_at [] (Some p) (Some j) free = sym (over-left (look_here j) (look_here p) (is_here j))
-look-united_at (n ∷ w) (Some (object ps)) None free = refl
-look-united_at (n ∷ w) (Some (object ps)) (Some (object js)) free =
-    ap (λ o. look_of o w) (find-union_members n ps js) ∙ look-united_at w (find n ps) (find n js) (λ u. free (n ∷ u))
-look-united_at (n ∷ w) (Some (object ps)) (Some j) free = absurd (free [] (λ same. cc) (λ same. cc) (λ same. cc))
-look-united_at (n ∷ w) (Some p) (Some (object js)) free = absurd (free [] (λ same. cc) (λ same. cc) (λ same. cc))
-look-united_at (n ∷ w) (Some p) None free = refl
-look-united_at (n ∷ w) (Some p) (Some j) free = refl
+look-union_at : (w : Path) (p j : Option Document) → HaveNoClash p j → look_of (union_at p j) w ≡ over (look_of j w) (look_of p w)
+look-union_at w None j free = sym (over-nothing (look_of j w))
+look-union_at [] (Some (object ps)) None free = refl
+look-union_at [] (Some (object ps)) (Some j) free = here-union_over j ps (union_members ps (target_members (Some j))) ∙ sym (over-left (look_here j) an_object (is_here j))
+look-union_at [] (Some p) None free = refl
+look-union_at [] (Some p) (Some j) free = sym (over-left (look_here j) (look_here p) (is_here j))
+look-union_at (n ∷ w) (Some (object ps)) None free = refl
+look-union_at (n ∷ w) (Some (object ps)) (Some (object js)) free =
+    ap (λ o. look_of o w) (find-union_members n ps js) ∙ look-union_at w (find n ps) (find n js) (λ u. free (n ∷ u))
+look-union_at (n ∷ w) (Some (object ps)) (Some j) free = absurd (free [] (λ same. cc) (λ same. cc) (λ same. cc))
+look-union_at (n ∷ w) (Some p) (Some (object js)) free = absurd (free [] (λ same. cc) (λ same. cc) (λ same. cc))
+look-union_at (n ∷ w) (Some p) None free = refl
+look-union_at (n ∷ w) (Some p) (Some j) free = refl
 
 pub look-union : (p j : Document) → Compatible p j → (w : Path) → look (union p j) w ≡ over (look j w) (look p w)
-look-union p j free w = look-united_at w (Some p) (Some j) (λ u first second differ. free u (record { first = first; second = second; differ = differ }))
+look-union p j free w = look-union_at w (Some p) (Some j) (λ u first second differ. free u (record { first = first; second = second; differ = differ }))
 
 -- ---- the union is a join
 
@@ -177,17 +177,17 @@ union_is_join p j good other free = union_joins_first (j ∷ []) p j (join-one j
 -- ---- the union is no deeper than the deeper of the two
 
 mutual
-  pub depth-united : (p : Document) (j : Option Document) → depth (united p j) ≤ max (depth p) (depth_of j)
-  depth-united (object ps) None = omega arith
-  depth-united (object ps) (Some (object js)) = omega (arith, depth-union_members ps js)
-  depth-united (object ps) (Some j) = omega arith
-  depth-united p None = omega arith
-  depth-united p (Some j) = omega arith
+  pub depth-union_with : (p : Document) (j : Option Document) → depth (union_with p j) ≤ max (depth p) (depth_of j)
+  depth-union_with (object ps) None = omega arith
+  depth-union_with (object ps) (Some (object js)) = omega (arith, depth-union_members ps js)
+  depth-union_with (object ps) (Some j) = omega arith
+  depth-union_with p None = omega arith
+  depth-union_with p (Some j) = omega arith
 
   depth-union_members : (ps js : Members) → members_depth (union_members ps js) ≤ max (members_depth ps) (members_depth js)
   depth-union_members no_members js = omega arith
   depth-union_members (member n p ps) js =
-      omega (arith, depth-put n (united p (find n js)) (union_members ps js), depth-united p (find n js), depth-find n js, depth-union_members ps js)
+      omega (arith, depth-put n (union_with p (find n js)) (union_members ps js), depth-union_with p (find n js), depth-find n js, depth-union_members ps js)
 
 pub depth-union : (p j : Document) → depth (union p j) ≤ max (depth p) (depth j)
-depth-union p j = depth-united p (Some j)
+depth-union p j = depth-union_with p (Some j)

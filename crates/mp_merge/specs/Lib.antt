@@ -1,12 +1,12 @@
 pub mod Application
 pub mod Clash
-pub mod Converging
+pub mod Convergence
 pub mod EditPlace
-pub mod Headline
 pub mod Join
 pub mod Laws
 pub mod Lists
 pub mod Outcome
 pub mod Private
+pub mod Replicas
 pub mod Resumption
 pub mod Rewriting

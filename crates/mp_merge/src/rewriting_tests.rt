@@ -37,7 +37,7 @@ fn rewritten(rt: HostRuntime) -> Result<(), Fail> {
 
 /// A peer that holds another document is told which test refused it.
 #[test]
-fn guarded(rt: HostRuntime) -> Result<(), Fail> {
+fn guarded_edit(rt: HostRuntime) -> Result<(), Fail> {
     let start = read_doc(rt.alloc(), br#"{"a":1,"b":{"c":2}}"#)?;
     let patch = read_doc(rt.alloc(), br#"{"a":[],"b":{"c":null}}"#)?;
     let edits = rewrite(rt.alloc(), &start, &patch)?;

@@ -7,7 +7,7 @@ use Rattle.mp_tree.specs.declared.doc.Doc.{Doc}
 use Rattle.mp_pointer.specs.Spelling.{Tokens, spell, tokens_in}
 use Rattle.mp_pointer.specs.declared.fault.PointerFault.{PointerFault}
 use Rattle.mp_pointer.proofs.Facts.{reads_spellings, count_of-items}
-use Rattle.mp_patch.specs.Form.{NamesOp, Need, path_alone, a_value, an_origin, HasOp, HasNoPointer, Carries, EachForm, IsForm, IsFormFault, IsNoPointer, deepest, needed, op_member, path_member, from_member, shape, shapes, text_at, value_depth, value_member}
+use Rattle.mp_patch.specs.Form.{NamesOp, Need, path_alone, a_value, an_origin, HasOp, HasNoPointer, Carries, EachForm, IsForm, IsFormFault, IsNoPointer, deepest, needed_members, op_member, path_member, from_member, shape, shapes, text_at, value_depth, value_member}
 use Rattle.mp_patch.specs.Operation.{Operation, add, remove, replace, move, copy, test}
 use Rattle.mp_patch.specs.Private.Reading.{FindsNoPointer, IsMapFault, IsOpFault, IsOriginFault, fault_at}
 use Rattle.mp_patch.specs.View.{operation_of, operations_of}
@@ -78,7 +78,7 @@ module _ (ms : Members) where
       )
   map_fault OutOfMemory found = tt
 
-pub form_of_map : (r : Result Op OpFault) (ms : Members) (d : Document) → d ≡ object ms → MatchResult r (λ op. Carries ms (needed (operation_of op))) (λ fault. IsMapFault fault (object ms))
+pub form_of_map : (r : Result Op OpFault) (ms : Members) (d : Document) → d ≡ object ms → MatchResult r (λ op. Carries ms (needed_members (operation_of op))) (λ fault. IsMapFault fault (object ms))
     → MatchResult r (λ op. IsForm d (operation_of op)) (λ fault. IsOpFault fault d)
 form_of_map (Ok op) ms d is carries = (ms, is, carries)
 form_of_map (Err fault) ms d is found = subst (IsOpFault fault) (sym is) (map_fault ms fault found)

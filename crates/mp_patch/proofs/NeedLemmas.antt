@@ -2,7 +2,7 @@
 use Rattle.std.proofs.Common.{◌≡◌, ◌==◌, ◌+◌, inl, inr, ℕ, cond, List, get_or, Option, None, Some, option_and_then, refl, sym, ap, ◌∙◌, codes}
 use Rattle.mp_tree.specs.Document.{Document, object, Members}
 use Rattle.mp_pointer.specs.Spelling.{Tokens, spell}
-use Rattle.mp_patch.specs.Form.{Carries, HasOp, Need, path_alone, a_value, an_origin, NamesOp, needed, text_at, text_of, value_at}
+use Rattle.mp_patch.specs.Form.{Carries, HasOp, Need, path_alone, a_value, an_origin, NamesOp, needed_members, text_at, text_of, value_at}
 use Rattle.mp_patch.specs.Operation.{Operation, add, remove, replace, move, copy, test}
 
 pub some_none : {X P : Type 0} (o : Option X) (x : X) → o ≡ Some x → o ≡ None → P
@@ -71,7 +71,7 @@ named (move f t) = inl refl
 named (copy f t) = inr refl
 named (test t v) = inr (inr refl)
 
-op_text : (ms : Members) (o : Operation) → Carries ms (needed o) → text_at (codes "op") (object ms) ≡ Some (name_of o)
+op_text : (ms : Members) (o : Operation) → Carries ms (needed_members o) → text_at (codes "op") (object ms) ≡ Some (name_of o)
 op_text ms (add t v) a = ap (option_and_then text_of) a.0
 op_text ms (remove t) a = ap (option_and_then text_of) a.0
 op_text ms (replace t v) a = ap (option_and_then text_of) a.0
@@ -79,10 +79,10 @@ op_text ms (move f t) a = ap (option_and_then text_of) a.0
 op_text ms (copy f t) a = ap (option_and_then text_of) a.0
 op_text ms (test t v) a = ap (option_and_then text_of) a.0
 
-pub has_op : (ms : Members) (o : Operation) → Carries ms (needed o) → HasOp (need_of o) (object ms)
+pub has_op : (ms : Members) (o : Operation) → Carries ms (needed_members o) → HasOp (need_of o) (object ms)
 has_op ms o a = (name_of o, op_text ms o a, named o)
 
-pub path_text : (ms : Members) (o : Operation) → Carries ms (needed o) → text_at (codes "path") (object ms) ≡ Some (spell (place_of o))
+pub path_text : (ms : Members) (o : Operation) → Carries ms (needed_members o) → text_at (codes "path") (object ms) ≡ Some (spell (place_of o))
 path_text ms (add t v) a = ap (option_and_then text_of) a.1.0
 path_text ms (remove t) a = ap (option_and_then text_of) a.1.0
 path_text ms (replace t v) a = ap (option_and_then text_of) a.1.0
@@ -91,20 +91,20 @@ path_text ms (copy f t) a = ap (option_and_then text_of) a.1.0
 path_text ms (test t v) a = ap (option_and_then text_of) a.1.0
 
 -- where an origin is needed, it is spelled
-from_needed : (ms : Members) (o : Operation) → need_of o ≡ an_origin → Carries ms (needed o) → (f : Tokens) × (text_at (codes "from") (object ms) ≡ Some (spell f))
+from_needed : (ms : Members) (o : Operation) → need_of o ≡ an_origin → Carries ms (needed_members o) → (f : Tokens) × (text_at (codes "from") (object ms) ≡ Some (spell f))
 from_needed ms (move f t) is a = (f, ap (option_and_then text_of) a.1.1.0)
 from_needed ms (copy f t) is a = (f, ap (option_and_then text_of) a.1.1.0)
 from_needed ms o is a = absurd (let other = is in cc)
 
-pub from_text : (ms : Members) (o : Operation) → Carries ms (needed o) → HasOp an_origin (object ms) → (f : Tokens) × (text_at (codes "from") (object ms) ≡ Some (spell f))
+pub from_text : (ms : Members) (o : Operation) → Carries ms (needed_members o) → HasOp an_origin (object ms) → (f : Tokens) × (text_at (codes "from") (object ms) ≡ Some (spell f))
 from_text ms o a has = from_needed ms o (one_need (need_of o) an_origin (object ms) (has_op ms o a) has) a
 
 -- where a value is needed, it is there
-value_needed : (ms : Members) (o : Operation) → need_of o ≡ a_value → Carries ms (needed o) → (v : Document) × (value_at (codes "value") (object ms) ≡ Some v)
+value_needed : (ms : Members) (o : Operation) → need_of o ≡ a_value → Carries ms (needed_members o) → (v : Document) × (value_at (codes "value") (object ms) ≡ Some v)
 value_needed ms (add t v) is a = (v, a.1.1.0)
 value_needed ms (replace t v) is a = (v, a.1.1.0)
 value_needed ms (test t v) is a = (v, a.1.1.0)
 value_needed ms o is a = absurd (let other = is in cc)
 
-pub value_there : (ms : Members) (o : Operation) → Carries ms (needed o) → HasOp a_value (object ms) → (v : Document) × (value_at (codes "value") (object ms) ≡ Some v)
+pub value_there : (ms : Members) (o : Operation) → Carries ms (needed_members o) → HasOp a_value (object ms) → (v : Document) × (value_at (codes "value") (object ms) ≡ Some v)
 value_there ms o a has = value_needed ms o (one_need (need_of o) a_value (object ms) (has_op ms o a) has) a

@@ -4,7 +4,7 @@ use Rattle.mp_tree.specs.Document.{Document, string, list, object, Items, no_ite
 use Rattle.mp_pointer.specs.Spelling.{Tokens, spell, tokens_in}
 use Rattle.mp_pointer.specs.declared.fault.PointerFault.{PointerFault}
 use Rattle.mp_pointer.proofs.Facts.{reads_spellings}
-use Rattle.mp_patch.specs.Form.{Carries, EachForm, IsForm, IsFaulty, IsNoPointer, Need, path_alone, a_value, an_origin, NamesOp, needed, op_member, path_member, value_member, from_member, text_at, text_of}
+use Rattle.mp_patch.specs.Form.{Carries, EachForm, IsForm, IsFaulty, IsNoPointer, Need, path_alone, a_value, an_origin, NamesOp, needed_members, op_member, path_member, value_member, from_member, text_at, text_of}
 use Rattle.mp_patch.specs.Laws.{IsFormOrFaulty}
 use Rattle.mp_patch.specs.Operation.{Operation, add, remove, replace, move, copy, test, append}
 use Rattle.mp_patch.specs.Private.Reading.{IsMapFault}
@@ -62,7 +62,7 @@ module _ (ms : Members) where
   d = object ms
 
   abbrev Read : Type 0
-  Read = ((o : Operation) × Carries ms (needed o)) ⊎ ((cause : FormCause) × IsMapFault (Form cause) d)
+  Read = ((o : Operation) × Carries ms (needed_members o)) ⊎ ((cause : FormCause) × IsMapFault (Form cause) d)
 
   stands : (n text other : List ℕ) → text_at n d ≡ Some text → text ≡ other → find n ms ≡ Some (string other)
   stands n text other at is = text_found (find n ms) text at ∙ ap (λ t. Some (string t)) is
@@ -75,7 +75,7 @@ module _ (ms : Members) where
       | inr bad ↦ inr (BadPointer, (path_alone, (name, at, is), path, there, bad))
     ]
 
-    with_value : (make : Tokens → Document → Operation) (op : List ℕ) → ((t : Tokens) (v : Document) → needed (make t v) ≡ op_member op ∷ path_member t ∷ value_member v ∷ []) → name ≡ op → NamesOp a_value name → Read
+    with_value : (make : Tokens → Document → Operation) (op : List ℕ) → ((t : Tokens) (v : Document) → needed_members (make t v) ≡ op_member op ∷ path_member t ∷ value_member v ∷ []) → name ≡ op → NamesOp a_value name → Read
     with_value make op shape is names = elim (spelled path) [
       | inl p ↦ by p.0 p.1 (find (codes "value") ms) refl
       | inr bad ↦ inr (BadPointer, (a_value, (name, at, names), path, there, bad))
@@ -86,7 +86,7 @@ module _ (ms : Members) where
         by t same (Some v) value =
             inl (make t v, subst (Carries ms) (sym (shape t v)) (stands (codes "op") name op at is, (stands (codes "path") path (spell t) there same, (value, tt))))
 
-    with_origin : (make : Tokens → Tokens → Operation) (op : List ℕ) → ((f t : Tokens) → needed (make f t) ≡ op_member op ∷ path_member t ∷ from_member f ∷ []) → name ≡ op → NamesOp an_origin name → Read
+    with_origin : (make : Tokens → Tokens → Operation) (op : List ℕ) → ((f t : Tokens) → needed_members (make f t) ≡ op_member op ∷ path_member t ∷ from_member f ∷ []) → name ≡ op → NamesOp an_origin name → Read
     with_origin make op shape is names = by (text_at (codes "from") d) refl (spelled path)
       where
         to : (t : Tokens) (from : List ℕ) → path ≡ spell t → text_at (codes "from") d ≡ Some from → ((f : Tokens) × (from ≡ spell f)) ⊎ IsNoPointer from → Read

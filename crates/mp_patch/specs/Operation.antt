@@ -1,7 +1,7 @@
 -- The operations of a JSON Patch (RFC 6902 section 4): each says of two documents what their parts are, before and after.
-use Rattle.std.specs.Prelude.{◌≡◌, ◌≢◌, ◌⊎◌, ℕ, codes, List, [], ◌∷◌, ◌++◌, Some}
-use Rattle.mp_tree.specs.Document.{Document, list, object, Items, no_items, item, Members, find, put, without}
-use Rattle.mp_pointer.specs.Only.{DifferOnlyAt}
+use Rattle.std.specs.Prelude.{◌≡◌, ◌≢◌, ◌⊎◌, ℕ, codes, List, [], ◌∷◌, ◌++◌, Some, ⊤}
+use Rattle.mp_tree.specs.Document.{Document, list, object, Items, no_items, item, Members, find, put, without, IsDocument}
+use Rattle.mp_pointer.specs.Difference.{DifferOnlyAt}
 use Rattle.mp_pointer.specs.Part.{part, numeral, count_of}
 use Rattle.mp_pointer.specs.Spelling.{Tokens}
 
@@ -85,3 +85,16 @@ Step d (move f t) e = Moves f t d e
 Step d (copy f t) e = Copies f t d e
 -- section 4.6: what is at t is v, and the document stays as it is
 Step d (test t v) e = (part d t ≡ Some v) × (e ≡ d)
+
+-- the value of each operation is a document
+abbrev pub HasDocument : Operation → Type 0
+HasDocument (add t v) = IsDocument v
+HasDocument (remove t) = ⊤
+HasDocument (replace t v) = IsDocument v
+HasDocument (move f t) = ⊤
+HasDocument (copy f t) = ⊤
+HasDocument (test t v) = IsDocument v
+
+abbrev pub HaveDocuments : List Operation → Type 0
+HaveDocuments [] = ⊤
+HaveDocuments (o ∷ operations) = HasDocument o × HaveDocuments operations

@@ -66,7 +66,7 @@ fn with_value(alloc: Global, name: &str, path: &Pointer, value: Doc) -> Result<D
         (op_member name.now ∷ path_member path.now
         ∷ value_member (document value) ∷ []))) }
 {
-    let mut entries = named(alloc, name, path)?;
+    let mut entries = common_members(alloc, name, path)?;
     set(&mut entries, "value", value, alloc)?;
     Ok(Doc::Members(entries))
 }
@@ -75,7 +75,7 @@ fn without_value(alloc: Global, name: &str, path: &Pointer) -> Result<Doc, Alloc
     ensures { IfOk result (λ d. document d ≡ object (members_of
         (op_member name.now ∷ path_member path.now ∷ []))) }
 {
-    Ok(Doc::Members(named(alloc, name, path)?))
+    Ok(Doc::Members(common_members(alloc, name, path)?))
 }
 
 fn with_origin(
@@ -87,13 +87,17 @@ fn with_origin(
     ensures { IfOk result (λ d. document d ≡ object (members_of
         (op_member name.now ∷ path_member path.now ∷ from_member origin.now ∷ []))) }
 {
-    let mut entries = named(alloc, name, path)?;
+    let mut entries = common_members(alloc, name, path)?;
     set(&mut entries, "from", Doc::Text(origin.print(alloc)?), alloc)?;
     Ok(Doc::Members(entries))
 }
 
 // The members that each operation has.
-fn named(alloc: Global, name: &str, path: &Pointer) -> Result<BTreeMap<String, Doc>, AllocError>
+fn common_members(
+    alloc: Global,
+    name: &str,
+    path: &Pointer,
+) -> Result<BTreeMap<String, Doc>, AllocError>
     ensures { IfOk result (λ m. members m.entries
         ≡ members_of (op_member name.now ∷ path_member path.now ∷ [])) }
 {

@@ -6,9 +6,9 @@ use Rattle.std.specs.List.{slice_get, slice_range}
 use Rattle.mp_tree.specs.Document.{Document}
 use Rattle.mp_tree.specs.View.{document}
 use Rattle.mp_tree.specs.declared.doc.Doc.{Doc}
-use Rattle.mp_pointer.specs.Edit.{EditsAt}
-use Rattle.mp_pointer.specs.Lent.{PartBecomes}
-use Rattle.mp_pointer.specs.Only.{DifferOnlyAt}
+use Rattle.mp_pointer.specs.Editing.{EditsAt}
+use Rattle.mp_pointer.specs.Lending.{PartBecomes}
+use Rattle.mp_pointer.specs.Difference.{DifferOnlyAt}
 use Rattle.mp_pointer.specs.Part.{part, child}
 use Rattle.mp_pointer.specs.Spelling.{Tokens}
 use Rattle.mp_pointer.proofs.PartLemmas.{part-push, DifferOnlyAt-root}
@@ -16,13 +16,13 @@ use Rattle.mp_pointer.proofs.WalkLemmas.{becomes_deeper, nothing_changed}
 
 -- ---- the tokens from a place on
 
-pub slice_range-none : (t : Tokens) (place end : ℕ) → place ≡ end → slice_range t place end ≡ []
-slice_range-none t place end same = let none : end - place ≡ 0 = omega arith in rw none refl
+pub slice_range-none : (t : Tokens) (number end : ℕ) → number ≡ end → slice_range t number end ≡ []
+slice_range-none t number end same = let none : end - number ≡ 0 = omega arith in rw none refl
 
-pub slice_range-more : (t : Tokens) (place end : ℕ) (token : List ℕ) → slice_get t place ≡ Some token → place < end → slice_range t place end ≡ token ∷ slice_range t (place + 1) end
-slice_range-more t place end token here more =
-    let first : drop place t ≡ token ∷ drop (place + 1) t = drop_more t place [] (slice_get_within t place token here) ∙ ap (λ x. x ∷ drop (place + 1) t) (get_or_from_slice_get t place token [] here) in
-    let count : end - place ≡ suc (end - (place + 1)) = omega arith in
+pub slice_range-more : (t : Tokens) (number end : ℕ) (token : List ℕ) → slice_get t number ≡ Some token → number < end → slice_range t number end ≡ token ∷ slice_range t (number + 1) end
+slice_range-more t number end token here more =
+    let first : drop number t ≡ token ∷ drop (number + 1) t = drop_more t number [] (slice_get_within t number token here) ∙ ap (λ x. x ∷ drop (number + 1) t) (get_or_from_slice_get t number token [] here) in
+    let count : end - number ≡ suc (end - (number + 1)) = omega arith in
     ap₂ take count first
 
 -- ---- a document with one child that was edited

@@ -12,7 +12,7 @@ use Rattle.mp_tree.specs.Private.Entries.{members}
 use Rattle.mp_tree.specs.declared.doc.Doc
 use Rattle.mp_tree.specs.declared.doc.Doc.{Doc}
 use Rattle.mp_tree.proofs.Facts.{find-members, members-inserted, IsMap-members, document-Items, document-Members}
-use Rattle.mp_pointer.specs.Lent.{PartBecomes}
+use Rattle.mp_pointer.specs.Lending.{PartBecomes}
 use Rattle.mp_pointer.specs.Private.Child.{IsList, one_token}
 use Rattle.mp_pointer.specs.Part.{part, child, numeral, nth}
 use Rattle.mp_pointer.specs.Spelling.{Tokens}
@@ -22,14 +22,14 @@ use Rattle.mp_pointer.proofs.PartLemmas.{child-object, part-push, DifferOnlyAt-c
 
 -- ---- the part at one token
 
-pub one_token-is : (t : Tokens) (place : ℕ) (token : List ℕ) → slice_get t place ≡ Some token → one_token t place ≡ token ∷ []
-one_token-is t place token here =
-    let first : drop place t ≡ token ∷ drop (place + 1) t = drop_more t place [] (slice_get_within t place token here) ∙ ap (λ x. x ∷ drop (place + 1) t) (get_or_from_slice_get t place token [] here) in
-    let count : (place + 1) - place ≡ suc 0 = omega arith in
+pub one_token-is : (t : Tokens) (number : ℕ) (token : List ℕ) → slice_get t number ≡ Some token → one_token t number ≡ token ∷ []
+one_token-is t number token here =
+    let first : drop number t ≡ token ∷ drop (number + 1) t = drop_more t number [] (slice_get_within t number token here) ∙ ap (λ x. x ∷ drop (number + 1) t) (get_or_from_slice_get t number token [] here) in
+    let count : (number + 1) - number ≡ suc 0 = omega arith in
     ap₂ take count first
 
-pub part-at : (d : Document) (t : Tokens) (place : ℕ) (token : List ℕ) → slice_get t place ≡ Some token → part d (one_token t place) ≡ child token d
-part-at d t place token here = ap (part d) (one_token-is t place token here) ∙ part-push d [] token
+pub part-at : (d : Document) (t : Tokens) (number : ℕ) (token : List ℕ) → slice_get t number ≡ Some token → part d (one_token t number) ≡ child token d
+part-at d t number token here = ap (part d) (one_token-is t number token here) ∙ part-push d [] token
 
 becomes : (token : List ℕ) (d e d' e' x v : Document) → d ≡ d' → e ≡ e' → ChildChanges token d' e' x v → PartBecomes (token ∷ []) v d e
 becomes token d e d' e' x v is will changes =
@@ -110,6 +110,6 @@ no_child token (string s) no_list no_object = refl
 no_child token (list ds) no_list no_object = absurd (no_list ds refl)
 no_child token (object ms) no_list no_object = absurd (no_object ms refl)
 
-pub scalar_part : (d : Document) (t : Tokens) (place : ℕ) → place < length t → ¬ IsList d → ((ms : Members) → d ≢ object ms) → part d (one_token t place) ≡ None
-scalar_part d t place less no_list no_object =
-    part-at d t place (get_or t place []) (slice_get-get_or t place [] less) ∙ no_child (get_or t place []) d (λ ds is. no_list (subst IsList (sym is) tt)) no_object
+pub scalar_part : (d : Document) (t : Tokens) (number : ℕ) → number < length t → ¬ IsList d → ((ms : Members) → d ≢ object ms) → part d (one_token t number) ≡ None
+scalar_part d t number less no_list no_object =
+    part-at d t number (get_or t number []) (slice_get-get_or t number [] less) ∙ no_child (get_or t number []) d (λ ds is. no_list (subst IsList (sym is) tt)) no_object

@@ -2,7 +2,7 @@
 use Rattle.std.proofs.Common.{◌≡◌, ℕ, List, [], ◌∷◌, ◌++◌, Option, None, Some, option_and_then, refl, sym, ap, ◌∙◌, append_assoc, ◌≢◌, ap₂, true≢false}
 use Rattle.mp_tree.specs.Document.{is_name, Document, list, object, Items, Members, find}
 use Rattle.mp_tree.proofs.Facts.{cases_same, is_name-self}
-use Rattle.mp_pointer.specs.Only.{DifferOnlyAt}
+use Rattle.mp_pointer.specs.Difference.{DifferOnlyAt}
 use Rattle.mp_pointer.specs.Part.{child, element_from, part, kind, kind_here, kind_of}
 use Rattle.mp_pointer.specs.Spelling.{Tokens, BeginsWith}
 

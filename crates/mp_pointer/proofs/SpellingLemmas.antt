@@ -234,16 +234,16 @@ unfolding tokens_in
 tokens_in-no_slash [] lacks = absurd (lacks.0 refl)
 tokens_in-no_slash (c ∷ rest) lacks = rw (ne_eqb c 47 lacks.1)
 
-pub tokens_in-bad_tilde : (rest : List ℕ) (place : ℕ) → IsFirstBadTilde (47 ∷ rest) place → tokens_in (47 ∷ rest) ≡ Err (BadTilde place)
+pub tokens_in-bad_tilde : (rest : List ℕ) (offset : ℕ) → IsFirstBadTilde (47 ∷ rest) offset → tokens_in (47 ∷ rest) ≡ Err (BadTilde offset)
 unfolding tokens_in
-tokens_in-bad_tilde rest place first = ap (λ o. unless_bad o (map unescape (parts_of rest))) (first_bad-some (47 ∷ rest) place first)
+tokens_in-bad_tilde rest offset first = ap (λ o. unless_bad o (map unescape (parts_of rest))) (first_bad-some (47 ∷ rest) offset first)
 
 refused_from_fault : (text : List ℕ) (fault : PointerFault) → fault ≢ OutOfMemory → IsFaultOf fault text → tokens_in text ≡ Err fault
 refused_from_fault text NoSlash known holds = tokens_in-no_slash text holds
-refused_from_fault [] (BadTilde place) known holds = absurd (omega (arith, holds.0))
-refused_from_fault (c ∷ rest) (BadTilde place) known holds =
+refused_from_fault [] (BadTilde offset) known holds = absurd (omega (arith, holds.0))
+refused_from_fault (c ∷ rest) (BadTilde offset) known holds =
     let slash : c ∷ rest ≡ 47 ∷ rest = ap (λ x. x ∷ rest) holds.0 in
-    ap tokens_in slash ∙ tokens_in-bad_tilde rest place (subst (λ xs. IsFirstBadTilde xs place) slash holds.1)
+    ap tokens_in slash ∙ tokens_in-bad_tilde rest offset (subst (λ xs. IsFirstBadTilde xs offset) slash holds.1)
 refused_from_fault text OutOfMemory known holds = absurd (known refl)
 
 fault_from_refused : (text : List ℕ) (fault : PointerFault) → tokens_in text ≡ Err fault → (fault ≢ OutOfMemory) × IsFaultOf fault text
@@ -253,9 +253,9 @@ fault_from_refused (c ∷ rest) fault e = split (eqb c 47) refl (first_bad_tilde
   where
     split : (b : Bool) → eqb c 47 ≡ b → (o : Option ℕ) → first_bad_tilde (c ∷ rest) ≡ o → (fault : PointerFault) → cond b (unless_bad o (map unescape (parts_of rest))) (Err NoSlash) ≡ Err fault → (fault ≢ OutOfMemory) × IsFaultOf fault (c ∷ rest)
     split true slash None is fault e = cc
-    split true slash (Some place) is fault e =
-        let found : BadTilde place ≡ fault = cc in
-        subst (λ f. (f ≢ OutOfMemory) × IsFaultOf f (c ∷ rest)) found ((λ same. cc), (eqb-true c 47 slash, first_bad-found (c ∷ rest) place is))
+    split true slash (Some offset) is fault e =
+        let found : BadTilde offset ≡ fault = cc in
+        subst (λ f. (f ≢ OutOfMemory) × IsFaultOf f (c ∷ rest)) found ((λ same. cc), (eqb-true c 47 slash, first_bad-found (c ∷ rest) offset is))
     split false other o is fault e =
         let found : NoSlash ≡ fault = cc in
         subst (λ f. (f ≢ OutOfMemory) × IsFaultOf f (c ∷ rest)) found ((λ same. cc), ((λ none. cc), λ is. true≢false (sym (eq-eqb c 47 is) ∙ other)))
@@ -313,7 +313,7 @@ respells (c ∷ d ∷ rest) none =
 
 ok_parts : (o : Option ℕ) (tokens t : Tokens) → unless_bad o tokens ≡ Ok t → (o ≡ None) × (tokens ≡ t)
 ok_parts None tokens t e = (refl, cc)
-ok_parts (Some place) tokens t e = cc
+ok_parts (Some offset) tokens t e = cc
 
 spell_from_tokens_in : (text : List ℕ) (t : Tokens) → tokens_in text ≡ Ok t → text ≡ spell t
 unfolding tokens_in

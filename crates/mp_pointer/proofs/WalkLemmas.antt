@@ -5,7 +5,7 @@ use Rattle.mp_tree.specs.Document.{Document}
 use Rattle.mp_tree.specs.View.{document}
 use Rattle.mp_tree.specs.declared.doc.Doc.{Doc}
 use Rattle.mp_tree.proofs.Facts.{IsDocument-document}
-use Rattle.mp_pointer.specs.Lent.{PartBecomes}
+use Rattle.mp_pointer.specs.Lending.{PartBecomes}
 use Rattle.mp_pointer.specs.Private.Child.{one_token}
 use Rattle.mp_pointer.specs.Part.{part, kind}
 use Rattle.mp_pointer.specs.Spelling.{Tokens, BeginsWith}
@@ -40,12 +40,12 @@ take_next t i = let one : (i + 1) - i ≡ 1 = omega arith in ap (λ n. take n t)
 
 -- the target is the part at the first tokens, and d follows it by the lender
 pub record Reached (t : Tokens) (d : Doc) (count : ℕ) : Type 0 where
-  pub place : ℕ
-  pub within : place < count + 1
+  pub number : ℕ
+  pub within : number < count + 1
   pub target : MutBor Doc
   pub lender : Doc → Doc
-  pub stood : part (document d) (take place t) ≡ Some (document target.now)
-  pub made : (w : Doc) → PartBecomes (take place t) (document w) (document d) (document (lender w))
+  pub stood : part (document d) (take number t) ≡ Some (document target.now)
+  pub made : (w : Doc) → PartBecomes (take number t) (document w) (document d) (document (lender w))
 
 -- one token further
 pub next_stood : (t : Tokens) (i : ℕ) (d : Document) (b : Document) (c : Option Document) → part d (take i t) ≡ Some b → c ≡ part b (one_token t i) → part d (take (i + 1) t) ≡ c

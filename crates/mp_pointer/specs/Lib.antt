@@ -1,7 +1,7 @@
-pub mod Edit
+pub mod Difference
+pub mod Editing
 pub mod Laws
-pub mod Lent
-pub mod Only
+pub mod Lending
 pub mod Part
 pub mod Private
 pub mod Spelling

@@ -55,7 +55,7 @@ impl Pointer {
             return Err(PointerFault::NoSlash);
         };
         match bad_tilde(text.as_bytes()) {
-            Some(place) => Err(PointerFault::BadTilde(place)),
+            Some(offset) => Err(PointerFault::BadTilde(offset)),
             None => {
                 let tokens = tokens_after(alloc, rest)?;
                 Ok(Pointer { tokens })
@@ -162,12 +162,12 @@ impl Pointer {
         self.tokens.len()
     }
 
-    /// The token at a place, counted from 0, with nothing escaped; None exactly where `place` is not below
+    /// The token at a place, counted from 0, with nothing escaped; None exactly where `number` is not below
     /// `len()`. Takes no memory.
-    pub fn token(&self, place: usize) -> Option<&str>
-        ensures { option_copied result ≡ slice_get self.now place }
+    pub fn token(&self, number: usize) -> Option<&str>
+        ensures { option_copied result ≡ slice_get self.now number }
     {
-        match self.tokens.get(place) {
+        match self.tokens.get(number) {
             Some(token) => Some(token.as_str()),
             None => None,
         }
@@ -187,8 +187,8 @@ impl Pointer {
         if others.len() <= tokens.len() {
             return false;
         }
-        for (place, token) in tokens.iter().enumerate() {
-            if token.as_str() != others[place].as_str() {
+        for (number, token) in tokens.iter().enumerate() {
+            if token.as_str() != others[number].as_str() {
                 return false;
             }
         }

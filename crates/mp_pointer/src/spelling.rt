@@ -7,19 +7,19 @@ use std::alloc::{AllocError, Global};
 pub(crate) fn bad_tilde(text: &[u8]) -> Option<usize>
     ensures { MatchOption result ((k : ℕ) → ¬ (IsBadTilde text.now k)) (IsFirstBadTilde text.now) }
 {
-    for (place, byte) in text.iter().enumerate() {
-        if *byte == b'~' && !is_escape(text, place + 1) {
-            return Some(place);
+    for (offset, byte) in text.iter().enumerate() {
+        if *byte == b'~' && !is_escape(text, offset + 1) {
+            return Some(offset);
         }
     }
     None
 }
 
-fn is_escape(text: &[u8], place: usize) -> bool
+fn is_escape(text: &[u8], offset: usize) -> bool
     ensures { IsTrue result
-        ↔ (slice_index text.now place ≡ 48) ⊎ (slice_index text.now place ≡ 49) }
+        ↔ (slice_index text.now offset ≡ 48) ⊎ (slice_index text.now offset ≡ 49) }
 {
-    place < text.len() && (text[place] == b'0' || text[place] == b'1')
+    offset < text.len() && (text[offset] == b'0' || text[offset] == b'1')
 }
 
 // The tokens of the spelling that is a slash and then `rest`.
@@ -30,15 +30,15 @@ pub(crate) fn tokens_after(alloc: Global, rest: &str) -> Result<Vec<String>, All
     let mut tokens = Vec::new(alloc);
     let mut rest = rest;
     'parts: while let Some((part, more)) = rest.split_once('/') {
-        tokens.push(unescaped(alloc, part)?)?;
+        tokens.push(unescape(alloc, part)?)?;
         rest = more;
     }
-    tokens.push(unescaped(alloc, rest)?)?;
+    tokens.push(unescape(alloc, rest)?)?;
     Ok(tokens)
 }
 
 // The token that is spelled between two slashes.
-pub(crate) fn unescaped(alloc: Global, spelled: &str) -> Result<String, AllocError>
+pub(crate) fn unescape(alloc: Global, spelled: &str) -> Result<String, AllocError>
     requires between { (k : ℕ) → k < length spelled.now → slice_index spelled.now k ≢ 47 }
     requires escapes { first_bad_tilde spelled.now ≡ None }
     ensures { IfOk result (λ token. escape (string_bytes token) ≡ spelled.now) }

@@ -10,7 +10,7 @@ use Rattle.std.specs.List.Sorted.{IsStrictlySortedBy}
 use Rattle.std.specs.Map.{keys_of, lookup}
 use Rattle.std.specs.Ordering.{eq_by_cmp}
 use Rattle.mp_tree.specs.Document.{name_cmp, is_name}
-use Rattle.mp_tree.specs.View.{named}
+use Rattle.mp_tree.specs.View.{byte_entries}
 use Rattle.mp_tree.proofs.Ascending.{entries_same}
 use Rattle.mp_tree.proofs.Names.{cases_same, below_is_above}
 
@@ -46,31 +46,31 @@ ascend_from_bytes : (ks ls : Keys) → map string_bytes ks ≡ map string_bytes 
 ascend_from_bytes ks ls same h = keys_ascend ks (subst (IsStrictlySortedBy name_cmp) (sym same) (names_ascend ls h))
 
 module _ {V : Type 0} where
-  keys_of-named : (es : List (String Global × V)) → keys_of (named es) ≡ bytes_of (keys_of es)
-  keys_of-named [] = refl
-  keys_of-named (e ∷ es) = ap (λ ns. string_bytes e.0 ∷ ns) (keys_of-named es)
+  keys_of-byte_entries : (es : List (String Global × V)) → keys_of (byte_entries es) ≡ bytes_of (keys_of es)
+  keys_of-byte_entries [] = refl
+  keys_of-byte_entries (e ∷ es) = ap (λ ns. string_bytes e.0 ∷ ns) (keys_of-byte_entries es)
 
-  lookup-named : (q : List ℕ) (es : List (String Global × V)) → lookup (is_name q) (named es) ≡ lookup (is_at (λ k. name_cmp q (string_bytes k))) es
-  lookup-named q [] = refl
-  lookup-named q (e ∷ es) = ap (cond (is_name q (string_bytes e.0)) (Some e.1)) (lookup-named q es)
+  lookup-byte_entries : (q : List ℕ) (es : List (String Global × V)) → lookup (is_name q) (byte_entries es) ≡ lookup (is_at (λ k. name_cmp q (string_bytes k))) es
+  lookup-byte_entries q [] = refl
+  lookup-byte_entries q (e ∷ es) = ap (cond (is_name q (string_bytes e.0)) (Some e.1)) (lookup-byte_entries q es)
 
   -- a name that is looked up is that of some key, or it is not there
-  key_or_none : (q : List ℕ) (es : List (String Global × V)) → ((k : String Global) × (string_bytes k ≡ q)) ⊎ (lookup (is_name q) (named es) ≡ None)
+  key_or_none : (q : List ℕ) (es : List (String Global × V)) → ((k : String Global) × (string_bytes k ≡ q)) ⊎ (lookup (is_name q) (byte_entries es) ≡ None)
   key_or_none q [] = inr refl
   key_or_none q (e ∷ es) = cases_same q (string_bytes e.0) (λ same. inl (e.0, sym same)) (λ other. elim (key_or_none q es) [ inl k ↦ inl k | inr none ↦ inr (rw other none) ])
 
-  at_names : (es ps : List (String Global × V)) → ((k : String Global) → lookup (is_at (string_cmp k)) es ≡ lookup (is_at (string_cmp k)) ps) → (q : List ℕ) → lookup (is_name q) (named es) ≡ lookup (is_name q) (named ps)
+  at_names : (es ps : List (String Global × V)) → ((k : String Global) → lookup (is_at (string_cmp k)) es ≡ lookup (is_at (string_cmp k)) ps) → (q : List ℕ) → lookup (is_name q) (byte_entries es) ≡ lookup (is_name q) (byte_entries ps)
   at_names es ps same q =
       let at_key = λ (k : (k : String Global) × (string_bytes k ≡ q)).
-      subst (λ r. lookup (is_name r) (named es) ≡ lookup (is_name r) (named ps)) k.1 (lookup-named (string_bytes k.0) es ∙ same k.0 ∙ sym (lookup-named (string_bytes k.0) ps)) in
+      subst (λ r. lookup (is_name r) (byte_entries es) ≡ lookup (is_name r) (byte_entries ps)) k.1 (lookup-byte_entries (string_bytes k.0) es ∙ same k.0 ∙ sym (lookup-byte_entries (string_bytes k.0) ps)) in
       elim (key_or_none q es) [ inl k ↦ at_key k | inr none ↦ elim (key_or_none q ps) [ inl k ↦ at_key k | inr absent ↦ none ∙ sym absent ] ]
 
-  pub named-from_iter : (m : BTreeMap (String Global) V) (ps : List (String Global × V)) → IsStrictlySortedBy string_cmp (keys_of ps) → IsFromIterResult string_cmp ps m → named m.entries ≡ named ps
-  named-from_iter m ps ascending made =
+  pub byte_entries-from_iter : (m : BTreeMap (String Global) V) (ps : List (String Global × V)) → IsStrictlySortedBy string_cmp (keys_of ps) → IsFromIterResult string_cmp ps m → byte_entries m.entries ≡ byte_entries ps
+  byte_entries-from_iter m ps ascending made =
       let found : (k : String Global) → lookup (is_at (string_cmp k)) m.entries ≡ lookup (is_at (string_cmp k)) ps =
       λ k. made.0 k ∙ update_all_none (eq_by_cmp_equiv string_cmp_total) (eq_by_cmp string_cmp) (λ _ _. refl) ps k (IsDistinct-from_sorted string_cmp (keys_of ps) ascending) in
-      entries_same (named m.entries) (named ps) (subst (IsStrictlySortedBy name_cmp) (sym (keys_of-named m.entries)) (names_ascend (keys_of m.entries) made.1))
-      (subst (IsStrictlySortedBy name_cmp) (sym (keys_of-named ps)) (names_ascend (keys_of ps) ascending)) (at_names m.entries ps found)
+      entries_same (byte_entries m.entries) (byte_entries ps) (subst (IsStrictlySortedBy name_cmp) (sym (keys_of-byte_entries m.entries)) (names_ascend (keys_of m.entries) made.1))
+      (subst (IsStrictlySortedBy name_cmp) (sym (keys_of-byte_entries ps)) (names_ascend (keys_of ps) ascending)) (at_names m.entries ps found)
 
 -- ---- entries seen alike: the same names, and values that mean the same
 
@@ -85,13 +85,13 @@ pub ascend_from_seen : {V W C : Type 0} (f : V → C) (g : W → C) (es : List (
     → IsStrictlySortedBy string_cmp (keys_of fs) → IsStrictlySortedBy string_cmp (keys_of es)
 ascend_from_seen f g es fs same = ascend_from_bytes (keys_of es) (keys_of fs) (sym (names_of-seen f es) ∙ ap (map (λ p. p.0)) same ∙ names_of-seen g fs)
 
-pub seen-named : {V C : Type 0} (f : V → C) (es : List (String Global × V)) → map (seen f) es ≡ map (λ p. (p.0, f p.1)) (named es)
-seen-named f [] = refl
-seen-named f (e ∷ es) = ap (λ ps. seen f e ∷ ps) (seen-named f es)
+pub seen-byte_entries : {V C : Type 0} (f : V → C) (es : List (String Global × V)) → map (seen f) es ≡ map (λ p. (p.0, f p.1)) (byte_entries es)
+seen-byte_entries f [] = refl
+seen-byte_entries f (e ∷ es) = ap (λ ps. seen f e ∷ ps) (seen-byte_entries f es)
 
 -- a map that has the pairs is seen as the pairs are
-pub seen-same : {V C : Type 0} (f : V → C) (es fs : List (String Global × V)) → named es ≡ named fs → map (seen f) es ≡ map (seen f) fs
-seen-same f es fs same = seen-named f es ∙ ap (map (λ p. (p.0, f p.1))) same ∙ sym (seen-named f fs)
+pub seen-same : {V C : Type 0} (f : V → C) (es fs : List (String Global × V)) → byte_entries es ≡ byte_entries fs → map (seen f) es ≡ map (seen f) fs
+seen-same f es fs same = seen-byte_entries f es ∙ ap (map (λ p. (p.0, f p.1))) same ∙ sym (seen-byte_entries f fs)
 
 -- ---- an entry above the others goes last
 

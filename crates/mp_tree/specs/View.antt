@@ -21,8 +21,8 @@ members_of [] = no_members
 members_of (m ∷ ms) = put m.0 m.1 (members_of ms)
 
 -- a map's entries, each name as its bytes
-abbrev pub named : {V : Type 0} → List (String Global × V) → List (List ℕ × V)
-named es = map (λ e. (string_bytes e.0, e.1)) es
+abbrev pub byte_entries : {V : Type 0} → List (String Global × V) → List (List ℕ × V)
+byte_entries es = map (λ e. (string_bytes e.0, e.1)) es
 
 -- one level, with each part already seen as its document
 abbrev pub document_step : Doc-F Document → Document
@@ -31,7 +31,7 @@ document_step (Doc-F.Flag b) = flag b
 document_step (Doc-F.Whole n) = whole (number_of n)
 document_step (Doc-F.Text s) = string (string_bytes s)
 document_step (Doc-F.Items v) = list (items_of v.items)
-document_step (Doc-F.Members m) = object (members_of (named m.entries))
+document_step (Doc-F.Members m) = object (members_of (byte_entries m.entries))
 
 -- the document that a `Doc` means
 abbrev pub document : Doc → Document

@@ -1,9 +1,9 @@
 //! Documents: copies, equality and depth.
 ghost use Rattle.std.specs.Prelude.{◌≡◌, ◌≤◌, ◌↔◌, IfOk, IsTrue};
 
-use crate::built::map_of;
-use crate::fits::is_within;
-use crate::same::is_same;
+use crate::building::map_of;
+use crate::comparing::is_same;
+use crate::measuring::is_within;
 use crate::whole::Whole;
 use std::alloc::{AllocError, Global};
 use std::collections::BTreeMap;

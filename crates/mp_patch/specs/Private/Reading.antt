@@ -11,7 +11,7 @@ use Rattle.mp_patch.specs.declared.reading.OpFault.TheVariants.{Form, OutOfMemor
 use Rattle.mp_patch.specs.declared.reading.OpName.{OpName}
 use Rattle.mp_patch.specs.declared.reading.OpName.TheVariants as op
 
--- the fault of element number op
+-- the fault of element number `number`
 abbrev pub fault_at : ℕ → OpFault → FormFault
 fault_at number (Form cause) = form_fault.Form number cause
 fault_at number OutOfMemory = form_fault.OutOfMemory

@@ -13,10 +13,10 @@ use Rattle.mp_patch.specs.declared.fault.Cause.TheVariants.{NoPlace, TooDeep}
 use Rattle.mp_patch.specs.declared.steps.StepFault.{StepFault}
 use Rattle.mp_patch.specs.declared.steps.StepFault.TheVariants.{Refused, OutOfMemory}
 
--- the fault of operation number op
+-- the fault of operation number `number`
 abbrev pub fault_at : ℕ → StepFault → ApplyFault
-fault_at op (Refused cause) = apply_fault.Refused op cause
-fault_at op OutOfMemory = apply_fault.OutOfMemory
+fault_at number (Refused cause) = apply_fault.Refused number cause
+fault_at number OutOfMemory = apply_fault.OutOfMemory
 
 -- the operation was taken from d to e, or is refused; want of memory says nothing
 abbrev pub Answers : Result (Unit {0}) StepFault → Document → Operation → Document → Type 0

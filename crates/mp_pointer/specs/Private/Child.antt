@@ -6,7 +6,7 @@ use Rattle.mp_pointer.specs.Spelling.{Tokens}
 
 -- the token at a place, as a list of tokens
 abbrev pub one_token : Tokens → ℕ → Tokens
-one_token t place = slice_range t place (place + 1)
+one_token t number = slice_range t number (number + 1)
 
 abbrev pub IsList : Document → Type 0
 IsList null = ⊥

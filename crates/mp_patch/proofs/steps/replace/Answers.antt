@@ -1,6 +1,6 @@
 use Rattle.std.proofs.Common.{◌≡◌, Some, MatchResult, IsTrue, IsFalse, take, arith, rules, sym, ap, ◌∙◌, subst}
 use Rattle.mp_tree.specs.View.{document}
-use Rattle.mp_pointer.specs.Only.{DifferOnlyAt}
+use Rattle.mp_pointer.specs.Difference.{DifferOnlyAt}
 use Rattle.mp_pointer.specs.Part.{part}
 use Rattle.mp_pointer.specs.Spelling.{Tokens}
 use Rattle.mp_patch.specs.declared.fault.Cause.TheVariants.{TooDeep}

@@ -5,13 +5,13 @@ use Rattle.mp_pointer.specs.Spelling.{spell, first_bad_tilde}
 use Rattle.mp_pointer.proofs.SpellingLemmas.{first_bad-front, first_bad-after, spell-push}
 use Rattle.mp_pointer.proofs.spelling.tokens_after.Goals as goal
 
-pub unescaped-requires-clause-between : goal.unescaped-requires-clause-between
-unescaped-requires-clause-between c =
+pub unescape-requires-clause-between : goal.unescape-requires-clause-between
+unescape-requires-clause-between c =
     let cut = rw c.in-Some.is at (split_parts 47 c.parts.rest.now c.split_once.result c.split_once.ensures.cases (omega arith)) in
     cut.1
 
-pub unescaped-requires-clause-escapes : goal.unescaped-requires-clause-escapes
-unescaped-requires-clause-escapes c =
+pub unescape-requires-clause-escapes : goal.unescape-requires-clause-escapes
+unescape-requires-clause-escapes c =
     let l = c.parts in
     let cut = rw c.in-Some.is at (split_parts 47 l.rest.now c.split_once.result c.split_once.ensures.cases (omega arith)) in
     first_bad-front c.in-Some.part.now c.in-Some.more.now (subst (λ xs. first_bad_tilde xs ≡ None) cut.0 l.invariant.1)
@@ -23,13 +23,13 @@ parts-preserved c =
     let more = c.in-Some.more.now in
     let cut = rw c.in-Some.is at (split_parts 47 l.rest.now c.split_once.result c.split_once.ensures.cases (omega arith)) in
     let before = map string_bytes l.tokens.items in
-    let token = c.in_ok-unescaped.field-0 in
+    let token = c.in_ok-unescape.field-0 in
     let now : spell (map string_bytes c.push.new.self.items) ≡ spell before ++ 47 ∷ part =
-    ap (λ ts. spell (map string_bytes ts)) c.in_ok-push.ensures.items ∙ ap spell (map-append string_bytes l.tokens.items (token ∷ [])) ∙ spell-push before (string_bytes token) part c.in_ok-unescaped.ensures in (
+    ap (λ ts. spell (map string_bytes ts)) c.in_ok-push.ensures.items ∙ ap spell (map-append string_bytes l.tokens.items (token ∷ [])) ∙ spell-push before (string_bytes token) part c.in_ok-unescape.ensures in (
       ap (λ xs. xs ++ 47 ∷ more) now ∙ append_assoc (spell before) (47 ∷ part) (47 ∷ more) ∙ ap (λ xs. spell before ++ 47 ∷ xs) (sym cut.0) ∙ l.invariant.0,
       first_bad-after part 47 more (subst (λ xs. first_bad_tilde xs ≡ None) cut.0 l.invariant.1),
       search rules,
     )
 
-pub unescaped-requires-2-clause-between : goal.unescaped-requires-2-clause-between
-unescaped-requires-2-clause-between c = rw c.in_default.is at (split_parts 47 c.parts.rest.now c.split_once.result c.split_once.ensures.cases (omega arith))
+pub unescape-requires-2-clause-between : goal.unescape-requires-2-clause-between
+unescape-requires-2-clause-between c = rw c.in_default.is at (split_parts 47 c.parts.rest.now c.split_once.result c.split_once.ensures.cases (omega arith))

@@ -29,15 +29,15 @@ tokens_after-requires c =
 
 pub returns-in-Some-bad_tilde-clause-fault : goal.returns-in-Some-bad_tilde-clause-fault
 returns-in-Some-bad_tilde-clause-fault c =
-    let place = c.in-Some-bad_tilde.place in
+    let offset = c.in-Some-bad_tilde.offset in
     let rest_is = rw c.in-Some.is at (strip_prefix_char 47 c.args.text.now c.strip_prefix.result c.strip_prefix.ensures.cases (omega arith)) in
-    (rw rest_is refl, subst (λ xs. IsFirstBadTilde xs place) c.as_bytes.ensures.value c.in-Some-bad_tilde.ensures)
+    (rw rest_is refl, subst (λ xs. IsFirstBadTilde xs offset) c.as_bytes.ensures.value c.in-Some-bad_tilde.ensures)
 
 pub returns-in-Some-bad_tilde-clause-tokens : goal.returns-in-Some-bad_tilde-clause-tokens
 returns-in-Some-bad_tilde-clause-tokens c = λ _.
-    let place = c.in-Some-bad_tilde.place in
+    let offset = c.in-Some-bad_tilde.offset in
     let rest_is = rw c.in-Some.is at (strip_prefix_char 47 c.args.text.now c.strip_prefix.result c.strip_prefix.ensures.cases (omega arith)) in
-    ap tokens_in rest_is ∙ tokens_in-bad_tilde c.in-Some.rest.now place (subst (λ xs. IsFirstBadTilde xs place) (c.as_bytes.ensures.value ∙ rest_is) c.in-Some-bad_tilde.ensures)
+    ap tokens_in rest_is ∙ tokens_in-bad_tilde c.in-Some.rest.now offset (subst (λ xs. IsFirstBadTilde xs offset) (c.as_bytes.ensures.value ∙ rest_is) c.in-Some-bad_tilde.ensures)
 
 pub returns-in_ok-tokens-in-None-clause-tokens : goal.returns-in_ok-tokens-in-None-clause-tokens
 returns-in_ok-tokens-in-None-clause-tokens c =

@@ -1,0 +1,11 @@
+use Rattle.std.proofs.Common.{◌∙◌, ap}
+use Rattle.std.proofs.lemmas.Result.{IfOk-weaker}
+use Rattle.mp_tree.specs.Text.{text as compact}
+use Rattle.mp_patch.specs.View.{operations_of}
+use Rattle.mp_cli.specs.Answered.{line, rewritten}
+use Rattle.mp_cli.proofs.answering.rewrite_patch.Goals as goal
+
+pub returns : goal.returns
+returns c =
+    let text = c.in_ok-write_doc.ensures.text ∙ ap compact c.in_ok-into_doc.ensures.document in
+    IfOk-weaker c.result_line.result _ _ (λ a is. rewritten (operations_of c.in_ok-edits.edits) c.in_ok-edits.ensures.rewriting (is ∙ ap (λ t. line t 0) text)) c.result_line.ensures
