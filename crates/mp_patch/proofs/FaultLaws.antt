@@ -8,9 +8,9 @@ use Rattle.mp_patch.specs.Laws.{FormsHaveNoFault, HasOneFault}
 use Rattle.mp_patch.specs.Operation.{Operation, append}
 use Rattle.mp_patch.specs.declared.fault.FormCause.{FormCause}
 use Rattle.mp_patch.specs.declared.fault.FormFault.TheVariants.{NotAnArray, Form, OutOfMemory}
-use Rattle.mp_patch.proofs.DocumentLemmas.{same_elements}
-use Rattle.mp_patch.proofs.FirstLemmas.{NoneHolds, none_first, one_first}
-use Rattle.mp_patch.proofs.NeedLemmas.{some_none, same_some, need_of, place_of, has_op, path_text, from_text, value_there}
+use Rattle.mp_patch.proofs.Documents.{same_elements}
+use Rattle.mp_patch.proofs.FirstCause.{NoneHolds, none_first, one_first}
+use Rattle.mp_patch.proofs.Needs.{some_none, same_some, need_of, place_of, has_op, path_text, from_text, value_there}
 
 -- ---- a form has no fault
 

@@ -7,8 +7,9 @@ use Rattle.mp_pointer.proofs.Facts.{has_one_spelling}
 use Rattle.mp_patch.specs.Form.{Carries, EachForm, IsForm, needed_members, shape}
 use Rattle.mp_patch.specs.Laws.{HasOneReading, ShapesAreForms}
 use Rattle.mp_patch.specs.Operation.{Operation, add, remove, replace, move, copy, test}
-use Rattle.mp_patch.proofs.DocumentLemmas.{same_members, same_elements, some_same}
-use Rattle.mp_patch.proofs.NeedLemmas.{letters}
+use Rattle.mp_tree.proofs.Facts.{members_of_object}
+use Rattle.mp_patch.proofs.Documents.{same_elements, some_same}
+use Rattle.mp_patch.proofs.Needs.{letters}
 
 -- ---- shapes
 
@@ -55,7 +56,7 @@ one_form ms (test t v) (test s w) a b = ap₂ test (same_place (codes "path") ms
 one_form ms o p a b = absurd (omega (arith, one_name ms _ _ a.0 b.0))
 
 same_form : (d : Document) (o p : Operation) → IsForm d o → IsForm d p → o ≡ p
-same_form d o p (ms, is, a) (es, was, b) = one_form ms o p a (subst (λ m. Carries m (needed_members p)) (same_members es ms (sym was ∙ is)) b)
+same_form d o p (ms, is, a) (es, was, b) = one_form ms o p a (subst (λ m. Carries m (needed_members p)) (members_of_object es ms (sym was ∙ is)) b)
 
 each_same : (ds : Items) (operations others : List Operation) → EachForm ds operations → EachForm ds others → operations ≡ others
 each_same no_items [] [] a b = refl

@@ -14,7 +14,7 @@ use Rattle.mp_patch.specs.declared.fault.FormFault.TheVariants as form_fault
 use Rattle.mp_patch.specs.declared.reading.OpFault.TheVariants.{Form}
 use Rattle.mp_pointer.specs.Part.{count_of}
 use Rattle.mp_tree.proofs.Facts.{decide_name}
-use Rattle.mp_patch.proofs.FormLemmas.{map_fault, no_pointer}
+use Rattle.mp_patch.proofs.Forms.{map_fault, no_pointer}
 
 -- the tokens that a text spells, where it spells some
 spelled : (text : List ℕ) → ((t : Tokens) × (text ≡ spell t)) ⊎ IsNoPointer text

@@ -11,8 +11,8 @@ use Rattle.mp_patch.specs.Operation.{AddsTo, to_map, to_list, RemovesFrom, from_
 use Rattle.mp_patch.specs.Refusal.{LacksPlace, HasNoPlace}
 use Rattle.mp_pointer.proofs.Facts.{ChildChanges, set_item, element_changes, value_changes}
 use Rattle.mp_tree.proofs.Facts.{decide_name}
-use Rattle.mp_patch.proofs.DocumentLemmas.{part-document}
-use Rattle.mp_patch.proofs.StepLemmas.{has_place, root_place}
+use Rattle.mp_patch.proofs.Documents.{part-document}
+use Rattle.mp_patch.proofs.SingleSteps.{has_place, root_place}
 
 -- ---- a part can be changed
 

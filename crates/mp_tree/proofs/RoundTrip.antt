@@ -27,7 +27,7 @@ use Rattle.mp_tree.specs.Document.{Document, null, flag, whole, string, list, ob
 use Rattle.mp_tree.specs.Laws.{ReadsBack, EqualTexts}
 use Rattle.mp_tree.specs.Text.{document_from, data_of, items_data, members_data, text, read, reading}
 use Rattle.mp_tree.proofs.Names.{below_is_above}
-use Rattle.mp_tree.proofs.TextLemmas.{depth-data_of, document_from-data_of}
+use Rattle.mp_tree.proofs.Texts.{depth-data_of, document_from-data_of}
 
 -- ---- a whole number's digits
 

@@ -3,7 +3,8 @@ use Rattle.std.specs.Prelude.{◌≡◌, IfOk, codes, Result}
 use Rattle.std.specs.declared.alloc.AllocError.{AllocError}
 use Rattle.mp_merge.specs.declared.fault.ListFault.{ListFault}
 use Rattle.mp_merge.specs.declared.fault.ListFault.TheVariants.{NoPatches, ConflictOf, OutOfMemory as ListMemory}
-use Rattle.mp_cli.specs.Answered.{Answered, answered_by, conflict_line, line, no_patches}
+use Rattle.mp_cli.specs.Answered.{answered_by}
+use Rattle.mp_cli.specs.Lines.{Answered, conflict_line, line, no_patches}
 use Rattle.mp_cli.specs.declared.answers.Answer.{Answer}
 
 -- why a list has no join, or can't be replayed

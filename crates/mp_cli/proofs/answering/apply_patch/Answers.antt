@@ -2,8 +2,9 @@ use Rattle.std.proofs.Common.{◌∙◌, ap}
 use Rattle.std.proofs.lemmas.Result.{IfOk-weaker}
 use Rattle.mp_tree.specs.View.{document}
 use Rattle.mp_tree.proofs.Facts.{IsDocument-document}
-use Rattle.mp_cli.specs.Answered.{line, ran, halted}
-use Rattle.mp_cli.proofs.AnswerLemmas.{if_both}
+use Rattle.mp_cli.specs.Answered.{ran, halted}
+use Rattle.mp_cli.specs.Lines.{line}
+use Rattle.mp_cli.proofs.AnswerCases.{if_both}
 use Rattle.mp_cli.proofs.answering.apply_patch.Goals as goal
 
 pub returns-in_ok-write_doc-in-Ok : goal.returns-in_ok-write_doc-in-Ok

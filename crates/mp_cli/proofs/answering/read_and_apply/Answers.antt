@@ -1,7 +1,7 @@
 use Rattle.std.proofs.lemmas.Result.{IfOk-weaker}
 use Rattle.mp_patch.specs.View.{operations_of}
 use Rattle.mp_cli.specs.Answered.{malformed, formed}
-use Rattle.mp_cli.proofs.AnswerLemmas.{if_both}
+use Rattle.mp_cli.proofs.AnswerCases.{if_both}
 use Rattle.mp_cli.proofs.answering.read_and_apply.Goals as goal
 
 pub returns-in-Ok : goal.returns-in-Ok

@@ -2,8 +2,9 @@ use Rattle.std.proofs.Common.{◌≡◌, ◌==◌, ◌∷◌, ◌∙◌, map, ap
 use Rattle.std.proofs.lemmas.Result.{IfOk-weaker}
 use Rattle.mp_tree.specs.View.{document}
 use Rattle.mp_tree.proofs.Facts.{IsDocument-document}
-use Rattle.mp_cli.specs.Answered.{line, replayed}
-use Rattle.mp_cli.proofs.AnswerLemmas.{first_and_rest, no_replay, if_both, replay_answer}
+use Rattle.mp_cli.specs.Answered.{replayed}
+use Rattle.mp_cli.specs.Lines.{line}
+use Rattle.mp_cli.proofs.AnswerCases.{first_and_rest, no_replay, if_both, replay_answer}
 use Rattle.mp_cli.proofs.answering.replay.Goals as goal
 
 pub returns-in-Ok : goal.returns-in-Ok

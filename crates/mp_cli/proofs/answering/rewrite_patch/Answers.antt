@@ -2,7 +2,8 @@ use Rattle.std.proofs.Common.{◌∙◌, ap}
 use Rattle.std.proofs.lemmas.Result.{IfOk-weaker}
 use Rattle.mp_tree.specs.Text.{text as compact}
 use Rattle.mp_patch.specs.View.{operations_of}
-use Rattle.mp_cli.specs.Answered.{line, rewritten}
+use Rattle.mp_cli.specs.Answered.{rewritten}
+use Rattle.mp_cli.specs.Lines.{line}
 use Rattle.mp_cli.proofs.answering.rewrite_patch.Goals as goal
 
 pub returns : goal.returns

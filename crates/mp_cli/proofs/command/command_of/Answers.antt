@@ -1,6 +1,6 @@
 use Rattle.std.proofs.Common.{◌∙◌, List, Option, ap, ap₂, map, string_bytes, subst, sym}
 use Rattle.clap.specs.Words.{Row, Text, fault_of, is_simple_and_free, subcommand_of, takes}
-use Rattle.mp_cli.proofs.CommandLineLemmas.{command_line-simple, matches-asked_for, matches-known, matches-pointer, matches-rows, HasKind-help, HasKind-mistake}
+use Rattle.mp_cli.proofs.CommandLine.{command_line-simple, matches-asked_for, matches-known, matches-pointer, matches-rows, HasKind-help, HasKind-mistake}
 use Rattle.mp_cli.specs.CommandLine.{asked_for, command_line, pointer_in, CarriesPointer}
 use Rattle.mp_cli.proofs.command.command_of.Goals as goal
 

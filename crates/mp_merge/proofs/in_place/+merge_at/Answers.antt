@@ -10,8 +10,8 @@ use Rattle.mp_tree.proofs.Facts.{IsMap-members, IsDocument-document, members-con
 use Rattle.mp_merge.specs.Application.{set_or_remove, merge_patch, merge_patch_members, target_members}
 use Rattle.mp_merge.specs.Private.Merging.{NeedsNoneAt, NeedsNoneIn, ResumesAt}
 use Rattle.mp_merge.specs.Resumption.{NeedsNoMemory}
-use Rattle.mp_merge.proofs.ApplicationLemmas.{merge_patch_members-step, set_or_remove-other}
-use Rattle.mp_merge.proofs.InPlace.{IsAmong, IsUntouched, absent_needs, changed_resumes, first_among, first_untouched, merges_into_null, needs_in, present_needs, rest_among, rest_untouched, resumes_all, set_resumes}
+use Rattle.mp_merge.proofs.Application.ByName.{merge_patch_members-step, set_or_remove-other}
+use Rattle.mp_merge.proofs.Application.Resumption.{IsAmong, IsUntouched, absent_needs, changed_resumes, first_among, first_untouched, merges_into_null, needs_in, present_needs, rest_among, rest_untouched, resumes_all, set_resumes}
 use Rattle.mp_merge.proofs.in_place.+merge_at.Goals as goal
 
 -- ---- an object into a target

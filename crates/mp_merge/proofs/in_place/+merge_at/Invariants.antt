@@ -3,7 +3,7 @@ use Rattle.std.specs.List.Sorted.{IsStrictlySortedBy}
 use Rattle.std.specs.Map.{keys_of}
 use Rattle.mp_tree.specs.Private.Entries.{members}
 use Rattle.mp_merge.specs.Application.{merge_patch_members}
-use Rattle.mp_merge.proofs.InPlace.{IsAmong, IsUntouched}
+use Rattle.mp_merge.proofs.Application.Resumption.{IsAmong, IsUntouched}
 use Rattle.mp_merge.proofs.in_place.+merge_at.Given as goal
 
 -- the changes that are left, applied to the entries as they are, give the result; all changes, applied again, give it too

@@ -2,7 +2,7 @@ use Rattle.std.proofs.Common.{◌≤◌, max, Some, sym, subst}
 use Rattle.std.proofs.lemmas.Result.{on_ok_weaker}
 use Rattle.mp_tree.specs.Document.{depth}
 use Rattle.mp_tree.specs.View.{document}
-use Rattle.mp_merge.proofs.DepthLemmas.{depth-merge_patch}
+use Rattle.mp_merge.proofs.Application.Depth.{depth-merge_patch}
 use Rattle.mp_merge.proofs.in_place.merge_into.Goals as goal
 
 pub returns-clause-depth : goal.returns-clause-depth

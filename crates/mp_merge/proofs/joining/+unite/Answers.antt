@@ -5,8 +5,8 @@ use Rattle.mp_tree.specs.Private.Entries.{members}
 use Rattle.mp_tree.specs.declared.doc.Doc.{Doc}
 use Rattle.mp_tree.proofs.Facts.{document-Members, find-members, IsMap-members, members-inserted}
 use Rattle.mp_merge.specs.Private.Unions.{union_with, union_members}
-use Rattle.mp_merge.proofs.Unions.{union_with-absent, union_members-step}
-use Rattle.mp_merge.proofs.WalkLemmas.{next_member, rest_ascends}
+use Rattle.mp_merge.proofs.Joins.Union.{union_with-absent, union_members-step}
+use Rattle.mp_merge.proofs.Collections.Members.{next_member, rest_ascends}
 use Rattle.mp_merge.proofs.joining.+unite.Goals as goal
 
 pub unite_entry-returns-in_ok-slot-in-Some : goal.unite_entry-returns-in_ok-slot-in-Some

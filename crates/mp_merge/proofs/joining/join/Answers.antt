@@ -5,8 +5,8 @@ use Rattle.mp_tree.proofs.Facts.{IsDocument-document}
 use Rattle.mp_merge.specs.Clash.{Compatible}
 use Rattle.mp_merge.specs.Join.{IsJoin}
 use Rattle.mp_merge.specs.Private.Unions.{union}
-use Rattle.mp_merge.proofs.ClashesByName.{compatible-sym}
-use Rattle.mp_merge.proofs.Unions.{union_grows_join, join-one, depth-union}
+use Rattle.mp_merge.proofs.Clashes.ByName.{compatible-sym}
+use Rattle.mp_merge.proofs.Joins.Union.{union_grows_join, join-one, depth-union}
 use Rattle.mp_merge.proofs.joining.join.Goals as goal
 
 pub returns-clause-joined : goal.returns-clause-joined

@@ -8,7 +8,7 @@ use Rattle.mp_tree.specs.declared.doc.Doc.{Doc}
 use Rattle.mp_tree.proofs.Facts.{IsMap-members, members-cons, find-members, members-inserted, members-removed}
 use Rattle.mp_tree.proofs.Facts.{document-Members}
 use Rattle.mp_merge.specs.Application.{set_or_remove, merge_patch, merge_patch_members}
-use Rattle.mp_merge.proofs.ApplicationLemmas.{merge_patch_members-step, set_or_remove-other}
+use Rattle.mp_merge.proofs.Application.ByName.{merge_patch_members-step, set_or_remove-other}
 use Rattle.mp_merge.proofs.merging.+owned_merge.Goals as goal
 
 pub change_entry-returns-then-is_null : goal.change_entry-returns-then-is_null

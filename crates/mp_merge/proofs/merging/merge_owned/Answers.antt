@@ -3,7 +3,7 @@ use Rattle.std.proofs.lemmas.Result.{IfOk-weaker}
 use Rattle.mp_tree.specs.Document.{depth}
 use Rattle.mp_tree.specs.View.{document}
 use Rattle.mp_merge.specs.Application.{depth_of, merge_patch}
-use Rattle.mp_merge.proofs.DepthLemmas.{depth-merge_patch}
+use Rattle.mp_merge.proofs.Application.Depth.{depth-merge_patch}
 use Rattle.mp_merge.proofs.merging.merge_owned.Goals as goal
 
 pub returns-clause-depth : goal.returns-clause-depth

@@ -6,10 +6,11 @@ use Rattle.mp_tree.specs.Private.Entries.{members}
 use Rattle.mp_tree.specs.declared.doc.Doc.{Doc}
 use Rattle.mp_tree.proofs.Facts.{document-Members}
 use Rattle.mp_merge.specs.Private.Edits.{AreMemberEdits, all_edits}
-use Rattle.mp_merge.proofs.Clashes.{back_again}
-use Rattle.mp_merge.proofs.EditWalks.{both_maps, IsEditsRest, edits_after_one, lent_part, renamed}
-use Rattle.mp_merge.proofs.Grown.{grew_by_all}
-use Rattle.mp_merge.proofs.WalkLemmas.{next_member, rest_ascends, looked_up}
+use Rattle.mp_pointer.proofs.Facts.{lent_part}
+use Rattle.mp_merge.proofs.Clashes.Conflicts.{back_again}
+use Rattle.mp_merge.proofs.Rewritings.Walk.{both_maps, IsEditsRest, edits_after_one, renamed}
+use Rattle.mp_merge.proofs.Collections.Growth.{grew_by_all}
+use Rattle.mp_merge.proofs.Collections.Members.{next_member, rest_ascends, looked_up}
 use Rattle.mp_merge.proofs.rewriting.+push_edits.Goals as goal
 
 pub push_edits-returns-in_ok-push_member_edits-in-Members-there-clause-path : goal.push_edits-returns-in_ok-push_member_edits-in-Members-there-clause-path

@@ -3,7 +3,7 @@ use Rattle.std.specs.List.Sorted.{IsStrictlySortedBy}
 use Rattle.std.specs.Map.{keys_of}
 use Rattle.mp_tree.specs.Private.Entries.{members}
 use Rattle.mp_merge.specs.Private.Edits.{all_edits}
-use Rattle.mp_merge.proofs.EditWalks.{IsEditsRest}
+use Rattle.mp_merge.proofs.Rewritings.Walk.{IsEditsRest}
 use Rattle.mp_merge.proofs.rewriting.+push_edits.Given as goal
 
 -- the edits of the changes that are left, added to those that are there, are the edits of all

@@ -4,7 +4,7 @@ use Rattle.mp_tree.specs.View.{document}
 use Rattle.mp_tree.specs.declared.doc.Doc.{Doc}
 use Rattle.mp_merge.specs.Private.Edits.{IsOneEdit, NotBothMaps, all_edits}
 use Rattle.mp_merge.specs.Private.Growth.{Grew}
-use Rattle.mp_merge.proofs.EditWalks.{grew_by_one, leaves_value, edit_removes, edit_adds, edit_replaces}
+use Rattle.mp_merge.proofs.Rewritings.Walk.{grew_by_one, leaves_value, edit_removes, edit_adds, edit_replaces}
 use Rattle.mp_merge.proofs.rewriting.push_edit.Goals as goal
 
 pub returns-then-is_null : goal.returns-then-is_null

@@ -1,7 +1,7 @@
 use Rattle.std.proofs.Common.{[], ◌∷◌, Some, refl, sym, ◌∙◌, subst, true≢false}
 use Rattle.mp_tree.specs.View.{document}
 use Rattle.mp_merge.specs.Private.Edits.{IsOneEdit}
-use Rattle.mp_merge.proofs.EditWalks.{grew_by_one, edit_replaces}
+use Rattle.mp_merge.proofs.Rewritings.Walk.{grew_by_one, edit_replaces}
 use Rattle.mp_merge.proofs.rewriting.push_root_edit.Goals as goal
 
 pub returns : goal.returns

@@ -11,8 +11,8 @@ use Rattle.mp_merge.specs.Application.{merge_patch}
 use Rattle.mp_merge.specs.Private.Edits.{AreEdits, GuardedEdit, all_edits}
 use Rattle.mp_merge.specs.Rewriting.{IsRewriting}
 use Rattle.mp_merge.specs.Private.Growth.{Grew}
-use Rattle.mp_merge.proofs.AnyOrder.{rewriting_runs}
-use Rattle.mp_merge.proofs.Listings.{walk_is_rewriting}
+use Rattle.mp_merge.proofs.Rewritings.AnyOrder.{rewriting_runs}
+use Rattle.mp_merge.proofs.Rewritings.Computed.{walk_is_rewriting}
 use Rattle.mp_merge.proofs.rewriting.rewrite.Goals as goal
 
 -- the tests of what the walk found, and then its edits

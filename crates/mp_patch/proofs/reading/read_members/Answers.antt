@@ -5,7 +5,7 @@ use Rattle.mp_tree.specs.Document.{object}
 use Rattle.mp_tree.specs.Private.Entries.{members}
 use Rattle.mp_patch.specs.Form.{text_at}
 use Rattle.mp_patch.specs.Private.Reading.{name_of}
-use Rattle.mp_patch.proofs.FormLemmas.{origin_fault}
+use Rattle.mp_patch.proofs.Forms.{origin_fault}
 use Rattle.mp_patch.proofs.reading.read_members.Goals as goal
 
 pub returns-in_err-origin-in-Move : goal.returns-in_err-origin-in-Move

@@ -3,7 +3,7 @@ use Rattle.std.proofs.lemmas.Result.{err_from_is_err_and}
 use Rattle.mp_tree.specs.View.{document}
 use Rattle.mp_tree.proofs.Facts.{IsDocument-document}
 use Rattle.mp_pointer.specs.Spelling.{IsProperPrefix}
-use Rattle.mp_patch.proofs.MoveLemmas.{moved, not_moved}
+use Rattle.mp_patch.proofs.Moves.{moved, not_moved}
 use Rattle.mp_patch.proofs.steps.move_part.Goals as goal
 
 pub returns-in_err-part : goal.returns-in_err-part

@@ -5,7 +5,7 @@ use Rattle.mp_pointer.specs.Part.{part}
 use Rattle.mp_pointer.specs.Spelling.{Tokens}
 use Rattle.mp_patch.specs.declared.fault.Cause.TheVariants.{TooDeep}
 use Rattle.mp_patch.specs.declared.steps.StepFault.TheVariants.{Refused}
-use Rattle.mp_patch.proofs.StepLemmas.{to_end, replaced, set_means}
+use Rattle.mp_patch.proofs.SingleSteps.{to_end, replaced, set_means}
 use Rattle.mp_patch.proofs.steps.replace.Goals as goal
 
 pub returns-in-Some : goal.returns-in-Some

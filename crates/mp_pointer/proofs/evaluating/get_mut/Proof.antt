@@ -1,7 +1,7 @@
 -- By hand, since no proof is generated of what a lender ends as where it has the result's type, nor in a loop: `get_mut` walks
 -- down by `child_mut`, and the document follows the target. Assumes `Logic`.
 -- How it goes: at each turn the target is owned, and it is known where it stands and how the document follows it
--- (`WalkLemmas.antt`'s `Reached`). A child that is lent takes the target's place, and the document follows it by both steps
+-- (`Evaluation.antt`'s `Reached`). A child that is lent takes the target's place, and the document follows it by both steps
 -- (`follows_then`). Where none is lent, the target came back as it was, and so did the document (`nothing_changed`). After the
 -- last token the target is what is returned (`so_made`).
 --     ends      from how the document follows what is returned, that, and the two tokens, the function may return
@@ -52,8 +52,8 @@ use Rattle.mp_pointer.specs.Part.{part}
 use Rattle.mp_tree.specs.Rows.{doc_row}
 use Rattle.mp_pointer.specs.contracts.pointer.Pointer as pointer
 use Rattle.mp_pointer.proofs.pointer.Pointer.TheLaws as pointer_laws
-use Rattle.mp_pointer.proofs.Following.{follows_self, arm_of, cases, spelled, place_of, some_apart, none_apart, so_opened, so_made, then_so}
-use Rattle.mp_pointer.proofs.WalkLemmas.{Reached, becomes_root, next_stood, next_made, nothing_further, nothing_changed, all_taken}
+use Rattle.mp_pointer.proofs.FollowedBorrows.{follows_self, arm_of, cases, spelled, place_of, some_apart, none_apart, so_opened, so_made, then_so}
+use Rattle.mp_pointer.proofs.Evaluation.{Reached, becomes_root, next_stood, next_made, nothing_further, nothing_changed, all_taken}
 use Rattle.mp_pointer.specs.contracts.evaluating.get_mut as f
 use Rattle.mp_pointer.proofs.evaluating.get_mut.Statement.{statement}
 use Rattle.mp_pointer.proofs.evaluating.get_mut.Code as code

@@ -1,7 +1,7 @@
 -- By hand, since no proof is generated of what a lender ends as where it has the result's type: `child_mut` lends the child
 -- that one token names, and the document follows it. Assumes `Logic`.
 -- How it goes: the document is lent as `&` to `is_list` and comes back. In a list it is given up to `elements_of`, so it follows
--- its elements, and they follow the element that `element_mut` lends (`Following.antt`'s `then_so`). Elsewhere `members_mut`
+-- its elements, and they follow the element that `element_mut` lends (`FollowedBorrows.antt`'s `then_so`). Elsewhere `members_mut`
 -- and `value_mut` do the same for a map, and for a scalar nothing was lent and the old value is said (`none_so`).
 --     ends      from how the document follows what is returned, that, and the two tokens, the function may return
 -- Of the body it needs: the order of its statements and calls, with the `switch` as the sixth (`s-6`) and what runs after it
@@ -50,8 +50,8 @@ use Rattle.mp_pointer.specs.contracts.pointer.Pointer as pointer
 use Rattle.mp_pointer.specs.Lending.{LendsPart, LendsPartOf, PartBecomes}
 use Rattle.mp_pointer.specs.Private.Child.{IsList, one_token}
 use Rattle.mp_tree.specs.Rows.{doc_row, items_row, members_row}
-use Rattle.mp_pointer.proofs.LentLemmas.{scalar_part}
-use Rattle.mp_pointer.proofs.Following.{arm_of, when_true, when_false, cases, spelled, spelled_typed, option_spelled, some_apart, none_apart, none_so, then_so, shares_again, shared_back, Kept}
+use Rattle.mp_pointer.proofs.LentParts.{scalar_part}
+use Rattle.mp_pointer.proofs.FollowedBorrows.{arm_of, when_true, when_false, cases, spelled, spelled_typed, option_spelled, some_apart, none_apart, none_so, then_so, shares_again, shared_back, Kept}
 use Rattle.mp_pointer.specs.contracts.lending.child_mut as f
 use Rattle.mp_pointer.proofs.lending.child_mut.Statement.{statement}
 use Rattle.mp_pointer.proofs.lending.child_mut.Code as code

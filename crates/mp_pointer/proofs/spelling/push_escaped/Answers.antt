@@ -1,7 +1,7 @@
 use Rattle.std.proofs.Common.{◌++◌, ap, ◌∙◌, arith, rules}
 use Rattle.std.proofs.lemmas.Str.Pattern.{split_parts}
 use Rattle.mp_pointer.specs.Spelling.{escaped_byte}
-use Rattle.mp_pointer.proofs.SpellingLemmas.{escape_step}
+use Rattle.mp_pointer.proofs.Spellings.{escape_step}
 use Rattle.mp_pointer.proofs.spelling.push_escaped.Goals as goal
 
 pub push_without_tildes-requires : goal.push_without_tildes-requires

@@ -2,7 +2,7 @@ use Rattle.std.proofs.Common.{◌≡◌, [], ◌∷◌, ◌++◌, map, None, str
 use Rattle.std.proofs.lemmas.List.{map-append}
 use Rattle.std.proofs.lemmas.Str.Pattern.{split_parts}
 use Rattle.mp_pointer.specs.Spelling.{spell, first_bad_tilde}
-use Rattle.mp_pointer.proofs.SpellingLemmas.{first_bad-front, first_bad-after, spell-push}
+use Rattle.mp_pointer.proofs.Spellings.{first_bad-front, first_bad-after, spell-push}
 use Rattle.mp_pointer.proofs.spelling.tokens_after.Goals as goal
 
 pub unescape-requires-clause-between : goal.unescape-requires-clause-between

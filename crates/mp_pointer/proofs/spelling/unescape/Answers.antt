@@ -3,7 +3,7 @@ use Rattle.std.proofs.lemmas.List.Concat.{flat_map-append}
 use Rattle.std.proofs.lemmas.Str.Pattern.{split_parts, strip_prefix_char}
 use Rattle.mp_pointer.specs.Spelling.{escape, escaped_byte, first_bad_tilde}
 use lib.Utf8.{encode}
-use Rattle.mp_pointer.proofs.SpellingLemmas.{Lacks, Lacks-front, Lacks-after, escape-plain, unescape_step, first_bad-after, escape_follows}
+use Rattle.mp_pointer.proofs.Spellings.{Lacks, Lacks-front, Lacks-after, escape-plain, unescape_step, first_bad-after, escape_follows}
 use Rattle.mp_pointer.proofs.spelling.unescape.Goals as goal
 
 pub escapes-preserved-in-Some-strip_prefix : goal.escapes-preserved-in-Some-strip_prefix

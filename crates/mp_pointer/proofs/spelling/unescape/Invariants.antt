@@ -1,6 +1,6 @@
 use Rattle.std.proofs.Common.{◌≡◌, ◌++◌, length, None, IsUtf8, string_bytes}
 use Rattle.mp_pointer.specs.Spelling.{escape, first_bad_tilde}
-use Rattle.mp_pointer.proofs.SpellingLemmas.{Lacks}
+use Rattle.mp_pointer.proofs.Spellings.{Lacks}
 use Rattle.mp_pointer.proofs.spelling.unescape.Given as goal
 
 abbrev pub invariant-escapes : goal.invariant-escapes

@@ -2,7 +2,7 @@ use Rattle.std.proofs.Common.{◌≡◌, [], ◌∷◌, ◌++◌, sym, ap, ◌�
 use Rattle.std.specs.List.Sorted.{IsStrictlySortedBy}
 use Rattle.std.specs.Map.{keys_of}
 use Rattle.std.specs.Vec.Iter.{into_iter_items}
-use Rattle.mp_tree.proofs.BuiltMaps.{insert-last}
+use Rattle.mp_tree.proofs.MapBuilding.{insert-last}
 use Rattle.mp_tree.proofs.Lists.{empty_from_length}
 use Rattle.mp_tree.proofs.building.map_by_insertion.Goals as goal
 

@@ -8,7 +8,7 @@ use Rattle.serde_json.proofs.Views.{view-Object}
 use Rattle.mp_tree.specs.Document.{object}
 use Rattle.mp_tree.specs.Text.{document_from, items_from, members_from}
 use Rattle.mp_tree.specs.declared.doc.Doc.{Doc}
-use Rattle.mp_tree.proofs.BuiltMaps.{seen, seen-same, ascend_from_seen, insert-last-seen}
+use Rattle.mp_tree.proofs.MapBuilding.{seen, seen-same, ascend_from_seen, insert-last-seen}
 use Rattle.mp_tree.proofs.FromData.{from_value, read_as, items_from-all, items_from-none, members_from-all, members_from-none}
 use Rattle.mp_tree.proofs.Lists.{map-push, empty_from_length}
 use Rattle.mp_tree.proofs.Meaning.{document-Members}

@@ -1,7 +1,7 @@
 use Rattle.std.proofs.Common.{◌≡◌, List, ◌++◌, map, String, Global}
 use Rattle.std.specs.Vec.Iter.{into_iter_items}
 use Rattle.serde_json.specs.declared.value.Value.{Value}
-use Rattle.mp_tree.proofs.BuiltMaps.{seen}
+use Rattle.mp_tree.proofs.MapBuilding.{seen}
 use Rattle.mp_tree.proofs.FromData.{from_value, read_as}
 use Rattle.mp_tree.proofs.converting.+doc_of.Given as goal
 

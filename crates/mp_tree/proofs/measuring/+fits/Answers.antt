@@ -5,7 +5,7 @@ use Rattle.mp_tree.specs.View.{document, items}
 use Rattle.mp_tree.specs.Private.Entries.{members}
 use Rattle.mp_tree.proofs.Depths.{items_depth_from_each, items_depth-append, members_depth-members}
 use Rattle.mp_tree.proofs.Meaning.{document-Members}
-use Rattle.mp_tree.proofs.ReadLemmas.{item_depth}
+use Rattle.mp_tree.proofs.ReadValues.{item_depth}
 use Rattle.mp_tree.proofs.measuring.+fits.Goals as goal
 
 pub are_items_within-returns-then-not-is_within : goal.are_items_within-returns-then-not-is_within

@@ -4,7 +4,7 @@ use Rattle.mp_tree.specs.Text.{data_of, read}
 use Rattle.mp_tree.specs.View.{document}
 use Rattle.mp_tree.proofs.Meaning.{IsDocument-document, HasTexts-document, IsInRange-document}
 use Rattle.mp_tree.proofs.RoundTrip.{read-text}
-use Rattle.mp_tree.proofs.TextLemmas.{has_float-data_of}
+use Rattle.mp_tree.proofs.Texts.{has_float-data_of}
 use Rattle.mp_tree.proofs.writing.write_doc.Goals as goal
 
 -- the text is that of the document, which has no float

@@ -1,6 +1,6 @@
 use Rattle.std.proofs.Common.{◌≡◌, Some, length, take, string_bytes, refl, sym, ap, ◌∙◌, arith, true≢false}
 use Rattle.std.proofs.lemmas.List.{length-map}
-use Rattle.mp_pointer.proofs.TokenLemmas.{token_at, take_step, proper_prefix, no_prefix_of_other, texts_differ}
+use Rattle.mp_pointer.proofs.TokenLists.{token_at, take_step, proper_prefix, no_prefix_of_other, texts_differ}
 use Rattle.mp_pointer.proofs.pointer.Pointer.is_proper_prefix_of.Goals as goal
 
 pub returns-then-ne : goal.returns-then-ne

@@ -2,7 +2,7 @@ use Rattle.std.proofs.Common.{◌≡◌, ◌≢◌, [], ◌∷◌, Ok, None, len
 use Rattle.std.proofs.lemmas.List.{nil_from_length}
 use Rattle.std.proofs.lemmas.Str.Pattern.{strip_prefix_char}
 use Rattle.mp_pointer.specs.Spelling.{IsFirstBadTilde, first_bad_tilde, tokens_in}
-use Rattle.mp_pointer.proofs.SpellingLemmas.{first_bad-none, first_bad-back, lacks_slash, tokens_in-spell, tokens_in-no_slash, tokens_in-bad_tilde}
+use Rattle.mp_pointer.proofs.Spellings.{first_bad-none, first_bad-back, lacks_slash, tokens_in-spell, tokens_in-no_slash, tokens_in-bad_tilde}
 use Rattle.mp_pointer.proofs.pointer.Pointer.parse.Goals as goal
 
 pub returns-then-is_empty-clause-tokens : goal.returns-then-is_empty-clause-tokens
