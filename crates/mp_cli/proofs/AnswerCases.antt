@@ -6,7 +6,8 @@ use Rattle.mp_tree.specs.declared.doc.Doc.{Doc}
 use Rattle.mp_merge.specs.Lists.{IsJoinAllFault, IsReplayFault}
 use Rattle.mp_merge.specs.declared.fault.ListFault.{ListFault}
 use Rattle.mp_merge.specs.declared.fault.ListFault.TheVariants.{NoPatches, ConflictOf, OutOfMemory}
-use Rattle.mp_cli.specs.Answered.{list_of, IsJoinAnswer, none_joined, join_refused, IsReplayAnswer, replay_refused, IsPatchAnswerTo, IsReplayAnswerTo, IsRewriteAnswerTo}
+use Rattle.mp_cli.specs.Answered.{IsJoinAnswer, none_joined, join_refused, IsReplayAnswer, replay_refused, IsPatchAnswerTo, IsReplayAnswerTo, IsRewriteAnswerTo}
+use Rattle.mp_tree.specs.Elements.{list_of}
 use Rattle.mp_cli.specs.Lines.{Answered, wrong_shape}
 use Rattle.mp_cli.specs.Private.Answers.{list_fault}
 

@@ -10,7 +10,8 @@ use Rattle.mp_patch.specs.Operation.{Operation}
 use Rattle.mp_patch.specs.declared.fault.ApplyFault.TheVariants.{Refused}
 use Rattle.mp_patch.proofs.Facts.{forms_have_documents, is_form_or_faulty, runs_or_is_refused}
 use Rattle.mp_merge.proofs.Facts.{compatible_or_told, join_exists, outcome_exists, rewriting_exists}
-use Rattle.mp_cli.specs.Answered.{list_of, merge_answer, IsRunAnswer, ran, halted, IsPatchAnswer, malformed, formed, IsJoinAnswer, joined, none_joined, join_refused, IsReplayAnswer, replayed, replay_refused, IsRewriteAnswer, rewritten, IsPatchAnswerTo, IsReplayAnswerTo, IsRewriteAnswerTo, IsAnswerTo, IsChecked, IsAnswered}
+use Rattle.mp_cli.specs.Answered.{merge_answer, IsRunAnswer, ran, halted, IsPatchAnswer, malformed, formed, IsJoinAnswer, joined, none_joined, join_refused, IsReplayAnswer, replayed, replay_refused, IsRewriteAnswer, rewritten, IsPatchAnswerTo, IsReplayAnswerTo, IsRewriteAnswerTo, IsAnswerTo, IsChecked, IsAnswered}
+use Rattle.mp_tree.specs.Elements.{list_of}
 use Rattle.mp_cli.specs.Lines.{Answered, result_line, conflict_line, form_fault, run_fault, no_patches, wrong_shape, input_fault}
 use Rattle.mp_cli.specs.Laws.{AnswerExists}
 use Rattle.mp_cli.specs.declared.command.Command.{Command}

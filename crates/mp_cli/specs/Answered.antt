@@ -1,9 +1,10 @@
 -- What the program answers to its command and its input bytes.
-use Rattle.std.specs.Prelude.{◌≡◌, ◌≢◌, ℕ, string_bytes, List, [], ◌∷◌, Result, Ok, Err}
+use Rattle.std.specs.Prelude.{◌≡◌, ◌≢◌, ℕ, string_bytes, List, [], Result, Ok, Err}
 use Rattle.mp_tree.specs.Document.{Document, Items, no_items, item, IsDocument}
 use Rattle.mp_tree.specs.Look.{Path}
 use Rattle.mp_tree.specs.Text.{documents_in}
 use Rattle.mp_tree.specs.declared.reading.DocsFault.{DocsFault}
+use Rattle.mp_tree.specs.Elements.{list_of}
 use Rattle.mp_pointer.specs.Part.{part}
 use Rattle.mp_pointer.specs.Spelling.{Tokens, tokens_in}
 use Rattle.mp_pointer.specs.declared.fault.PointerFault.{PointerFault}
@@ -34,11 +35,6 @@ abbrev pub get_answer : List ℕ → Items → Answered
 get_answer pointer no_items = wrong_shape
 get_answer pointer (item d no_items) = part_answer d (tokens_in pointer)
 get_answer pointer (item d (item e ds)) = wrong_shape
-
--- the elements of the input array
-abbrev pub list_of : Items → List Document
-list_of no_items = []
-list_of (item d ds) = d ∷ list_of ds
 
 -- `merge` wants `[document, patch, ..]`, also with no patch: each patch is applied in turn, with no check of compatibility
 abbrev pub merge_answer : Items → Answered

@@ -9,7 +9,8 @@ use Rattle.mp_pointer.specs.Difference.{DifferOnlyAt}
 use Rattle.mp_pointer.specs.Part.{Kind, absent, scalar, names, elements, part, child, element_from, numeral, kind, kind_here, kind_of}
 use Rattle.mp_pointer.specs.Spelling.{Tokens}
 use Rattle.mp_pointer.proofs.Facts.{nth, child-numeral, cases_begins, child-object, kind-append}
-use Rattle.mp_patch.specs.Operation.{Operation, add, remove, replace, move, copy, test, ChangesContainer, AddsTo, to_map, to_list, RemovesFrom, from_map, from_list, append, Adds, Removes, Step}
+use Rattle.mp_patch.specs.Operation.{Operation, add, remove, replace, move, copy, test, ChangesContainer, AddsTo, to_map, to_list, RemovesFrom, from_map, from_list, Adds, Removes, Step}
+use Rattle.mp_tree.specs.Elements.{append}
 use Rattle.mp_patch.specs.Refusal.{IsTooDeep}
 use Rattle.mp_patch.specs.Run.{IsRefused}
 use Rattle.mp_patch.proofs.Documents.{Removes-document}

@@ -5,10 +5,11 @@ use Rattle.std.specs.Str.{bytes_eq}
 use Rattle.mp_tree.specs.Document.{Document, null, flag, whole, string, list, object, Items, no_items, item, Members, no_members, member, name_cmp, is_name, find, without, IsBelow, IsDocument, AreDocuments, IsMap}
 use Rattle.mp_tree.proofs.Facts.{cases_same, is_name-self, find-below, IsMap-put, IsMap-without, members_of_object}
 use Rattle.mp_pointer.specs.Difference.{DifferOnlyAt}
-use Rattle.mp_pointer.specs.Part.{Kind, absent, scalar, names, elements, part, child, element_from, numeral, kind, kind_here, kind_of, names_of, count_of}
+use Rattle.mp_pointer.specs.Part.{Kind, absent, scalar, names, elements, part, child, element_from, numeral, kind, kind_here, kind_of, names_of}
+use Rattle.mp_tree.specs.Elements.{count_of, append}
 use Rattle.mp_pointer.specs.Spelling.{Tokens}
 use Rattle.mp_pointer.proofs.Facts.{nth, same_numeral, child-numeral, cases_begins, equals_by_part, child-object, kind-append, DifferOnlyAt-sym, DifferOnlyAt-trans}
-use Rattle.mp_patch.specs.Operation.{AddsTo, to_map, to_list, RemovesFrom, from_map, from_list, append, Adds, Removes}
+use Rattle.mp_patch.specs.Operation.{AddsTo, to_map, to_list, RemovesFrom, from_map, from_list, Adds, Removes}
 use Rattle.mp_patch.proofs.SingleSteps.{same_last}
 
 -- ---- a part of a document is one

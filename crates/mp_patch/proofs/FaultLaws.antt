@@ -1,11 +1,11 @@
 -- The laws of faults in form: a form has none, and no document has two.
 use Rattle.std.proofs.Common.{◌≡◌, ◌⊎◌, inl, inr, List, [], ◌∷◌, None, refl, sym, ap, ◌∙◌, subst, codes, suc}
 use Rattle.mp_tree.specs.Document.{Document, object, Items, no_items, item, Members}
-use Rattle.mp_pointer.specs.Part.{count_of}
+use Rattle.mp_tree.specs.Elements.{count_of, append}
 use Rattle.mp_pointer.specs.Spelling.{spell}
 use Rattle.mp_patch.specs.Form.{Carries, EachForm, IsForm, IsFaulty, HasNoPointer, HasOp, a_value, an_origin, form_causes, needed_members, text_at, value_at}
 use Rattle.mp_patch.specs.Laws.{FormsHaveNoFault, HasOneFault}
-use Rattle.mp_patch.specs.Operation.{Operation, append}
+use Rattle.mp_patch.specs.Operation.{Operation}
 use Rattle.mp_patch.specs.declared.fault.FormCause.{FormCause}
 use Rattle.mp_patch.specs.declared.fault.FormFault.TheVariants.{NotAnArray, Form, OutOfMemory}
 use Rattle.mp_patch.proofs.Documents.{same_elements}

@@ -1,7 +1,7 @@
 -- The laws of forms: one reading, and shapes are forms.
 use Rattle.std.proofs.Common.{◌≡◌, ℕ, List, [], ◌∷◌, map, Some, refl, sym, ap, ap₂, ◌∙◌, subst, arith, codes}
 use Rattle.mp_tree.specs.Document.{Document, string, Items, no_items, item, Members, find}
-use Rattle.mp_tree.specs.View.{items_of}
+use Rattle.mp_tree.specs.Elements.{items_of}
 use Rattle.mp_pointer.specs.Spelling.{Tokens, spell}
 use Rattle.mp_pointer.proofs.Facts.{has_one_spelling}
 use Rattle.mp_patch.specs.Form.{Carries, EachForm, IsForm, needed_members, shape}

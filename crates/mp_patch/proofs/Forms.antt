@@ -2,7 +2,8 @@
 use Rattle.std.proofs.Common.{◌≡◌, ◌≢◌, ◌<◌, ◌≤◌, ◌+◌, ◌⊎◌, inl, inr, ◌∷◌, ◌++◌, ℕ, List, [], length, map, get_or, take, drop, None, Some, Result, Ok, Err, MatchResult, refl, sym, ap, ap₂, ◌∙◌, subst, arith, codes}
 use Rattle.std.proofs.lemmas.List.{take_more, take-append-drop, drop_more, length-take-le, map-append}
 use Rattle.mp_tree.specs.Document.{Document, object, list, string, Members, put, depth, items_depth}
-use Rattle.mp_tree.specs.View.{document, items, items_of, members_of}
+use Rattle.mp_tree.specs.View.{document, items, members_of}
+use Rattle.mp_tree.specs.Elements.{items_of}
 use Rattle.mp_tree.specs.declared.doc.Doc.{Doc}
 use Rattle.mp_pointer.specs.Spelling.{Tokens, spell, tokens_in}
 use Rattle.mp_pointer.specs.declared.fault.PointerFault.{PointerFault}

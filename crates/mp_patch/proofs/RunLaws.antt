@@ -3,12 +3,13 @@ use Rattle.std.proofs.Common.{◌≡◌, ◌≢◌, ◌⊎◌, inl, inr, ℕ, ze
 use Rattle.std.specs.List.{slice_get}
 use Rattle.mp_tree.specs.Document.{Document, list, object, Items, no_items, item, IsDocument, depth, put}
 use Rattle.mp_pointer.specs.Difference.{DifferOnlyAt}
-use Rattle.mp_pointer.specs.Part.{part, numeral, count_of}
+use Rattle.mp_pointer.specs.Part.{part, numeral}
+use Rattle.mp_tree.specs.Elements.{count_of, append}
 use Rattle.mp_pointer.specs.Spelling.{Tokens}
 use Rattle.mp_pointer.proofs.Facts.{same_numeral, numeral_first, equals_by_part, DifferOnlyAt-sym, DifferOnlyAt-trans}
 use Rattle.mp_patch.specs.Laws.{HasOneEnd, RunsUnrefused, HasOneRefusal, StaysShallow}
 use Rattle.mp_patch.specs.Operation.{HasDocument}
-use Rattle.mp_patch.specs.Operation.{Operation, add, remove, replace, move, copy, test, AddsTo, to_map, to_list, append, dash, NamesPlace, Adds, Removes, Step}
+use Rattle.mp_patch.specs.Operation.{Operation, add, remove, replace, move, copy, test, AddsTo, to_map, to_list, dash, NamesPlace, Adds, Removes, Step}
 use Rattle.mp_patch.specs.Refusal.{RefusedBy, causes}
 use Rattle.mp_patch.specs.Run.{Runs}
 use Rattle.mp_tree.proofs.Facts.{members_of_object}

@@ -10,13 +10,14 @@ use Rattle.mp_tree.specs.declared.doc.Doc
 use Rattle.mp_tree.specs.declared.doc.Doc.{Doc}
 use Rattle.mp_tree.proofs.Facts.{document-Items, document-Members}
 use Rattle.mp_pointer.specs.Difference.{DifferOnlyAt}
-use Rattle.mp_pointer.specs.Part.{part, child, numeral, count_of}
+use Rattle.mp_pointer.specs.Part.{part, child, numeral}
+use Rattle.mp_tree.specs.Elements.{count_of, append}
 use Rattle.mp_pointer.specs.Spelling.{Tokens}
 use Rattle.mp_pointer.proofs.Facts.{child-numeral, count_of-items}
 use Rattle.mp_pointer.proofs.Facts.{child-object, part-push}
 use Rattle.mp_pointer.proofs.Facts.{nth-here}
 use Rattle.mp_patch.proofs.FirstCause.{unrefused}
-use Rattle.mp_patch.specs.Operation.{add, remove, replace, ChangesContainer, AddsTo, to_map, to_list, RemovesFrom, from_map, from_list, append, dash, NamesPlace}
+use Rattle.mp_patch.specs.Operation.{add, remove, replace, ChangesContainer, AddsTo, to_map, to_list, RemovesFrom, from_map, from_list, dash, NamesPlace}
 use Rattle.mp_patch.specs.Refusal.{LacksPlace, HasNoPlace, IsTooDeep, IsMissing, RefusedBy}
 use Rattle.mp_patch.specs.Run.{IsRefused}
 use Rattle.mp_patch.specs.Private.Steps.{Answers, Inserts}

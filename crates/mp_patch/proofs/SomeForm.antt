@@ -6,13 +6,13 @@ use Rattle.mp_pointer.specs.declared.fault.PointerFault.{PointerFault}
 use Rattle.mp_pointer.proofs.Facts.{reads_spellings}
 use Rattle.mp_patch.specs.Form.{Carries, EachForm, IsForm, IsFaulty, IsNoPointer, Need, path_alone, a_value, an_origin, NamesOp, needed_members, op_member, path_member, value_member, from_member, text_at, text_of}
 use Rattle.mp_patch.specs.Laws.{IsFormOrFaulty}
-use Rattle.mp_patch.specs.Operation.{Operation, add, remove, replace, move, copy, test, append}
+use Rattle.mp_patch.specs.Operation.{Operation, add, remove, replace, move, copy, test}
+use Rattle.mp_tree.specs.Elements.{append, count_of}
 use Rattle.mp_patch.specs.Private.Reading.{IsMapFault}
 use Rattle.mp_patch.specs.declared.fault.FormCause.{FormCause}
 use Rattle.mp_patch.specs.declared.fault.FormCause.TheVariants.{NotAnObject, NoOp, UnknownOp, NoPath, NoFrom, BadPointer, NoValue}
 use Rattle.mp_patch.specs.declared.fault.FormFault.TheVariants as form_fault
 use Rattle.mp_patch.specs.declared.reading.OpFault.TheVariants.{Form}
-use Rattle.mp_pointer.specs.Part.{count_of}
 use Rattle.mp_tree.proofs.Facts.{decide_name}
 use Rattle.mp_patch.proofs.Forms.{map_fault, no_pointer}
 

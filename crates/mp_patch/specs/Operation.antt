@@ -2,7 +2,8 @@
 use Rattle.std.specs.Prelude.{◌≡◌, ◌≢◌, ◌⊎◌, ℕ, codes, List, [], ◌∷◌, ◌++◌, Some, ⊤}
 use Rattle.mp_tree.specs.Document.{Document, list, object, Items, no_items, item, Members, find, put, without, IsDocument}
 use Rattle.mp_pointer.specs.Difference.{DifferOnlyAt}
-use Rattle.mp_pointer.specs.Part.{part, numeral, count_of}
+use Rattle.mp_pointer.specs.Part.{part, numeral}
+use Rattle.mp_tree.specs.Elements.{count_of, append}
 use Rattle.mp_pointer.specs.Spelling.{Tokens}
 
 -- each place is a pointer's list of tokens
@@ -28,11 +29,6 @@ pub record ChangesContainer (Change : List ℕ → Document → Document → Typ
   pub stands : part e container ≡ Some after
   pub changed : Change last before after
   pub only : DifferOnlyAt container d e
-
--- the elements of the front and then those of the back
-abbrev pub append : Items → Items → Items
-append no_items back = back
-append (item d front) back = item d (append front back)
 
 -- `-`, which names the place after the last element
 abbrev pub dash : List ℕ

@@ -17,7 +17,7 @@ use mp_tree::{Doc, items_mut, members_mut};
 use std::alloc::{AllocError, AllocFailed, Global};
 
 /// The number of tokens of a place and the depth of a value that is put there are together at most this.
-const DEPTH_LIMIT: usize = 126;
+const DEPTH_LIMIT: usize = mp_tree::DEPTH_LIMIT as usize;
 
 // Why an operation was not taken.
 #[derive(Clone, Copy, Drop)]

@@ -159,7 +159,7 @@ fn nested(alloc: Global, count: u8) -> Result<Doc, AllocError> {
 }
 
 #[test]
-fn applied(rt: HostRuntime) -> Result<(), Fail> {
+fn operations_change_the_document(rt: HostRuntime) -> Result<(), Fail> {
     for (start, form, wanted) in APPLIED {
         let doc = read_doc(rt.alloc(), start.as_bytes())?;
         let patch = JsonPatch::from_doc(rt.alloc(), &read_doc(rt.alloc(), form.as_bytes())?)?;
@@ -171,7 +171,7 @@ fn applied(rt: HostRuntime) -> Result<(), Fail> {
 }
 
 #[test]
-fn refused(rt: HostRuntime) -> Result<(), Fail> {
+fn operations_are_refused_by_their_cause(rt: HostRuntime) -> Result<(), Fail> {
     for (start, form, number, wanted) in REFUSED {
         let doc = read_doc(rt.alloc(), start.as_bytes())?;
         let patch = JsonPatch::from_doc(rt.alloc(), &read_doc(rt.alloc(), form.as_bytes())?)?;
@@ -186,7 +186,7 @@ fn refused(rt: HostRuntime) -> Result<(), Fail> {
 }
 
 #[test]
-fn malformed(rt: HostRuntime) -> Result<(), Fail> {
+fn what_is_no_patch_has_a_first_fault(rt: HostRuntime) -> Result<(), Fail> {
     for (form, wanted) in MALFORMED {
         let doc = read_doc(rt.alloc(), form.as_bytes())?;
         match JsonPatch::from_doc(rt.alloc(), &doc) {
@@ -226,7 +226,7 @@ fn a_move_there_and_back(rt: HostRuntime) -> Result<(), Fail> {
 }
 
 #[test]
-fn depths(rt: HostRuntime) -> Result<(), Fail> {
+fn depths_have_a_limit(rt: HostRuntime) -> Result<(), Fail> {
     let start = Doc::Items(Vec::new(rt.alloc()));
     let mut shallow = JsonPatch::new(rt.alloc());
     let end = Pointer::parse(rt.alloc(), "/-")?;
@@ -252,7 +252,7 @@ fn depths(rt: HostRuntime) -> Result<(), Fail> {
 }
 
 #[test]
-fn fault_texts(rt: HostRuntime) -> Result<(), Fail> {
+fn faults_have_texts(rt: HostRuntime) -> Result<(), Fail> {
     for (cause, text) in CAUSES {
         let shown = format!(in rt.alloc(); "{cause}")?;
         assert_eq!(rt; shown.as_str(), *text);

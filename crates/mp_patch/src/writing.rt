@@ -1,7 +1,8 @@
 // From operations to their form as a document (RFC 6902 sections 3 and 4).
 ghost use Rattle.std.specs.Prelude.{◌≡◌, ◌∷◌, [], map, IfOk, OnOk};
 ghost use Rattle.mp_tree.specs.Document.{put, object};
-ghost use Rattle.mp_tree.specs.View.{document, items, items_of, members_of};
+ghost use Rattle.mp_tree.specs.View.{document, items, members_of};
+ghost use Rattle.mp_tree.specs.Elements.{items_of};
 ghost use Rattle.mp_tree.specs.Private.Entries.{members};
 ghost use Rattle.mp_patch.specs.Form.{op_member, path_member, from_member, shape, value_member};
 ghost use Rattle.mp_patch.specs.View.{operation_of, operations_of};

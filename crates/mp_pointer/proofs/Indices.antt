@@ -18,7 +18,8 @@ use Rattle.mp_tree.specs.Document.{Items, no_items, item, list}
 use Rattle.mp_tree.specs.View.{document, items}
 use Rattle.mp_tree.specs.declared.doc.Doc.{Doc}
 use Rattle.mp_pointer.specs.Laws.{NamesElements}
-use Rattle.mp_pointer.specs.Part.{numeral, element_from, child, count_of, nth}
+use Rattle.mp_pointer.specs.Part.{numeral, element_from, child}
+use Rattle.mp_tree.specs.Elements.{count_of, nth}
 
 pub numeral-decimal : (n : ℕ) → n < 2 ^ 64 → numeral n ≡ decimal n
 unfolding numeral

@@ -14,7 +14,8 @@ use Rattle.mp_tree.specs.declared.doc.Doc.{Doc}
 use Rattle.mp_tree.proofs.Facts.{find-members, members-inserted, IsMap-members, document-Items, document-Members}
 use Rattle.mp_pointer.specs.Lending.{PartBecomes}
 use Rattle.mp_pointer.specs.Private.Child.{IsList, one_token}
-use Rattle.mp_pointer.specs.Part.{part, child, numeral, nth}
+use Rattle.mp_pointer.specs.Part.{part, child, numeral}
+use Rattle.mp_tree.specs.Elements.{nth}
 use Rattle.mp_pointer.specs.Spelling.{Tokens}
 use Rattle.mp_pointer.proofs.ChangedChild.{ChildChanges, set_item, element_changes, value_changes}
 use Rattle.mp_pointer.proofs.Indices.{child-numeral, child-no_index, nth-items, count_of-items}

@@ -2,7 +2,8 @@
 use Rattle.std.specs.Prelude.{◌≡◌, ◌≢◌, ◌≤◌, ◌↔◌, ℕ, List, None, Some, Ok, Err}
 use Rattle.mp_tree.specs.Document.{Document, IsDocument, Items, list}
 use Rattle.mp_pointer.specs.Difference.{DifferOnlyAt}
-use Rattle.mp_pointer.specs.Part.{numeral, child, count_of, nth, part}
+use Rattle.mp_pointer.specs.Part.{numeral, child, part}
+use Rattle.mp_tree.specs.Elements.{count_of, nth}
 use Rattle.mp_pointer.specs.Spelling.{Tokens, spell, IsFaultOf, tokens_in}
 use Rattle.mp_pointer.specs.declared.fault.PointerFault.{PointerFault}
 use Rattle.mp_pointer.specs.declared.fault.PointerFault.TheVariants.{OutOfMemory}

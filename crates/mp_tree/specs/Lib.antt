@@ -1,4 +1,5 @@
 pub mod Document
+pub mod Elements
 pub mod Laws
 pub mod Look
 pub mod Private

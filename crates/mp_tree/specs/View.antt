@@ -1,19 +1,15 @@
 -- The document that a `Doc` means.
 use Rattle.std.specs.Prelude.{ℕ, ℤ, List, [], ◌∷◌, map, String, string_bytes}
 use Rattle.std.specs.declared.alloc.Global.{Global}
-use Rattle.mp_tree.specs.Document.{Document, null, flag, whole, string, list, object, Items, no_items, item, Members, no_members, put}
+use Rattle.mp_tree.specs.Document.{Document, null, flag, whole, string, list, object, Items, Members, no_members, put}
 use Rattle.mp_tree.specs.declared.whole.Whole.{Whole}
 use Rattle.mp_tree.specs.declared.doc.Doc.{Doc, fold-Doc}
 use Rattle.mp_tree.specs.declared.doc.Doc.TheOpen.{Doc-F}
+use Rattle.mp_tree.specs.Elements.{items_of}
 
 -- the number that a `Whole` is
 abbrev pub number_of : Whole → ℤ
 number_of n = n.value
-
--- the elements of a list of documents
-abbrev pub items_of : List Document → Items
-items_of [] = no_items
-items_of (d ∷ ds) = item d (items_of ds)
 
 -- the map of a list of pairs
 abbrev pub members_of : List (List ℕ × Document) → Members

@@ -17,6 +17,6 @@ pub mod writing;
 
 pub use doc::Doc;
 pub use lending::{items_mut, members_mut};
-pub use reading::{DocsFault, ReadFault, read_doc, read_docs};
+pub use reading::{DEPTH_LIMIT, DocsFault, ReadFault, read_doc, read_docs};
 pub use whole::Whole;
 pub use writing::{write_doc, write_text};

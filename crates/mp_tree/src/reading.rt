@@ -11,8 +11,9 @@ use serde_json::Value;
 use std::alloc::Global;
 use thiserror::Error;
 
-// The deepest document that is read on its own, so that it may stand in an array within `serde_json`'s nesting of 127.
-const DEPTH_LIMIT: u32 = 126;
+/// The depth of the deepest document that is read on its own, so that it may stand in an array
+/// within `serde_json`'s nesting of 127. What a patch places is held within it too.
+pub const DEPTH_LIMIT: u32 = 126;
 
 /// Why bytes gave no document.
 #[derive(Clone, Copy, Debug, Drop, PartialEq, Eq, Error)]

@@ -2,7 +2,7 @@ use Rattle.std.proofs.Common.{◌≡◌}
 use Rattle.std.specs.Vec.Iter.{into_iter_items}
 use Rattle.mp_tree.specs.View.{document, items}
 use Rattle.mp_merge.specs.Application.{in_turn}
-use Rattle.mp_cli.specs.Answered.{list_of}
+use Rattle.mp_tree.specs.Elements.{list_of}
 use Rattle.mp_cli.proofs.answering.merge.Given as goal
 
 -- the patches that are left, applied to the document as it is, give the result
