@@ -1,7 +1,7 @@
 //! What a replica does with each patch as it comes: it keeps the join of those of its start.
 ghost use Rattle.std.specs.Prelude.{◌≡◌, ◌<◌, Some, Ok, IfOk, IfErr, OnErr, MatchOption};
 ghost use Rattle.mp_tree.specs.View.{document};
-ghost use Rattle.mp_merge.specs.Application.{mp};
+ghost use Rattle.mp_merge.specs.Application.{merge_patch};
 ghost use Rattle.library_example.specs.Received.{GrowsBy, IsRefusedBy};
 
 use mp_merge::{JoinFault, join, merge};
@@ -68,7 +68,7 @@ impl Replica {
     pub fn shown(&self, alloc: Global) -> Result<Doc, AllocError>
         ensures { IfOk result (λ shown. MatchOption self.now.joined
             (document shown ≡ document self.now.start)
-            (λ j. document shown ≡ mp (Some (document self.now.start)) (document j))) }
+            (λ j. document shown ≡ merge_patch (Some (document self.now.start)) (document j))) }
     {
         match &self.joined {
             None => self.start.copy(alloc),

@@ -6,7 +6,7 @@ ghost use Rattle.mp_pointer.specs.Part.{part};
 ghost use Rattle.mp_pointer.specs.Spelling.{Tokens, IsFaultOf, spell};
 ghost use Rattle.mp_patch.specs.Run.{Runs};
 ghost use Rattle.mp_patch.specs.View.{operations_of};
-ghost use Rattle.mp_merge.specs.Lists.{AreWithin, IsListFault};
+ghost use Rattle.mp_merge.specs.Lists.{AreWithin, IsJoinAllFault};
 ghost use Rattle.mp_merge.specs.Outcome.{IsOutcome};
 ghost use Rattle.library_example.specs.Shown.{IsNotShown, IsShown};
 
@@ -33,7 +33,7 @@ pub fn for_a_peer(alloc: Global, start: &Doc, patches: &[Doc]) -> Result<JsonPat
     ensures runs { AreWithin depth_limit (map document patches.now) → IfOk result (λ edits.
         (shown : Document) × IsOutcome (document start.now) (map document patches.now) shown
         × Runs (document start.now) (operations_of edits) shown) }
-    ensures refused { IfErr result (λ fault. IsListFault fault (map document patches.now)) }
+    ensures refused { IfErr result (λ fault. IsJoinAllFault fault (map document patches.now)) }
 {
     // A law is a call that runs nothing.
     mp_tree::laws::docs_are_documents();

@@ -14,4 +14,4 @@ pub mod SomeForm
 pub mod SomeRun
 pub mod SomeStep
 pub mod ValueLaws
-pub mod WritingLemmas
+pub mod WrittenShapes

@@ -1,10 +1,10 @@
 pub mod ChangedChild
-pub mod CutLemmas
 pub mod EditedParts
 pub mod Evaluation
 pub mod Facts
 pub mod FollowedBorrows
 pub mod Indices
+pub mod KeptTokens
 pub mod LentParts
 pub mod PartKinds
 pub mod Parts

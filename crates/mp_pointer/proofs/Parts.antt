@@ -1,5 +1,5 @@
 -- Parts along a list of tokens, and documents that differ at one place alone.
-use Rattle.std.proofs.Common.{◌≡◌, ℕ, List, [], ◌∷◌, ◌++◌, Option, None, Some, option_and_then, refl, sym, ap, ◌∙◌, append_assoc, ◌≢◌, ap₂, true≢false}
+use Rattle.std.proofs.Common.{◌≡◌, ℕ, List, [], ◌∷◌, ◌++◌, Option, None, Some, option_and_then, refl, sym, ap, ◌∙◌, ◌≢◌, ap₂, true≢false}
 use Rattle.mp_tree.specs.Document.{is_name, Document, list, object, Items, Members, find}
 use Rattle.mp_tree.proofs.Facts.{cases_same, is_name-self}
 use Rattle.mp_pointer.specs.Difference.{DifferOnlyAt}

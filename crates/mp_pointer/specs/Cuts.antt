@@ -1,5 +1,5 @@
--- Private words, which no public contract and no law cites: how a `Pointer` keeps its tokens, each after a slash in one
--- text, with the offset at which each ends; and texts that are spelled as they are.
+-- How a `Pointer` keeps its tokens, each after a slash in one text, with the offset at which each ends. A pointer is the
+-- list that `cut` gives of these two; `IsKept` is what is always so of them.
 use Rattle.std.specs.Prelude.{◌≡◌, ◌≢◌, ◌<◌, ◌∷◌, ℕ, suc, List, [], length, slice_range, slice_index, Bool, IsTrue, ⊤}
 use Rattle.std.specs.Str.{IsUtf8}
 

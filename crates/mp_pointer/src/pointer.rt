@@ -195,7 +195,7 @@ impl Pointer {
         self.ends.len()
     }
 
-    /// The token at a place, counted from 0, with nothing escaped; None exactly where `number` is not below
+    /// The token of that number, counted from 0, with nothing escaped; None exactly where `number` is not below
     /// `len()`. Takes no memory.
     pub fn token(&self, number: usize) -> Option<&str>
         ensures { option_copied result ≡ slice_get self.now number }
