@@ -7,7 +7,7 @@ pub mod laws;
 pub mod op;
 pub mod patch;
 mod reading;
-mod serialize;
+mod serializing;
 mod steps;
 #[cfg(test)]
 mod tests;

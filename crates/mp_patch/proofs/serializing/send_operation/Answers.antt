@@ -1,4 +1,4 @@
-use Rattle.mp_patch.proofs.serialize.send_operation.Goals as goal
+use Rattle.mp_patch.proofs.serializing.send_operation.Goals as goal
 
 pub returns-in-Move : goal.returns-in-Move
 returns-in-Move g c = rw c.in-Move.is c.send_with_origin.ensures
