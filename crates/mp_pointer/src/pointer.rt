@@ -80,6 +80,17 @@ impl Pointer {
         }
     }
 
+    // The same, with room for tokens of so many bytes in all, each counted with a slash.
+    pub(crate) fn with_room(alloc: Global, bytes: usize) -> Result<Pointer, AllocError>
+        ensures { IfOk result (λ p. p ≡ []) }
+    {
+        Ok(Pointer {
+            text: String::with_capacity(alloc, bytes)?,
+            ends: Vec::new(alloc),
+            is_plain: true,
+        })
+    }
+
     /// The one spelling of this pointer (RFC 6901 section 3). `AllocError` where memory ran out.
     ///
     /// ```text
@@ -122,7 +133,7 @@ impl Pointer {
     pub fn child(&self, alloc: Global, token: &str) -> Result<Pointer, AllocError>
         ensures { IfOk result (λ p. p ≡ self.now ++ token.now ∷ []) }
     {
-        let mut child = self.copy(alloc)?;
+        let mut child = self.front_with_room(alloc, self.len(), token.len() + 1, 1)?;
         child.push(token)?;
         Ok(child)
     }
@@ -178,9 +189,25 @@ impl Pointer {
         requires { count ≤ length self.now }
         ensures { IfOk result (λ p. p ≡ take count self.now) }
     {
+        self.front_with_room(alloc, count, 0, 0)
+    }
+
+    // The same, with room for so many bytes and tokens more.
+    fn front_with_room(
+        &self,
+        alloc: Global,
+        count: usize,
+        bytes: usize,
+        tokens: usize,
+    ) -> Result<Pointer, AllocError>
+        requires { count ≤ length self.now }
+        ensures { IfOk result (λ p. p ≡ take count self.now) }
+    {
         let end = end_of(self.ends.as_slice(), count);
-        let text = String::from_str(alloc, &self.text.as_str()[..end])?;
-        let ends = Vec::from_slice(alloc, &self.ends.as_slice()[..count])?;
+        let mut text = String::with_capacity(alloc, end.saturating_add(bytes))?;
+        text.push_str(&self.text.as_str()[..end])?;
+        let mut ends = Vec::with_capacity(alloc, count.saturating_add(tokens))?;
+        ends.extend_from_slice(&self.ends.as_slice()[..count])?;
         Ok(Pointer {
             text,
             ends,
