@@ -1,15 +1,16 @@
 #!/usr/bin/env python3
-"""Draws the pictures of the pages from what the program prints.
+"""Draws the pictures of the pages from what the program prints, and from crates.txt and the crates' first lines.
 
     docs/pictures/draw.py FOLDER
 
-It writes replicas.svg and clash.svg into the folder. checks/pictures draws them again and compares.
+It writes replicas.svg, clash.svg and crates.svg into the folder. checks/pictures draws them again and compares.
 """
 
 import json
 import pathlib
 import subprocess
 import sys
+import textwrap
 from xml.sax.saxutils import escape
 
 TOP = pathlib.Path(__file__).resolve().parent.parent.parent
@@ -131,8 +132,63 @@ def clash():
     return drawing.svg()
 
 
+def stands_on():
+    """Gives each crate of crates.txt with those that it stands on."""
+    lines = (TOP / "crates.txt").read_text("utf-8").splitlines()
+    parts = (line.split(":") for line in lines if line and not line.startswith("#"))
+    return {name.split()[0]: below.split() for name, below in parts}
+
+
+def first_words(crate):
+    """What a crate is: the first sentence of its root file, up to a colon."""
+    folder = TOP / "crates" / crate / "src"
+    root = folder / "lib.rt" if (folder / "lib.rt").exists() else folder / "main.rt"
+    head = [line[4:] for line in root.read_text("utf-8").splitlines() if line.startswith("//! ")]
+    words = " ".join(head).split(". ")[0].rstrip(".")
+    return words.split(": ")[0].replace("`", "")
+
+
+def height_of(crate, below):
+    return 1 + max((height_of(part, below) for part in below[crate] if part in below), default=-1)
+
+
+def line_down(drawing, x, top, to, bottom):
+    drawing.shapes.append(f'<path d="M{x} {top}L{to} {bottom - 6}" stroke="#666" fill="none"/>')
+    drawing.shapes.append(f'<path d="M{to - 4} {bottom - 7}h8l-4 7z" fill="#666"/>')
+
+
+def crates():
+    """The crates, each above those that it stands on, with the libraries of the toolchain that it uses."""
+    below = stands_on()
+    drawing = Drawing("The crates, each above those that it stands on")
+    levels = {}
+    for crate in below:
+        levels.setdefault(height_of(crate, below), []).append(crate)
+    wide, y, boxes = WIDE * 34 + 2 * SPACE, SPACE, {}
+    most = max(map(len, levels.values()))
+    for level in sorted(levels, reverse=True):
+        tallest = 0
+        x = SPACE + (most - len(levels[level])) * (wide + 2 * SPACE) // 2
+        for crate in levels[level]:
+            others = [part for part in below[crate] if part not in below]
+            uses = textwrap.wrap(f"uses {', '.join(others)}", 34) if others else []
+            lines = [crate, *textwrap.wrap(first_words(crate), 34), *uses]
+            _, height = drawing.box(x, y, lines, PATCH if others else PLAIN, wide)
+            boxes[crate] = (x + wide // 2, y, height)
+            tallest, x = max(tallest, height), x + wide + 2 * SPACE
+        y += tallest + 3 * SPACE
+    for crate, parts in below.items():
+        # What is reached through another of them needs no line.
+        for part in parts:
+            if part in below and not any(part in below.get(other, ()) for other in parts):
+                x, top, height = boxes[crate]
+                line_down(drawing, x, top + height, boxes[part][0], boxes[part][1])
+    return drawing.svg()
+
+
 def main():
     folder = pathlib.Path(sys.argv[1])
+    (folder / "crates.svg").write_text(crates(), "utf-8")
     (folder / "replicas.svg").write_text(replicas(), "utf-8")
     (folder / "clash.svg").write_text(clash(), "utf-8")
 

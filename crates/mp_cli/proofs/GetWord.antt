@@ -10,7 +10,8 @@ use Rattle.clap.specs.Takes.{is_given}
 use Rattle.clap.specs.Walk.{Row, Rule, answers_to, arg_by_long, arg_by_short, first_of, finished, has_long, has_short, nothing_held, rows_after, settled, walk, walk_from}
 use Rattle.clap.specs.Words.{App, Kinds, Text, built, fault_of, subcommand_of}
 use Rattle.mp_cli.proofs.GivenWords.{IsQuiet, IfFlag, full-rows_after, first_of-given}
-use Rattle.mp_cli.specs.CommandLine.{command_line, pointer_rule, HasPointer}
+use Rattle.mp_cli.specs.CommandLine.{command_line, pointer_rule}
+use Rattle.mp_cli.specs.Private.Matches.{HasPointer}
 
 or_else-last : (first last : Kinds) → or_else first last ≡ [] → last ≡ []
 or_else-last [] last none = none

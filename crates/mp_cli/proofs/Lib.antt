@@ -1,8 +1,8 @@
-pub mod AnswerLemmas
-pub mod CommandLineLemmas
+pub mod AnswerCases
+pub mod CommandLine
 pub mod GetWord
 pub mod GivenWords
 pub mod OneAnswer
-pub mod RunLemmas
+pub mod Runs
 pub mod SomeAnswer
 pub mod TakenWords

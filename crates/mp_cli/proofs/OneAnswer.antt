@@ -2,10 +2,10 @@
 use Rattle.std.proofs.Common.{◌≡◌, ◌≢◌, ℕ, List, [], Result, Ok, Err, refl, sym, ap, ◌∙◌, subst}
 use Rattle.mp_tree.specs.Document.{Document, Items, no_items, item, IsDocument, AreDocuments}
 use Rattle.mp_tree.specs.Text.{documents_in}
-use Rattle.mp_tree.specs.declared.read.DocsFault.{DocsFault}
+use Rattle.mp_tree.specs.declared.reading.DocsFault.{DocsFault}
 use Rattle.mp_tree.proofs.Facts.{AreDocuments-documents_in}
 use Rattle.mp_patch.specs.Form.{shapes}
-use Rattle.mp_patch.specs.Laws.{HaveDocuments}
+use Rattle.mp_patch.specs.Operation.{HaveDocuments}
 use Rattle.mp_patch.specs.Operation.{Operation}
 use Rattle.mp_patch.specs.Run.{Runs, IsFaultOf}
 use Rattle.mp_patch.specs.declared.fault.ApplyFault.{ApplyFault}
@@ -15,7 +15,9 @@ use Rattle.mp_merge.proofs.Facts.{told_has_no_join, told_has_no_outcome, told_ha
 use Rattle.mp_merge.specs.Join.{IsJoin}
 use Rattle.mp_merge.specs.Lists.{IsToldPair}
 use Rattle.mp_tree.specs.Look.{Path}
-use Rattle.mp_cli.specs.Answered.{Answered, listed, result_line, conflict_line, form_fault, run_fault, IsRunAnswer, ran, halted, IsPatchAnswer, malformed, formed, IsJoinAnswer, joined, none_joined, join_refused, IsReplayAnswer, replayed, replay_refused, IsRewriteAnswer, rewritten, IsPatchAnswerTo, IsReplayAnswerTo, IsRewriteAnswerTo, IsAnswerTo, IsChecked, IsAnswered}
+use Rattle.mp_cli.specs.Answered.{IsRunAnswer, ran, halted, IsPatchAnswer, malformed, formed, IsJoinAnswer, joined, none_joined, join_refused, IsReplayAnswer, replayed, replay_refused, IsRewriteAnswer, rewritten, IsPatchAnswerTo, IsReplayAnswerTo, IsRewriteAnswerTo, IsAnswerTo, IsChecked, IsAnswered}
+use Rattle.mp_tree.specs.Elements.{list_of}
+use Rattle.mp_cli.specs.Lines.{Answered, result_line, conflict_line, form_fault, run_fault}
 use Rattle.mp_cli.specs.Laws.{HasOneAnswer}
 use Rattle.mp_cli.specs.declared.command.Command.{Command}
 use Rattle.mp_cli.specs.declared.command.Command.TheVariants.{Get, Patch, Merge, Join, Replay, Rewrite}
@@ -88,7 +90,7 @@ one_replay d patches a b (replay_refused first second places one is) (replay_ref
 
 one_replay_to : (ds : Items) (a b : Answered) → IsReplayAnswerTo ds a → IsReplayAnswerTo ds b → a ≡ b
 one_replay_to no_items a b is was = is ∙ sym was
-one_replay_to (item d ps) a b is was = one_replay d (listed ps) a b is was
+one_replay_to (item d ps) a b is was = one_replay d (list_of ps) a b is was
 
 -- ---- `rewrite`
 
@@ -107,7 +109,7 @@ one_answer_to : (command : Command) (ds : Items) (a b : Answered) → AreDocumen
 one_answer_to (Get pointer) ds a b good is was = is ∙ sym was
 one_answer_to Patch ds a b good is was = one_patch_to ds a b good is was
 one_answer_to Merge ds a b good is was = is ∙ sym was
-one_answer_to Join ds a b good is was = one_join_answer (listed ds) a b is was
+one_answer_to Join ds a b good is was = one_join_answer (list_of ds) a b is was
 one_answer_to Replay ds a b good is was = one_replay_to ds a b is was
 one_answer_to Rewrite ds a b good is was = one_rewrite_to ds a b is was
 

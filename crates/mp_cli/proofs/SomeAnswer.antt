@@ -3,14 +3,16 @@ use Rattle.std.proofs.Common.{◌≡◌, zero, suc, arith, List, [], ◌∷◌, 
 use Rattle.std.specs.List.{All}
 use Rattle.mp_tree.specs.Document.{Document, Items, no_items, item, IsDocument, AreDocuments}
 use Rattle.mp_tree.specs.Text.{documents_in}
-use Rattle.mp_tree.specs.declared.read.DocsFault.{DocsFault}
+use Rattle.mp_tree.specs.declared.reading.DocsFault.{DocsFault}
 use Rattle.mp_tree.proofs.Facts.{AreDocuments-documents_in}
-use Rattle.mp_patch.specs.Laws.{HaveDocuments}
+use Rattle.mp_patch.specs.Operation.{HaveDocuments}
 use Rattle.mp_patch.specs.Operation.{Operation}
 use Rattle.mp_patch.specs.declared.fault.ApplyFault.TheVariants.{Refused}
 use Rattle.mp_patch.proofs.Facts.{forms_have_documents, is_form_or_faulty, runs_or_is_refused}
 use Rattle.mp_merge.proofs.Facts.{compatible_or_told, join_exists, outcome_exists, rewriting_exists}
-use Rattle.mp_cli.specs.Answered.{Answered, listed, result_line, conflict_line, form_fault, run_fault, merge_answer, no_patches, wrong_shape, input_fault, IsRunAnswer, ran, halted, IsPatchAnswer, malformed, formed, IsJoinAnswer, joined, none_joined, join_refused, IsReplayAnswer, replayed, replay_refused, IsRewriteAnswer, rewritten, IsPatchAnswerTo, IsReplayAnswerTo, IsRewriteAnswerTo, IsAnswerTo, IsChecked, IsAnswered}
+use Rattle.mp_cli.specs.Answered.{merge_answer, IsRunAnswer, ran, halted, IsPatchAnswer, malformed, formed, IsJoinAnswer, joined, none_joined, join_refused, IsReplayAnswer, replayed, replay_refused, IsRewriteAnswer, rewritten, IsPatchAnswerTo, IsReplayAnswerTo, IsRewriteAnswerTo, IsAnswerTo, IsChecked, IsAnswered}
+use Rattle.mp_tree.specs.Elements.{list_of}
+use Rattle.mp_cli.specs.Lines.{Answered, result_line, conflict_line, form_fault, run_fault, no_patches, wrong_shape, input_fault}
 use Rattle.mp_cli.specs.Laws.{AnswerExists}
 use Rattle.mp_cli.specs.declared.command.Command.{Command}
 use Rattle.mp_cli.specs.declared.command.Command.TheVariants.{Get, Patch, Merge, Join, Replay, Rewrite}
@@ -18,7 +20,7 @@ use Rattle.mp_cli.specs.declared.command.Command.TheVariants.{Get, Patch, Merge,
 abbrev Has : (Answered → Type 0) → Type 0
 Has Is = (a : Answered) × Is a
 
-all_listed : (ds : Items) → AreDocuments ds → All IsDocument (listed ds)
+all_listed : (ds : Items) → AreDocuments ds → All IsDocument (list_of ds)
 all_listed no_items good k d less = absurd (omega arith)
 all_listed (item e ds) good zero d less = good.0
 all_listed (item e ds) good (suc k) d less = all_listed ds good.1 k d (omega arith)
@@ -56,7 +58,7 @@ some_replay d patches good fine = elim (compatible_or_told patches fine) [
 
 some_replay_to : (ds : Items) → AreDocuments ds → Has (IsReplayAnswerTo ds)
 some_replay_to no_items good = (wrong_shape, refl)
-some_replay_to (item d ps) good = some_replay d (listed ps) good.0 (all_listed ps good.1)
+some_replay_to (item d ps) good = some_replay d (list_of ps) good.0 (all_listed ps good.1)
 
 some_rewrite : (d patch : Document) → IsDocument patch → Has (IsRewriteAnswer d patch)
 some_rewrite d patch fine = let list = rewriting_exists d patch fine in (_, rewritten list.0 list.1 refl)
@@ -71,7 +73,7 @@ some_answer_to : (command : Command) (ds : Items) → AreDocuments ds → Has (I
 some_answer_to (Get pointer) ds good = (_, refl)
 some_answer_to Patch ds good = some_patch_to ds good
 some_answer_to Merge ds good = (merge_answer ds, refl)
-some_answer_to Join ds good = some_join (listed ds) (all_listed ds good)
+some_answer_to Join ds good = some_join (list_of ds) (all_listed ds good)
 some_answer_to Replay ds good = some_replay_to ds good
 some_answer_to Rewrite ds good = some_rewrite_to ds good
 

@@ -1,5 +1,5 @@
 -- The program's command line, in `clap`'s words, and what its reading of the words gives.
-use Rattle.std.specs.Prelude.{◌≡◌, ◌≢◌, ◌⊎◌, ⊤, List, [], ◌∷◌, Option, None, Some, IfSome, true, codes, fold, is_some, map, option_and_then, option_map, string_bytes}
+use Rattle.std.specs.Prelude.{◌≡◌, ◌≢◌, ⊤, List, [], ◌∷◌, Option, Some, true, codes, fold, option_and_then, option_map, string_bytes}
 use Rattle.clap.specs.Simple.{on_top, new_shape}
 use Rattle.clap.specs.Words.{App, IsAmong, Kinds, Row, Rule, Shape, Text, fault_of, first_of, new_app, new_rule, subcommand_of, with_subcommand}
 use Rattle.clap.specs.declared.error.kind.ErrorKind.{ErrorKind}
@@ -63,21 +63,6 @@ faults_of words = fault_of command_line words
 -- a fault among these is no request for help
 abbrev pub HasMistake : Kinds → Type 0
 HasMistake faults = (kind : ErrorKind) × (kind ≢ DisplayHelp) × IsAmong kind faults
-
--- a name is one of these
-abbrev pub IsOneOf : List Text → Text → Type 0
-IsOneOf [] name = ⊥
-IsOneOf (x ∷ xs) name = (name ≡ x) ⊎ IsOneOf xs name
-
--- a subcommand of the line was met
-abbrev pub IsSubcommand : Option Text → Type 0
-IsSubcommand None = ⊥
-IsSubcommand (Some name) = IsOneOf (map (λ s. s.name) subcommands) name
-
--- where the subcommand is `get`, its word was given
-abbrev pub HasPointer : Option (Text × List Row) → Type 0
-HasPointer entered =
-    IfSome entered (λ e. e.0 ≡ codes "get" → is_some (first_of (codes "POINTER") e.1) ≡ true)
 
 -- help was asked for
 abbrev pub IsHelp : CommandFault → Type 0

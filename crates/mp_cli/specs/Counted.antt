@@ -1,5 +1,5 @@
 -- What a counted reader or writer holds, and what a call of its device counts.
-use Rattle.std.specs.Prelude.{◌≡◌, ℕ, ◌+◌, IsTrue}
+use Rattle.std.specs.Prelude.{ℕ, IsTrue}
 use Rattle.mp_cli.specs.declared.counted.Counted.{Counted}
 
 module _ {T : Type 0} where
@@ -22,15 +22,3 @@ module _ {T : Type 0} where
   -- the last of those calls was a flush, and did not fail
   abbrev pub IsFlushed : Counted T → Type 0
   IsFlushed c = IsTrue c.flushed
-
-  -- one more call was made: it did not fail, and gave or took `count` bytes
-  pub record CountsBytes (old new : Counted T) (count : ℕ) : Type 0 where
-    pub calls : calls_of new ≡ calls_of old + 1
-    pub failures : failures_of new ≡ failures_of old
-    pub bytes : bytes_of new ≡ bytes_of old + count
-
-  -- one more call was made, and it failed
-  pub record CountsFailure (old new : Counted T) : Type 0 where
-    pub calls : calls_of new ≡ calls_of old + 1
-    pub failures : failures_of new ≡ failures_of old + 1
-    pub bytes : bytes_of new ≡ bytes_of old

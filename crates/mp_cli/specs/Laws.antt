@@ -2,7 +2,8 @@
 use Rattle.std.specs.Prelude.{◌≡◌, ℕ, List, [], ◌∷◌, Some, true, codes}
 use Rattle.clap.specs.Words.{Text, takes}
 use Rattle.mp_pointer.specs.Spelling.{Tokens, spell}
-use Rattle.mp_cli.specs.Answered.{Answered, IsAnswered}
+use Rattle.mp_cli.specs.Answered.{IsAnswered}
+use Rattle.mp_cli.specs.Lines.{Answered}
 use Rattle.mp_cli.specs.CommandLine.{asked_for, command_line, pointer_given}
 use Rattle.mp_cli.specs.declared.command.Command.{Command}
 

@@ -1,6 +1,7 @@
 pub mod Answered
 pub mod CommandLine
 pub mod Counted
-pub mod FaultLine
 pub mod Laws
+pub mod Lines
+pub mod Private
 pub mod Run

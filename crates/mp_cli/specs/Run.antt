@@ -2,7 +2,7 @@
 use Rattle.std.specs.Prelude.{◌≡◌, ◌≢◌, ◌+◌, ◌≤◌, ◌++◌, ℕ, List, Option, length}
 use Rattle.std.specs.Io.KnownBytes.{Appends, Consumes, IsAtEnd}
 use Rattle.mp_cli.specs.declared.counted.Counted.{Counted}
-use Rattle.mp_cli.specs.Answered.{Answered}
+use Rattle.mp_cli.specs.Lines.{Answered}
 use Rattle.mp_cli.specs.Counted.{device_of, calls_of, failures_of, bytes_of, IsFlushed}
 
 -- The reads gave these bytes, and but for one each gave some. `remaining` says which bytes a reader

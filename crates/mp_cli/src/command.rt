@@ -3,7 +3,8 @@ ghost use Rattle.std.specs.Prelude.{◌≡◌, ◌≢◌, map, true, false, Some
 ghost use Rattle.clap.specs.Words.{app_of, kind_of, shape_of, subcommand_name_of, subcommand_rows_of, takes, with_subcommand, IsAmong};
 ghost use Rattle.clap.specs.Simple.{new_shape};
 ghost use Rattle.clap.specs.declared.builder.command.Command.TheViews.{out-Command};
-ghost use Rattle.mp_cli.specs.CommandLine.{command_line, get_shape, asked_for, faults_of, pointer_given, pointer_in, word_of, CarriesPointer, HasMistake, HasPointer, IsSubcommand, IsHelp, IsUsage};
+ghost use Rattle.mp_cli.specs.CommandLine.{command_line, get_shape, asked_for, faults_of, pointer_given, pointer_in, word_of, CarriesPointer, HasMistake, IsHelp, IsUsage};
+ghost use Rattle.mp_cli.specs.Private.Matches.{HasPointer, IsSubcommand};
 ghost use Rattle.mp_cli.specs.declared.command.CommandFault.TheVariants.{OutOfMemory};
 
 use crate::help::{AFTER_HELP, GET, HelpTexts, JOIN, MERGE, PATCH, REPLAY, REWRITE};
@@ -83,7 +84,7 @@ pub fn command_of(alloc: Global, words: Vec<String>) -> Result<Command, CommandF
 {
     let line = program_line(alloc)?;
     match line.try_get_matches_from(words.as_slice()) {
-        Ok(matches) => Ok(chosen(alloc, &matches)?),
+        Ok(matches) => Ok(command_from(alloc, &matches)?),
         Err(error) => Err(refusal(alloc, &error)),
     }
 }
@@ -148,7 +149,7 @@ fn get_line<'a>(alloc: Global) -> Result<clap::Command<'a>, AllocError>
 }
 
 /// The command of the subcommand that was met.
-fn chosen(alloc: Global, matches: &ArgMatches<'_>) -> Result<Command, AllocError>
+fn command_from(alloc: Global, matches: &ArgMatches<'_>) -> Result<Command, AllocError>
     requires known { IsSubcommand (subcommand_name_of matches.now) }
     requires pointer { HasPointer (subcommand_rows_of matches.now) }
     ensures command { IfOk result (λ command.

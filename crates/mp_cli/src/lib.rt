@@ -8,13 +8,15 @@ mod command;
 mod counted;
 mod help;
 pub mod laws;
+mod lines;
 mod running;
 
 pub use answering::answer;
 pub use answers::Answer;
 pub use command::{Command, CommandFault, command_of};
 pub use counted::Counted;
-pub use running::{INPUT_LIMIT, READ_LIMIT, RunFault, fault_line, run};
+pub use lines::fault_line;
+pub use running::{INPUT_LIMIT, READ_LIMIT, RunFault, run};
 
 #[cfg(test)]
 mod run_tests;

@@ -1,8 +1,8 @@
 //! The run of the program: its input is read, answered and written.
 ghost use Rattle.std.specs.Prelude.{◌≡◌, ◌≢◌, ◌↔◌, ◌<◌, ◌≤◌, ℕ, List, IsErrOf, IfOk, IfErr, OnOk, OnErr};
-ghost use Rattle.mp_cli.specs.Answered.{Answered, IsAnswered};
-ghost use Rattle.mp_cli.specs.Counted.{device_of, calls_of, failures_of, bytes_of};
-ghost use Rattle.mp_cli.specs.FaultLine.{line_of, status_of};
+ghost use Rattle.mp_cli.specs.Answered.{IsAnswered};
+ghost use Rattle.mp_cli.specs.Lines.{Answered};
+ghost use Rattle.mp_cli.specs.Counted.{calls_of, failures_of, bytes_of};
 ghost use Rattle.mp_cli.specs.Run.{ReadsBytes, ReadsWhole, WritesPart, WritesWhole, BreaksOff, Delivers};
 ghost use Rattle.mp_cli.specs.declared.running.RunFault.TheVariants.{OutOfMemory};
 
@@ -45,21 +45,6 @@ impl From<AllocError> for RunFault {
 
     fn from(_error: AllocError) -> RunFault {
         RunFault::OutOfMemory
-    }
-}
-
-/// The line for a fault of `run`, without its newline, and the status that the program ends with.
-///
-/// For `RunFault::ReadFailed` it is the line `read failed` with the status 3.
-pub fn fault_line(fault: &RunFault) -> (&'static str, u8)
-    ensures line { result.0.now ≡ line_of fault.now }
-    ensures status { result.1 ≡ status_of fault.now }
-{
-    match fault {
-        RunFault::ReadFailed => ("read failed", 3),
-        RunFault::WriteFailed => ("write failed", 3),
-        RunFault::TooLong => ("input: too long", 2),
-        RunFault::OutOfMemory => ("out of memory", 3),
     }
 }
 

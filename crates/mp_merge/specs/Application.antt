@@ -8,33 +8,33 @@ target_members (Some (object ts)) = ts
 target_members _ = no_members
 
 -- n is taken out where the patch has null there, and else is set to the merged value
-abbrev pub changed : List ℕ → Document → Document → Members → Members
-changed n null merged ms = without n ms
-changed n (flag b) merged ms = put n merged ms
-changed n (whole z) merged ms = put n merged ms
-changed n (string s) merged ms = put n merged ms
-changed n (list ds) merged ms = put n merged ms
-changed n (object ps) merged ms = put n merged ms
+abbrev pub set_or_remove : List ℕ → Document → Document → Members → Members
+set_or_remove n null merged ms = without n ms
+set_or_remove n (flag b) merged ms = put n merged ms
+set_or_remove n (whole z) merged ms = put n merged ms
+set_or_remove n (string s) merged ms = put n merged ms
+set_or_remove n (list ds) merged ms = put n merged ms
+set_or_remove n (object ps) merged ms = put n merged ms
 
 -- MergePatch(target, patch)
 abbrev mutual
-  pub mp : Option Document → Document → Document
-  mp t null = null
-  mp t (flag b) = flag b
-  mp t (whole z) = whole z
-  mp t (string s) = string s
-  mp t (list ds) = list ds
-  mp t (object ps) = object (mp_members (target_members t) ps)
+  pub merge_patch : Option Document → Document → Document
+  merge_patch t null = null
+  merge_patch t (flag b) = flag b
+  merge_patch t (whole z) = whole z
+  merge_patch t (string s) = string s
+  merge_patch t (list ds) = list ds
+  merge_patch t (object ps) = object (merge_patch_members (target_members t) ps)
 
   -- each name of the patch is changed, and what the patch does not carry stays
-  pub mp_members : Members → Members → Members
-  mp_members ts no_members = ts
-  mp_members ts (member n p ps) = changed n p (mp (find n ts) p) (mp_members ts ps)
+  pub merge_patch_members : Members → Members → Members
+  merge_patch_members ts no_members = ts
+  merge_patch_members ts (member n p ps) = set_or_remove n p (merge_patch (find n ts) p) (merge_patch_members ts ps)
 
 -- each patch of the list applied, in turn, to what those before it left
 abbrev pub in_turn : Document → List Document → Document
 in_turn d [] = d
-in_turn d (p ∷ ps) = in_turn (mp (Some d) p) ps
+in_turn d (p ∷ ps) = in_turn (merge_patch (Some d) p) ps
 
 -- an absent target counts as depth 0
 abbrev pub depth_of : Option Document → ℕ
@@ -55,4 +55,4 @@ unless_null (object ps) merged = Some merged
 -- what the target has stays where the patch does not carry the name
 abbrev pub after_patch : Option Document → Option Document → Option Document
 after_patch t None = t
-after_patch t (Some p) = unless_null p (mp t p)
+after_patch t (Some p) = unless_null p (merge_patch t p)

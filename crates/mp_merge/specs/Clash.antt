@@ -27,6 +27,6 @@ pub record AreAllClashes (p q : Document) (places : List Path) : Type 0 where
   pub all : (w : Path) → Contains places w ↔ Clash p q w
 
 -- the patches clash, and these are all their conflicts
-pub record AreConflicts (p q : Document) (places : List Path) : Type 0 where
+pub record AreConflictsOfPair (p q : Document) (places : List Path) : Type 0 where
   pub some : places ≢ []
   pub clashes : AreAllClashes p q places

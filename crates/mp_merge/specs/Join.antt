@@ -3,7 +3,7 @@ use Rattle.std.specs.Prelude.{◌≡◌, ◌≢◌, List, ⊤}
 use Rattle.std.specs.List.{Contains}
 use Rattle.mp_tree.specs.Document.{Document}
 use Rattle.mp_tree.specs.Look.{Path, nothing, look}
-use Rattle.mp_merge.specs.Clash.{AreConflicts}
+use Rattle.mp_merge.specs.Clash.{AreConflictsOfPair}
 use Rattle.mp_merge.specs.declared.fault.JoinFault.{JoinFault}
 use Rattle.mp_merge.specs.declared.fault.JoinFault.TheVariants.{Conflict, OutOfMemory}
 
@@ -15,5 +15,5 @@ pub record IsJoin (patches : List Document) (j : Document) : Type 0 where
 
 -- why two patches have no join; want of memory says nothing of them
 abbrev pub IsJoinFault : JoinFault → Document → Document → Type 0
-IsJoinFault (Conflict places) p q = AreConflicts p q places.items
+IsJoinFault (Conflict places) p q = AreConflictsOfPair p q places.items
 IsJoinFault OutOfMemory p q = ⊤

@@ -3,16 +3,15 @@ use Rattle.std.specs.Prelude.{◌≡◌, ◌≢◌, ◌≤◌, ◌↔◌, ◌⊎
 use Rattle.std.specs.List.{All, Contains}
 use Rattle.mp_tree.specs.Document.{Document, null, object, Members, find, IsDocument, IsMap, depth, depth_limit}
 use Rattle.mp_tree.specs.Look.{Path, plain, look}
-use Rattle.mp_patch.specs.Laws.{HaveDocuments}
-use Rattle.mp_patch.specs.Operation.{Operation, test}
+use Rattle.mp_patch.specs.Operation.{HaveDocuments, Operation, test}
 use Rattle.mp_patch.specs.Run.{Runs, RefusedAt}
 use Rattle.mp_patch.specs.declared.fault.Cause.{Cause}
 use Rattle.mp_pointer.specs.Part.{part}
 use Rattle.mp_merge.specs.EditPlace.{IsEditPlace}
-use Rattle.mp_merge.specs.Application.{mp, in_turn, target_members, after_patch}
+use Rattle.mp_merge.specs.Application.{merge_patch, in_turn, target_members, after_patch}
 use Rattle.mp_merge.specs.Clash.{Clash, Compatible, AreAllClashes}
 use Rattle.mp_merge.specs.Join.{IsJoin}
-use Rattle.mp_merge.specs.Lists.{PairwiseCompatible, AreWithin, IsToldPair}
+use Rattle.mp_merge.specs.Lists.{PairwiseCompatible, AreWithin, IsToldPair, HaveSameMembers}
 use Rattle.mp_merge.specs.Outcome.{IsOutcome}
 use Rattle.mp_merge.specs.Resumption.{AreTries, last_of}
 use Rattle.mp_merge.specs.Rewriting.{IsRewriting, ListsEdits}
@@ -23,29 +22,29 @@ use Rattle.mp_merge.specs.Rewriting.{IsRewriting, ListsEdits}
 abbrev pub AppliesAtEachName : Type 0
 AppliesAtEachName =
     (t : Option Document) (ps : Members) → IfSome t IsDocument → IsMap ps
-    → (ms : Members) × (mp t (object ps) ≡ object ms) × IsMap ms × ((n : List ℕ) → find n ms ≡ after_patch (find n (target_members t)) (find n ps))
+    → (ms : Members) × (merge_patch t (object ps) ≡ object ms) × IsMap ms × ((n : List ℕ) → find n ms ≡ after_patch (find n (target_members t)) (find n ps))
 
 -- and any other patch is the result
 abbrev pub OthersReplace : Type 0
-OthersReplace = (t : Option Document) (p : Document) → look p [] ≡ plain p → mp t p ≡ p
+OthersReplace = (t : Option Document) (p : Document) → look p [] ≡ plain p → merge_patch t p ≡ p
 
 -- merging into null gives what merging into nothing gives
 abbrev pub MergesIntoNull : Type 0
-MergesIntoNull = (p : Document) → mp (Some null) p ≡ mp None p
+MergesIntoNull = (p : Document) → merge_patch (Some null) p ≡ merge_patch None p
 
 -- applying a patch twice is applying it once
 abbrev pub AppliedOnce : Type 0
-AppliedOnce = (d p : Document) → IsDocument d → IsDocument p → mp (Some (mp (Some d) p)) p ≡ mp (Some d) p
+AppliedOnce = (d p : Document) → IsDocument d → IsDocument p → merge_patch (Some (merge_patch (Some d) p)) p ≡ merge_patch (Some d) p
 
 -- after any number of tries that were refused, one that succeeds leaves one application to the first target
 abbrev pub TriesResume : Type 0
-TriesResume = (d p : Document) (tries : List Document) → AreTries p d tries → mp (Some (last_of d tries)) p ≡ mp (Some d) p
+TriesResume = (d p : Document) (tries : List Document) → AreTries p d tries → merge_patch (Some (last_of d tries)) p ≡ merge_patch (Some d) p
 
 -- ---- outcomes
 
 -- one application is the outcome of the patch alone
 abbrev pub ApplicationIsOutcome : Type 0
-ApplicationIsOutcome = (d p : Document) → IsDocument d → IsDocument p → IsOutcome d (p ∷ []) (mp (Some d) p)
+ApplicationIsOutcome = (d p : Document) → IsDocument d → IsDocument p → IsOutcome d (p ∷ []) (merge_patch (Some d) p)
 
 -- a start and a collection have at most one outcome
 abbrev pub HasOneOutcome : Type 0
@@ -62,10 +61,6 @@ HasOutcome d patches = (e : Document) × IsDocument e × IsOutcome d patches e
 -- patches have an outcome exactly if they are pairwise compatible, and then on every document
 abbrev pub OutcomeExists : Type 0
 OutcomeExists = (d : Document) (patches : List Document) → IsDocument d → All IsDocument patches → HasOutcome d patches ↔ PairwiseCompatible patches
-
--- the lists have the same members, in any order and with any repeats
-abbrev pub HaveSameMembers : List Document → List Document → Type 0
-HaveSameMembers ps qs = (p : Document) → Contains ps p ↔ Contains qs p
 
 -- replicas that start from one document and receive the same patches end with the same document
 abbrev pub ReplicasAgree : Type 0
@@ -200,7 +195,7 @@ JoinIsNoDeeper = (patches : List Document) (j : Document) (n : ℕ) → IsDocume
 
 -- one application of the join is the outcome of the patches
 abbrev pub JoinGivesOutcome : Type 0
-JoinGivesOutcome = (d : Document) (patches : List Document) (j : Document) → IsDocument d → IsDocument j → IsJoin patches j → IsOutcome d patches (mp (Some d) j)
+JoinGivesOutcome = (d : Document) (patches : List Document) (j : Document) → IsDocument d → IsDocument j → IsJoin patches j → IsOutcome d patches (merge_patch (Some d) j)
 
 -- ---- rewriting a patch as a JSON Patch
 
@@ -218,7 +213,7 @@ RewritingHasDocuments = (d p : Document) (operations : List Operation) → IsDoc
 
 -- it is empty exactly if the application leaves the document as it is
 abbrev pub EmptyRewriting : Type 0
-EmptyRewriting = (d p : Document) (operations : List Operation) → IsDocument d → IsDocument p → IsRewriting d p operations → (operations ≡ []) ↔ (mp (Some d) p ≡ d)
+EmptyRewriting = (d p : Document) (operations : List Operation) → IsDocument d → IsDocument p → IsRewriting d p operations → (operations ≡ []) ↔ (merge_patch (Some d) p ≡ d)
 
 -- where the rewriting of d runs from any document x, each place that it changes has in x the part that it has in d
 abbrev pub GuardedList : Type 0
@@ -235,8 +230,8 @@ RefusedGuardTells =
 
 -- the tests and then the edits of a document and a patch in any order lead to the application, and none is refused
 abbrev pub EditsInAnyOrder : Type 0
-EditsInAnyOrder = (d p : Document) (operations : List Operation) → IsDocument d → IsDocument p → depth p ≤ depth_limit → ListsEdits d p operations → Runs d operations (mp (Some d) p)
+EditsInAnyOrder = (d p : Document) (operations : List Operation) → IsDocument d → IsDocument p → depth p ≤ depth_limit → ListsEdits d p operations → Runs d operations (merge_patch (Some d) p)
 
 -- so does the rewriting
 abbrev pub RewritingRuns : Type 0
-RewritingRuns = (d p : Document) (operations : List Operation) → IsDocument d → IsDocument p → depth p ≤ depth_limit → IsRewriting d p operations → Runs d operations (mp (Some d) p)
+RewritingRuns = (d p : Document) (operations : List Operation) → IsDocument d → IsDocument p → depth p ≤ depth_limit → IsRewriting d p operations → Runs d operations (merge_patch (Some d) p)

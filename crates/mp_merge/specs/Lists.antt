@@ -1,9 +1,9 @@
 -- Lists of merge patches, numbered from 0: how deep they are, and their conflicts.
-use Rattle.std.specs.Prelude.{◌≡◌, ◌<◌, ◌≤◌, ℕ, List, [], Some, slice_get, ⊤}
+use Rattle.std.specs.Prelude.{◌≡◌, ◌<◌, ◌≤◌, ℕ, List, [], Some, slice_get, ⊤, ◌↔◌}
 use Rattle.std.specs.List.{All, Contains}
 use Rattle.mp_tree.specs.Document.{Document, depth}
 use Rattle.mp_tree.specs.Look.{Path}
-use Rattle.mp_merge.specs.Clash.{Compatible, AreConflicts}
+use Rattle.mp_merge.specs.Clash.{Compatible, AreConflictsOfPair}
 use Rattle.mp_merge.specs.declared.fault.ListFault.{ListFault}
 use Rattle.mp_merge.specs.declared.fault.ListFault.TheVariants.{NoPatches, ConflictOf, OutOfMemory}
 
@@ -30,7 +30,7 @@ pub record IsClashBelow (patches : List Document) (first second : ℕ) (places :
   pub at_first : slice_get patches first ≡ Some one
   pub at_second : slice_get patches second ≡ Some other
   pub in_order : first < second
-  pub conflicts : AreConflicts one other places
+  pub conflicts : AreConflictsOfPair one other places
   pub least_first : CompatibleBelow patches first other
 
 -- `second` is the least number of a patch that clashes with an earlier one, `first` the least number below it that
@@ -40,13 +40,17 @@ pub record IsToldPair (patches : List Document) (first second : ℕ) (places : L
   pub least_second : (k : ℕ) → k < second → IsFreeBelow patches k
 
 -- why a list has no join; want of memory says nothing of it
-abbrev pub IsListFault : ListFault → List Document → Type 0
-IsListFault NoPatches patches = patches ≡ []
-IsListFault (ConflictOf first second places) patches = IsToldPair patches first second places.items
-IsListFault OutOfMemory patches = ⊤
+abbrev pub IsJoinAllFault : ListFault → List Document → Type 0
+IsJoinAllFault NoPatches patches = patches ≡ []
+IsJoinAllFault (ConflictOf first second places) patches = IsToldPair patches first second places.items
+IsJoinAllFault OutOfMemory patches = ⊤
 
 -- why a list can't be replayed: the empty list can
 abbrev pub IsReplayFault : ListFault → List Document → Type 0
 IsReplayFault NoPatches patches = ⊥
 IsReplayFault (ConflictOf first second places) patches = IsToldPair patches first second places.items
 IsReplayFault OutOfMemory patches = ⊤
+
+-- the lists have the same members, in any order and with any repeats
+abbrev pub HaveSameMembers : List Document → List Document → Type 0
+HaveSameMembers ps qs = (p : Document) → Contains ps p ↔ Contains qs p

@@ -2,7 +2,7 @@
 use Rattle.std.specs.Prelude.{◌≡◌, List, [], ◌∷◌, Some, ⊤}
 use Rattle.mp_tree.specs.Document.{Document, null}
 use Rattle.mp_tree.specs.Look.{Path, an_object, plain, look}
-use Rattle.mp_merge.specs.Application.{mp}
+use Rattle.mp_merge.specs.Application.{merge_patch}
 
 -- the patch is an object of nulls and objects alone, and the target has an object wherever the patch has one: then
 -- nothing is copied from the patch
@@ -13,7 +13,7 @@ pub record NeedsNoMemory (target patch : Document) : Type 0 where
 
 -- applying the patch to what is left now gives what applying it to the target before gives
 abbrev pub Resumes : Document → Document → Document → Type 0
-Resumes patch before now = mp (Some now) patch ≡ mp (Some before) patch
+Resumes patch before now = merge_patch (Some now) patch ≡ merge_patch (Some before) patch
 
 -- each try, one after another, left a document from which the patch can be applied again
 abbrev pub AreTries : Document → Document → List Document → Type 0

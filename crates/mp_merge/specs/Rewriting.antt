@@ -7,26 +7,26 @@ use Rattle.mp_tree.specs.Document.{Document}
 use Rattle.mp_tree.specs.Look.{Path, Look, nothing, an_object, plain, look}
 use Rattle.mp_pointer.specs.Part.{part}
 use Rattle.mp_patch.specs.Operation.{Operation, add, remove, replace, test}
-use Rattle.mp_merge.specs.Application.{mp, unless_null}
+use Rattle.mp_merge.specs.Application.{merge_patch, unless_null}
 use Rattle.mp_merge.specs.Clash.{path_cmp}
 use Rattle.mp_merge.specs.EditPlace.{IsEditPlace}
 
 -- what a part of a patch leaves where nothing was: a null below the root leaves nothing (at an edit place the patch has a part)
 abbrev pub part_left : Path → Option Document → Option Document
 part_left w None = None
-part_left [] (Some q) = Some (mp None q)
-part_left (n ∷ w) (Some q) = unless_null q (mp None q)
+part_left [] (Some q) = Some (merge_patch None q)
+part_left (n ∷ w) (Some q) = unless_null q (merge_patch None q)
 
 -- the operation that leaves it where the document has that look
-abbrev pub leaving : Path → Look → Option Document → Operation
-leaving w l None = remove w
-leaving w nothing (Some v) = add w v
-leaving w an_object (Some v) = replace w v
-leaving w (plain x) (Some v) = replace w v
+abbrev pub edit_to : Path → Look → Option Document → Operation
+edit_to w l None = remove w
+edit_to w nothing (Some v) = add w v
+edit_to w an_object (Some v) = replace w v
+edit_to w (plain x) (Some v) = replace w v
 
 -- the edit of d and p at the path
 abbrev pub edit : Document → Document → Path → Operation
-edit d p w = leaving w (look d w) (part_left w (part p w))
+edit d p w = edit_to w (look d w) (part_left w (part p w))
 
 -- the test of what d has at the path; none where it has nothing
 abbrev pub guard_of : Path → Option Document → List Operation

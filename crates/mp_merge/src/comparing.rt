@@ -2,10 +2,11 @@
 ghost use Rattle.std.specs.Prelude.{◌≡◌, ◌↔◌, Some, IsTrue, IfOk, OnOk};
 ghost use Rattle.std.specs.Prelude.{List, ℕ};
 ghost use Rattle.mp_tree.specs.Document.{object};
-ghost use Rattle.mp_tree.specs.View.{document, members};
+ghost use Rattle.mp_tree.specs.View.{document};
+ghost use Rattle.mp_tree.specs.Private.Entries.{members};
 ghost use Rattle.mp_merge.specs.Clash.{Compatible, AreAllClashes};
-ghost use Rattle.mp_merge.specs.ClashWalk.{IsOneClash, WalksClashes, WalksMembers};
-ghost use Rattle.mp_merge.specs.Walks.{Grew};
+ghost use Rattle.mp_merge.specs.Private.Clashes.{IsOneClash, WalksClashes, WalksMembers};
+ghost use Rattle.mp_merge.specs.Private.Growth.{Grew};
 
 use mp_pointer::Pointer;
 use mp_tree::Doc;
@@ -105,7 +106,7 @@ fn push_member_clashes(
 {
     for (name, change) in changes.iter() {
         if let Some(other) = others.get(name.as_str()) {
-            path.push(alloc, name.as_str())?;
+            path.push(name.as_str())?;
             push_clashes(change, other, path, places, alloc)?;
             path.pop();
         }

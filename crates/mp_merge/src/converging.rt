@@ -1,8 +1,8 @@
 //! The promise of this library, run by its public calls alone.
 ghost use Rattle.std.specs.Prelude.{◌≡◌, Some, map, IfOk, IfErr, Ok};
 ghost use Rattle.mp_tree.specs.View.{document};
-ghost use Rattle.mp_merge.specs.Application.{mp};
-ghost use Rattle.mp_merge.specs.Converging.{AreReplicas};
+ghost use Rattle.mp_merge.specs.Application.{merge_patch};
+ghost use Rattle.mp_merge.specs.Replicas.{AreReplicas};
 ghost use Rattle.mp_merge.specs.Join.{IsJoin};
 
 use crate::fault::{ConvergeFault, ListFault};
@@ -62,15 +62,15 @@ pub fn converge(
     // It is the join of the patches, and the document is one application of it.
     ensures is_join { IfOk result (λ c. IsJoin (map document here.now) (document c.joined_here)) }
     ensures application { IfOk result (λ c.
-        document c.merged ≡ mp (Some (document start.now)) (document c.joined_here)) }
+        document c.merged ≡ merge_patch (Some (document start.now)) (document c.joined_here)) }
 {
     mp_tree::laws::docs_are_documents();
     laws::replicas_converge();
     laws::one_rewriting();
-    let replayed_here = taken(replay(alloc, start, here))?;
-    let replayed_there = taken(replay(alloc, start, there))?;
-    let joined_here = taken(join_all(alloc, here))?;
-    let joined_there = taken(join_all(alloc, there))?;
+    let replayed_here = one_memory_fault(replay(alloc, start, here))?;
+    let replayed_there = one_memory_fault(replay(alloc, start, there))?;
+    let joined_here = one_memory_fault(join_all(alloc, here))?;
+    let joined_there = one_memory_fault(join_all(alloc, there))?;
     let merged = merge(alloc, Some(start), &joined_here)?;
     let edits = rewrite(alloc, start, &joined_here)?;
     let patched = match apply(alloc, start, &edits) {
@@ -91,7 +91,7 @@ pub fn converge(
 }
 
 // Want of memory is one fault, from whichever call it comes.
-fn taken(answer: Result<Doc, ListFault>) -> Result<Doc, ConvergeFault>
+fn one_memory_fault(answer: Result<Doc, ListFault>) -> Result<Doc, ConvergeFault>
     ensures ok { IfOk result (λ d. answer ≡ Ok d) }
     ensures err { IfErr result (λ fault. IfErr answer (λ cause. cause ≡ ListFault.OutOfMemory)
         → fault ≡ ConvergeFault.OutOfMemory) }

@@ -1,9 +1,10 @@
 //! Merging a patch into a document where it stands.
 ghost use Rattle.std.specs.Prelude.{◌≡◌, ◌≤◌, max, None, Some, IsOk, OnOk, OnErr, string_bytes};
 ghost use Rattle.mp_tree.specs.Document.{object, find, depth};
-ghost use Rattle.mp_tree.specs.View.{document, members};
-ghost use Rattle.mp_merge.specs.Application.{changed, mp, mp_members, target_members};
-ghost use Rattle.mp_merge.specs.MergeWalk.{ResumesAt, NeedsNoneAt, NeedsNoneIn};
+ghost use Rattle.mp_tree.specs.View.{document};
+ghost use Rattle.mp_tree.specs.Private.Entries.{members};
+ghost use Rattle.mp_merge.specs.Application.{set_or_remove, merge_patch, merge_patch_members, target_members};
+ghost use Rattle.mp_merge.specs.Private.Merging.{ResumesAt, NeedsNoneAt, NeedsNoneIn};
 ghost use Rattle.mp_merge.specs.Resumption.{NeedsNoMemory, Resumes};
 
 use crate::merging::{entries_of, is_null};
@@ -27,7 +28,7 @@ use std::mem;
 /// [`merge`]: crate::merge
 pub fn merge_into(alloc: Global, target: &mut Doc, patch: &Doc) -> Result<(), AllocError>
     ensures merged { OnOk result
-        (document target.new ≡ mp (Some (document target.old)) (document patch.now)) }
+        (document target.new ≡ merge_patch (Some (document target.old)) (document patch.now)) }
     ensures depth { OnOk result (depth (document target.new)
         ≤ max (depth (document target.old)) (depth (document patch.now))) }
     ensures resumes { OnErr result
@@ -41,7 +42,7 @@ pub fn merge_into(alloc: Global, target: &mut Doc, patch: &Doc) -> Result<(), Al
 #[cycle(merge_at)]
 fn merge_at(patch: &Doc, target: &mut Doc, alloc: Global) -> Result<(), AllocError>
     ensures merged { OnOk result
-        (document target.new ≡ mp (Some (document target.old)) (document patch.now)) }
+        (document target.new ≡ merge_patch (Some (document target.old)) (document patch.now)) }
     ensures resumes { OnErr result
         (Resumes (document patch.now) (document target.old) (document target.new)) }
     ensures no_memory { NeedsNoMemory (document target.old) (document patch.now) → IsOk result }
@@ -75,10 +76,10 @@ fn merge_members(
     alloc: Global,
 ) -> Result<(), AllocError>
     ensures merged { OnOk result (members entries.new.entries
-        ≡ mp_members (members entries.old.entries) (members changes.now.entries)) }
+        ≡ merge_patch_members (members entries.old.entries) (members changes.now.entries)) }
     ensures resumes { OnErr result
-        (mp_members (members entries.new.entries) (members changes.now.entries)
-        ≡ mp_members (members entries.old.entries) (members changes.now.entries)) }
+        (merge_patch_members (members entries.new.entries) (members changes.now.entries)
+        ≡ merge_patch_members (members entries.old.entries) (members changes.now.entries)) }
     ensures no_memory { NeedsNoneIn (members changes.now.entries) (members entries.old.entries)
         → IsOk result }
 {
@@ -99,7 +100,8 @@ fn merge_entry(
 ) -> Result<(), AllocError>
     ensures merged { OnOk result (let ts = members entries.old.entries in
         members entries.new.entries
-        ≡ changed name.now (document change.now) (mp (find name.now ts) (document change.now)) ts) }
+        ≡ set_or_remove name.now (document change.now)
+        (merge_patch (find name.now ts) (document change.now)) ts) }
     ensures resumes { OnErr result (ResumesAt name.now (document change.now)
         (members entries.old.entries) (members entries.new.entries)) }
     ensures no_memory { NeedsNoneAt (document change.now)

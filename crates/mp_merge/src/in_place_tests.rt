@@ -65,7 +65,7 @@ fn is_text<R: Abort + AllocGlobal>(rt: &R, doc: &Doc, wanted: &str) -> Result<()
 }
 
 #[test]
-fn merged_in_place(rt: HostRuntime) -> Result<(), Fail> {
+fn merging_in_place_twice_is_merging_once(rt: HostRuntime) -> Result<(), Fail> {
     for (start, change, wanted) in MERGED {
         let mut target = read_doc(rt.alloc(), start.as_bytes())?;
         let patch = read_doc(rt.alloc(), change.as_bytes())?;
@@ -78,7 +78,7 @@ fn merged_in_place(rt: HostRuntime) -> Result<(), Fail> {
 }
 
 #[test]
-fn replicas(rt: HostRuntime) -> Result<(), Fail> {
+fn replicas_converge_by_each_way(rt: HostRuntime) -> Result<(), Fail> {
     for (start, here, there, document, join) in REPLICAS {
         let start = read_doc(rt.alloc(), start.as_bytes())?;
         let here = read_docs(rt.alloc(), here.as_bytes())?;
@@ -95,7 +95,7 @@ fn replicas(rt: HostRuntime) -> Result<(), Fail> {
 }
 
 #[test]
-fn replicas_that_clash(rt: HostRuntime) -> Result<(), Fail> {
+fn replicas_that_clash_are_refused(rt: HostRuntime) -> Result<(), Fail> {
     let patches = read_docs(rt.alloc(), br#"[{"a":1},{"a":2}]"#)?;
     let Err(fault) = converge(rt.alloc(), &Doc::Null, patches.as_slice(), &[]) else {
         assert!(rt; false, "patches that clash");

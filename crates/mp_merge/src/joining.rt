@@ -1,9 +1,10 @@
 //! The join of two merge patches.
 ghost use Rattle.std.specs.Prelude.{◌≡◌, ◌≤◌, ◌∷◌, [], max, IfOk, OnOk, MatchResult, string_bytes};
 ghost use Rattle.mp_tree.specs.Document.{depth, find, put};
-ghost use Rattle.mp_tree.specs.View.{document, members};
+ghost use Rattle.mp_tree.specs.View.{document};
+ghost use Rattle.mp_tree.specs.Private.Entries.{members};
 ghost use Rattle.mp_merge.specs.Join.{IsJoin, IsJoinFault};
-ghost use Rattle.mp_merge.specs.Walks.{union, union_members, united as united_at};
+ghost use Rattle.mp_merge.specs.Private.Unions.{union, union_members, union_with};
 
 use crate::comparing::{compatible, conflict};
 use crate::fault::JoinFault;
@@ -33,25 +34,25 @@ pub fn join(alloc: Global, p: &Doc, q: &Doc) -> Result<Doc, JoinFault>
     if !compatible(p, q) {
         return Err(JoinFault::Conflict(conflict(alloc, p, q)?));
     }
-    Ok(united(q, p.copy(alloc)?, alloc)?)
+    Ok(unite(q, p.copy(alloc)?, alloc)?)
 }
 
 // What was joined before grows by the patch, and is not copied.
-#[cycle(united)]
-pub(crate) fn united(patch: &Doc, joined: Doc, alloc: Global) -> Result<Doc, AllocError>
+#[cycle(unite)]
+pub(crate) fn unite(patch: &Doc, joined: Doc, alloc: Global) -> Result<Doc, AllocError>
     ensures { IfOk result (λ d. document d ≡ union (document patch.now) (document joined)) }
 {
     match patch {
         Doc::Members(changes) => match joined {
-            Doc::Members(entries) => Ok(Doc::Members(united_members(changes, entries, alloc)?)),
+            Doc::Members(entries) => Ok(Doc::Members(unite_members(changes, entries, alloc)?)),
             other => Ok(other),
         },
         _ => Ok(joined),
     }
 }
 
-#[cycle(united)]
-fn united_members(
+#[cycle(unite)]
+fn unite_members(
     changes: &BTreeMap<String, Doc>,
     mut entries: BTreeMap<String, Doc>,
     alloc: Global,
@@ -65,7 +66,7 @@ fn united_members(
     Ok(entries)
 }
 
-#[cycle(united)]
+#[cycle(unite)]
 fn unite_entry(
     change: &Doc,
     name: &str,
@@ -74,12 +75,12 @@ fn unite_entry(
 ) -> Result<(), AllocError>
     ensures { OnOk result (let js = members entries.old.entries in
         members entries.new.entries
-        ≡ put name.now (united_at (document change.now) (find name.now js)) js) }
+        ≡ put name.now (union_with (document change.now) (find name.now js)) js) }
 {
     match entries.get_mut(name) {
         Some(slot) => {
             let before = mem::replace(slot, Doc::Null);
-            *slot = united(change, before, alloc)?;
+            *slot = unite(change, before, alloc)?;
             Ok(())
         }
         None => {

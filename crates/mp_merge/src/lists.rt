@@ -3,12 +3,12 @@ ghost use Rattle.std.specs.Prelude.{◌≡◌, ◌<◌, ◌≤◌, ◌+◌, ℕ,
 ghost use Rattle.mp_tree.specs.Document.{depth};
 ghost use Rattle.mp_tree.specs.View.{document};
 ghost use Rattle.mp_merge.specs.Join.{IsJoin};
-ghost use Rattle.mp_merge.specs.Lists.{AreWithin, IsListFault, IsReplayFault, IsFreeBelow, IsClashBelow};
+ghost use Rattle.mp_merge.specs.Lists.{AreWithin, IsJoinAllFault, IsReplayFault, IsFreeBelow, IsClashBelow};
 ghost use Rattle.mp_merge.specs.Outcome.{IsOutcome};
 
 use crate::comparing::{compatible, conflict};
 use crate::fault::ListFault;
-use crate::joining::united;
+use crate::joining::unite;
 use crate::merging::merge_owned;
 use mp_pointer::Pointer;
 use mp_tree::Doc;
@@ -26,7 +26,7 @@ use std::alloc::{AllocError, Global};
 /// ```
 pub fn join_all(alloc: Global, patches: &[Doc]) -> Result<Doc, ListFault>
     ensures joined { MatchResult result (λ j. IsJoin (map document patches.now) (document j))
-        (λ fault. IsListFault fault (map document patches.now)) }
+        (λ fault. IsJoinAllFault fault (map document patches.now)) }
     ensures depth { IfOk result (λ j. (n : ℕ)
         → AreWithin n (map document patches.now) → depth (document j) ≤ n) }
 {
@@ -35,13 +35,13 @@ pub fn join_all(alloc: Global, patches: &[Doc]) -> Result<Doc, ListFault>
     };
     let mut joined = first.copy(alloc)?;
     for second in 1..patches.len() {
-        joined = joined_with(alloc, patches, second, joined)?;
+        joined = join_next(alloc, patches, second, joined)?;
     }
     Ok(joined)
 }
 
 // The join of the patches up to and with number `second`, from the join of those before it.
-fn joined_with(alloc: Global, patches: &[Doc], second: usize, joined: Doc) -> Result<Doc, ListFault>
+fn join_next(alloc: Global, patches: &[Doc], second: usize, joined: Doc) -> Result<Doc, ListFault>
     requires within { second < length patches.now }
     requires joined { IsJoin (take second (map document patches.now)) (document joined) }
     ensures { MatchResult result
@@ -58,7 +58,7 @@ fn joined_with(alloc: Global, patches: &[Doc], second: usize, joined: Doc) -> Re
             });
         }
     }
-    Ok(united(patch, joined, alloc)?)
+    Ok(unite(patch, joined, alloc)?)
 }
 
 // The first of the patches below number `second` that clashes with it, and all conflicts of the two.

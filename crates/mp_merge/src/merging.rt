@@ -1,8 +1,9 @@
 //! Applying a merge patch (RFC 7396 section 2).
 ghost use Rattle.std.specs.Prelude.{◌≡◌, ◌≤◌, ◌↔◌, max, IsTrue, IfOk, OnOk, option_map, string_bytes};
 ghost use Rattle.mp_tree.specs.Document.{null, find, depth};
-ghost use Rattle.mp_tree.specs.View.{document, members};
-ghost use Rattle.mp_merge.specs.Application.{changed, depth_of, mp, mp_members, target_members};
+ghost use Rattle.mp_tree.specs.View.{document};
+ghost use Rattle.mp_tree.specs.Private.Entries.{members};
+ghost use Rattle.mp_merge.specs.Application.{set_or_remove, depth_of, merge_patch, merge_patch_members, target_members};
 
 use crate::in_place::merge_into;
 use mp_tree::Doc;
@@ -22,7 +23,7 @@ use std::mem;
 /// ```
 pub fn merge(alloc: Global, target: Option<&Doc>, patch: &Doc) -> Result<Doc, AllocError>
     ensures merged { IfOk result (λ d. document d
-        ≡ mp (option_map (λ t. document t.now) target.entry) (document patch.now)) }
+        ≡ merge_patch (option_map (λ t. document t.now) target.entry) (document patch.now)) }
     ensures depth { IfOk result (λ d. depth (document d)
         ≤ max (depth_of (option_map (λ t. document t.now) target.entry))
         (depth (document patch.now))) }
@@ -39,22 +40,23 @@ pub fn merge(alloc: Global, target: Option<&Doc>, patch: &Doc) -> Result<Doc, Al
 /// As `merge`, of a target and a patch that are owned: their parts are moved and not copied.
 pub fn merge_owned(alloc: Global, target: Option<Doc>, patch: Doc) -> Result<Doc, AllocError>
     ensures merged { IfOk result (λ d.
-        document d ≡ mp (option_map document target) (document patch)) }
+        document d ≡ merge_patch (option_map document target) (document patch)) }
     ensures depth { IfOk result (λ d. depth (document d)
         ≤ max (depth_of (option_map document target)) (depth (document patch))) }
 {
-    merged(patch, target, alloc)
+    owned_merge(patch, target, alloc)
 }
 
 // The patch comes first: the recursion goes down it.
-#[cycle(merged)]
-fn merged(patch: Doc, target: Option<Doc>, alloc: Global) -> Result<Doc, AllocError>
-    ensures { IfOk result (λ d. document d ≡ mp (option_map document target) (document patch)) }
+#[cycle(owned_merge)]
+fn owned_merge(patch: Doc, target: Option<Doc>, alloc: Global) -> Result<Doc, AllocError>
+    ensures { IfOk result (λ d.
+        document d ≡ merge_patch (option_map document target) (document patch)) }
 {
     match patch {
         Doc::Members(changes) => {
             let entries = entries_of(target, alloc);
-            Ok(Doc::Members(merged_members(changes, entries, alloc)?))
+            Ok(Doc::Members(owned_merge_members(changes, entries, alloc)?))
         }
         other => Ok(other),
     }
@@ -73,14 +75,14 @@ pub(crate) fn entries_of(target: Option<Doc>, alloc: Global) -> BTreeMap<String,
     }
 }
 
-#[cycle(merged)]
-fn merged_members(
+#[cycle(owned_merge)]
+fn owned_merge_members(
     changes: BTreeMap<String, Doc>,
     mut entries: BTreeMap<String, Doc>,
     alloc: Global,
 ) -> Result<BTreeMap<String, Doc>, AllocError>
     ensures { IfOk result (λ m. members m.entries
-        ≡ mp_members (members entries.entries) (members changes.entries)) }
+        ≡ merge_patch_members (members entries.entries) (members changes.entries)) }
 {
     for (name, change) in changes {
         change_entry(change, name, &mut entries, alloc)?;
@@ -89,7 +91,7 @@ fn merged_members(
 }
 
 // A null takes the name out; another value is merged with what stood there.
-#[cycle(merged)]
+#[cycle(owned_merge)]
 fn change_entry(
     change: Doc,
     name: String,
@@ -98,7 +100,7 @@ fn change_entry(
 ) -> Result<(), AllocError>
     ensures { OnOk result (let n = string_bytes name in let ts = members entries.old.entries in
         members entries.new.entries
-        ≡ changed n (document change) (mp (find n ts) (document change)) ts) }
+        ≡ set_or_remove n (document change) (merge_patch (find n ts) (document change)) ts) }
 {
     if is_null(&change) {
         drop(entries.remove(name.as_str()));
@@ -107,11 +109,11 @@ fn change_entry(
     match entries.get_mut(name.as_str()) {
         Some(slot) => {
             let target = mem::replace(slot, Doc::Null);
-            *slot = merged(change, Some(target), alloc)?;
+            *slot = owned_merge(change, Some(target), alloc)?;
             Ok(())
         }
         None => {
-            drop(entries.insert(name, merged(change, None, alloc)?)?);
+            drop(entries.insert(name, owned_merge(change, None, alloc)?)?);
             Ok(())
         }
     }

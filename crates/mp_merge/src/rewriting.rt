@@ -3,13 +3,14 @@ ghost use Rattle.std.specs.Prelude.{◌≡◌, ◌≤◌, ◌++◌, ◌∷◌, [
 ghost use Rattle.std.specs.List.{flat_map};
 ghost use Rattle.mp_patch.specs.Operation.{test};
 ghost use Rattle.mp_tree.specs.Document.{depth, depth_limit};
-ghost use Rattle.mp_tree.specs.View.{document, members};
+ghost use Rattle.mp_tree.specs.View.{document};
+ghost use Rattle.mp_tree.specs.Private.Entries.{members};
 ghost use Rattle.mp_patch.specs.Run.{Runs};
 ghost use Rattle.mp_patch.specs.View.{operation_of, operations_of};
-ghost use Rattle.mp_merge.specs.Application.{mp};
-ghost use Rattle.mp_merge.specs.EditWalk.{IsOneEdit, NotBothMaps, AreEdits, AreMemberEdits, all_guarded, guarded_of};
+ghost use Rattle.mp_merge.specs.Application.{merge_patch};
+ghost use Rattle.mp_merge.specs.Private.Edits.{IsOneEdit, NotBothMaps, AreEdits, AreMemberEdits, all_edits, guarded_edit_of};
 ghost use Rattle.mp_merge.specs.Rewriting.{IsRewriting};
-ghost use Rattle.mp_merge.specs.Walks.{Grew};
+ghost use Rattle.mp_merge.specs.Private.Growth.{Grew};
 
 use crate::merging::{is_null, merge};
 use mp_patch::{JsonPatch, Op};
@@ -42,7 +43,7 @@ pub fn rewrite(alloc: Global, doc: &Doc, patch: &Doc) -> Result<JsonPatch, Alloc
         IsRewriting (document doc.now) (document patch.now) (operations_of ops)) }
     ensures runs { IfOk result (λ ops. depth (document patch.now) ≤ depth_limit
         → Runs (document doc.now) (operations_of ops)
-        (mp (Some (document doc.now)) (document patch.now))) }
+        (merge_patch (Some (document doc.now)) (document patch.now))) }
 {
     let mut edits = Vec::new(alloc);
     push_all(patch, doc, &mut edits, alloc)?;
@@ -57,7 +58,7 @@ struct Edit {
 }
 
 fn guards_first(found: Vec<Edit>, alloc: Global) -> Result<JsonPatch, AllocError>
-    ensures { IfOk result (λ ops. let all = all_guarded found.items in
+    ensures { IfOk result (λ ops. let all = all_edits found.items in
         operations_of ops ≡ flat_map (λ g. g.0) all ++ map (λ g. g.1) all) }
 {
     let mut patch = JsonPatch::new(alloc);
@@ -84,7 +85,7 @@ fn push_ops(ops: Vec<Op>, patch: &mut JsonPatch) -> Result<(), AllocError>
 
 // Each function adds to the edits at their end, in the order of paths.
 fn push_all(patch: &Doc, doc: &Doc, edits: &mut Vec<Edit>, alloc: Global) -> Result<(), AllocError>
-    ensures { OnOk result (Grew (all_guarded edits.old.items) (all_guarded edits.new.items)
+    ensures { OnOk result (Grew (all_edits edits.old.items) (all_edits edits.new.items)
         (AreEdits [] (document patch.now) (Some (document doc.now)))) }
 {
     match patch {
@@ -106,14 +107,14 @@ fn push_root_edit(
     alloc: Global,
 ) -> Result<(), AllocError>
     ensures { OnOk result (NotBothMaps (document patch.now) (Some (document doc.now))
-        → Grew (all_guarded edits.old.items) (all_guarded edits.new.items)
+        → Grew (all_edits edits.old.items) (all_edits edits.new.items)
         (IsOneEdit [] (document patch.now) (Some (document doc.now)))) }
 {
     if patch.same(doc) {
         return Ok(());
     }
     let op = Op::Replace(Pointer::empty(alloc), merge(alloc, None, patch)?);
-    edits.push(guarded(Pointer::empty(alloc), doc, op, alloc)?)?;
+    edits.push(guarded_edit(Pointer::empty(alloc), doc, op, alloc)?)?;
     Ok(())
 }
 
@@ -127,7 +128,7 @@ fn push_member_edits(
     alloc: Global,
 ) -> Result<(), AllocError>
     ensures path { OnOk result (path.new ≡ path.old) }
-    ensures edits { OnOk result (Grew (all_guarded edits.old.items) (all_guarded edits.new.items)
+    ensures edits { OnOk result (Grew (all_edits edits.old.items) (all_edits edits.new.items)
         (AreMemberEdits path.old (members changes.now.entries) (members entries.now.entries))) }
 {
     for (name, change) in changes.iter() {
@@ -149,7 +150,7 @@ fn push_edits(
     alloc: Global,
 ) -> Result<(), AllocError>
     ensures path { OnOk result (path.new ≡ path.old) }
-    ensures edits { OnOk result (Grew (all_guarded edits.old.items) (all_guarded edits.new.items)
+    ensures edits { OnOk result (Grew (all_edits edits.old.items) (all_edits edits.new.items)
         (AreEdits (path.old ++ name.now ∷ []) (document change.now)
         (option_map (λ v. document v.now) value.entry))) }
 {
@@ -157,7 +158,7 @@ fn push_edits(
         Doc::Members(changes) => match value {
             Some(there) => match there {
                 Doc::Members(entries) => {
-                    path.push(alloc, name)?;
+                    path.push(name)?;
                     push_member_edits(changes, entries, path, edits, alloc)?;
                     path.pop();
                     Ok(())
@@ -181,7 +182,7 @@ fn push_edit(
 ) -> Result<(), AllocError>
     ensures { OnOk result (let t = option_map (λ v. document v.now) value.entry in
         NotBothMaps (document change.now) t
-        → Grew (all_guarded edits.old.items) (all_guarded edits.new.items)
+        → Grew (all_edits edits.old.items) (all_edits edits.new.items)
         (IsOneEdit (path.now ++ name.now ∷ []) (document change.now) t)) }
 {
     match value {
@@ -189,7 +190,7 @@ fn push_edit(
             if is_null(change) {
                 let place = path.child(alloc, name)?;
                 let op = Op::Remove(place.copy(alloc)?);
-                edits.push(guarded(place, there, op, alloc)?)?;
+                edits.push(guarded_edit(place, there, op, alloc)?)?;
                 return Ok(());
             }
             if change.same(there) {
@@ -197,7 +198,7 @@ fn push_edit(
             }
             let place = path.child(alloc, name)?;
             let op = Op::Replace(place.copy(alloc)?, merge(alloc, None, change)?);
-            edits.push(guarded(place, there, op, alloc)?)?;
+            edits.push(guarded_edit(place, there, op, alloc)?)?;
             Ok(())
         }
         None => {
@@ -213,8 +214,8 @@ fn push_edit(
 }
 
 // The edit, with the test of what is there.
-fn guarded(place: Pointer, there: &Doc, op: Op, alloc: Global) -> Result<Edit, AllocError>
-    ensures { IfOk result (λ e. guarded_of e
+fn guarded_edit(place: Pointer, there: &Doc, op: Op, alloc: Global) -> Result<Edit, AllocError>
+    ensures { IfOk result (λ e. guarded_edit_of e
         ≡ (test place (document there.now) ∷ [], operation_of op)) }
 {
     let guard = Some(Op::Test(place, there.copy(alloc)?));

@@ -20,7 +20,7 @@ const REWRITTEN: &[(&str, &str, &str)] = &[
 ];
 
 #[test]
-fn rewritten(rt: HostRuntime) -> Result<(), Fail> {
+fn a_rewriting_has_tests_and_then_edits(rt: HostRuntime) -> Result<(), Fail> {
     for (start, change, wanted) in REWRITTEN {
         let doc = read_doc(rt.alloc(), start.as_bytes())?;
         let patch = read_doc(rt.alloc(), change.as_bytes())?;
@@ -37,7 +37,7 @@ fn rewritten(rt: HostRuntime) -> Result<(), Fail> {
 
 /// A peer that holds another document is told which test refused it.
 #[test]
-fn guarded(rt: HostRuntime) -> Result<(), Fail> {
+fn another_document_fails_a_test(rt: HostRuntime) -> Result<(), Fail> {
     let start = read_doc(rt.alloc(), br#"{"a":1,"b":{"c":2}}"#)?;
     let patch = read_doc(rt.alloc(), br#"{"a":[],"b":{"c":null}}"#)?;
     let edits = rewrite(rt.alloc(), &start, &patch)?;

@@ -62,14 +62,14 @@ fn are_spellings<R: Abort + AllocGlobal>(
 }
 
 #[test]
-fn absent_target(rt: HostRuntime) -> Result<(), Fail> {
+fn an_absent_target_counts_as_an_empty_object(rt: HostRuntime) -> Result<(), Fail> {
     let patch = read_doc(rt.alloc(), br#"{"a":{"b":null},"c":null}"#)?;
     is_text(&rt, &merge(rt.alloc(), None, &patch)?, r#"{"a":{}}"#)?;
     is_text(&rt, &merge(rt.alloc(), None, &Doc::Null)?, "null")
 }
 
 #[test]
-fn joins(rt: HostRuntime) -> Result<(), Fail> {
+fn compatible_patches_have_a_join(rt: HostRuntime) -> Result<(), Fail> {
     for (patches, joined) in JOINS {
         let docs = read_docs(rt.alloc(), patches.as_bytes())?;
         let (Some(p), Some(q)) = (docs.first(), docs.last()) else {
@@ -87,7 +87,7 @@ fn joins(rt: HostRuntime) -> Result<(), Fail> {
 }
 
 #[test]
-fn clashes(rt: HostRuntime) -> Result<(), Fail> {
+fn clashes_are_told_in_order(rt: HostRuntime) -> Result<(), Fail> {
     for (patches, wanted) in CLASHES {
         let docs = read_docs(rt.alloc(), patches.as_bytes())?;
         let (Some(p), Some(q)) = (docs.first(), docs.last()) else {
@@ -102,7 +102,7 @@ fn clashes(rt: HostRuntime) -> Result<(), Fail> {
 }
 
 #[test]
-fn refused_joins(rt: HostRuntime) -> Result<(), Fail> {
+fn patches_that_clash_have_no_join(rt: HostRuntime) -> Result<(), Fail> {
     for (patches, wanted) in CLASHES {
         let docs = read_docs(rt.alloc(), patches.as_bytes())?;
         let (Some(p), Some(q)) = (docs.first(), docs.last()) else {
@@ -118,7 +118,7 @@ fn refused_joins(rt: HostRuntime) -> Result<(), Fail> {
 }
 
 #[test]
-fn lists(rt: HostRuntime) -> Result<(), Fail> {
+fn lists_are_joined_and_replayed(rt: HostRuntime) -> Result<(), Fail> {
     let none = join_all(rt.alloc(), &[]);
     assert!(rt;
         matches!(none, Err(ListFault::NoPatches)),
@@ -150,7 +150,7 @@ fn lists(rt: HostRuntime) -> Result<(), Fail> {
 
 /// A replica that keeps the join of what it received, and nothing else, shows what a replay of all shows.
 #[test]
-fn kept_join(rt: HostRuntime) -> Result<(), Fail> {
+fn a_join_that_is_kept_shows_what_all_show(rt: HostRuntime) -> Result<(), Fail> {
     let start = read_doc(rt.alloc(), br#"{"k":0,"l":[1]}"#)?;
     let received = read_docs(
         rt.alloc(),
@@ -174,7 +174,7 @@ fn kept_join(rt: HostRuntime) -> Result<(), Fail> {
 }
 
 #[test]
-fn texts(rt: HostRuntime) -> Result<(), Fail> {
+fn faults_have_texts(rt: HostRuntime) -> Result<(), Fail> {
     let none = Vec::new(rt.alloc());
     let conflict = format!(in rt.alloc(); "{}", JoinFault::Conflict(none))?;
     assert_eq!(rt; conflict.as_str(), "conflict");

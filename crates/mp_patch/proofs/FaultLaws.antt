@@ -1,20 +1,20 @@
 -- The laws of faults in form: a form has none, and no document has two.
 use Rattle.std.proofs.Common.{◌≡◌, ◌⊎◌, inl, inr, List, [], ◌∷◌, None, refl, sym, ap, ◌∙◌, subst, codes, suc}
 use Rattle.mp_tree.specs.Document.{Document, object, Items, no_items, item, Members}
-use Rattle.mp_pointer.specs.Part.{count_of}
+use Rattle.mp_tree.specs.Elements.{count_of, append}
 use Rattle.mp_pointer.specs.Spelling.{spell}
-use Rattle.mp_patch.specs.Form.{Carries, EachForm, IsForm, IsFaulty, HasNoPointer, HasOp, a_value, an_origin, form_causes, needed, text_at, value_at}
+use Rattle.mp_patch.specs.Form.{Carries, EachForm, IsForm, IsFaulty, HasNoPointer, HasOp, a_value, an_origin, form_causes, needed_members, text_at, value_at}
 use Rattle.mp_patch.specs.Laws.{FormsHaveNoFault, HasOneFault}
-use Rattle.mp_patch.specs.Operation.{Operation, append}
+use Rattle.mp_patch.specs.Operation.{Operation}
 use Rattle.mp_patch.specs.declared.fault.FormCause.{FormCause}
 use Rattle.mp_patch.specs.declared.fault.FormFault.TheVariants.{NotAnArray, Form, OutOfMemory}
-use Rattle.mp_patch.proofs.DocumentLemmas.{same_elements}
-use Rattle.mp_patch.proofs.FirstLemmas.{NoneHolds, none_first, one_first}
-use Rattle.mp_patch.proofs.NeedLemmas.{some_none, same_some, need_of, place_of, has_op, path_text, from_text, value_there}
+use Rattle.mp_patch.proofs.Documents.{same_elements}
+use Rattle.mp_patch.proofs.FirstCause.{NoneHolds, none_first, one_first}
+use Rattle.mp_patch.proofs.Needs.{some_none, same_some, need_of, place_of, has_op, path_text, from_text, value_there}
 
 -- ---- a form has no fault
 
-module _ (ms : Members) (o : Operation) (a : Carries ms (needed o)) where
+module _ (ms : Members) (o : Operation) (a : Carries ms (needed_members o)) where
   origin_spelled : ¬ (HasOp an_origin (object ms) × (text_at (codes "from") (object ms) ≡ None))
   origin_spelled (origin, none) = let from = from_text ms o a origin in some_none (text_at (codes "from") (object ms)) (spell from.0) from.1 none
 

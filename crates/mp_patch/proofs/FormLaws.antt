@@ -1,14 +1,15 @@
 -- The laws of forms: one reading, and shapes are forms.
 use Rattle.std.proofs.Common.{◌≡◌, ℕ, List, [], ◌∷◌, map, Some, refl, sym, ap, ap₂, ◌∙◌, subst, arith, codes}
 use Rattle.mp_tree.specs.Document.{Document, string, Items, no_items, item, Members, find}
-use Rattle.mp_tree.specs.View.{items_of}
+use Rattle.mp_tree.specs.Elements.{items_of}
 use Rattle.mp_pointer.specs.Spelling.{Tokens, spell}
 use Rattle.mp_pointer.proofs.Facts.{has_one_spelling}
-use Rattle.mp_patch.specs.Form.{Carries, EachForm, IsForm, needed, shape}
+use Rattle.mp_patch.specs.Form.{Carries, EachForm, IsForm, needed_members, shape}
 use Rattle.mp_patch.specs.Laws.{HasOneReading, ShapesAreForms}
 use Rattle.mp_patch.specs.Operation.{Operation, add, remove, replace, move, copy, test}
-use Rattle.mp_patch.proofs.DocumentLemmas.{same_members, same_elements, some_same}
-use Rattle.mp_patch.proofs.NeedLemmas.{letters}
+use Rattle.mp_tree.proofs.Facts.{members_of_object}
+use Rattle.mp_patch.proofs.Documents.{same_elements, some_same}
+use Rattle.mp_patch.proofs.Needs.{letters}
 
 -- ---- shapes
 
@@ -45,7 +46,7 @@ same_value n ms v w a b = some_same v w (sym a ∙ b)
 one_name : (ms : Members) (s t : List ℕ) → find (codes "op") ms ≡ Some (string s) → find (codes "op") ms ≡ Some (string t) → letters s ≡ letters t
 one_name ms s t a b = ap letters (at_member (codes "op") ms s t a b)
 
-one_form : (ms : Members) (o p : Operation) → Carries ms (needed o) → Carries ms (needed p) → o ≡ p
+one_form : (ms : Members) (o p : Operation) → Carries ms (needed_members o) → Carries ms (needed_members p) → o ≡ p
 one_form ms (add t v) (add s w) a b = ap₂ add (same_place (codes "path") ms t s a.1.0 b.1.0) (same_value (codes "value") ms v w a.1.1.0 b.1.1.0)
 one_form ms (remove t) (remove s) a b = ap remove (same_place (codes "path") ms t s a.1.0 b.1.0)
 one_form ms (replace t v) (replace s w) a b = ap₂ replace (same_place (codes "path") ms t s a.1.0 b.1.0) (same_value (codes "value") ms v w a.1.1.0 b.1.1.0)
@@ -55,7 +56,7 @@ one_form ms (test t v) (test s w) a b = ap₂ test (same_place (codes "path") ms
 one_form ms o p a b = absurd (omega (arith, one_name ms _ _ a.0 b.0))
 
 same_form : (d : Document) (o p : Operation) → IsForm d o → IsForm d p → o ≡ p
-same_form d o p (ms, is, a) (es, was, b) = one_form ms o p a (subst (λ m. Carries m (needed p)) (same_members es ms (sym was ∙ is)) b)
+same_form d o p (ms, is, a) (es, was, b) = one_form ms o p a (subst (λ m. Carries m (needed_members p)) (members_of_object es ms (sym was ∙ is)) b)
 
 each_same : (ds : Items) (operations others : List Operation) → EachForm ds operations → EachForm ds others → operations ≡ others
 each_same no_items [] [] a b = refl

@@ -2,18 +2,21 @@
 use Rattle.std.proofs.Common.{◌≡◌, ◌≢◌, ◌⊎◌, inl, inr, ℕ, zero, suc, List, [], ◌∷◌, get_or, take, Some, refl, sym, ap, ap₂, ◌∙◌, subst, arith}
 use Rattle.std.specs.List.{slice_get}
 use Rattle.mp_tree.specs.Document.{Document, list, object, Items, no_items, item, IsDocument, depth, put}
-use Rattle.mp_pointer.specs.Only.{DifferOnlyAt}
-use Rattle.mp_pointer.specs.Part.{part, numeral, count_of}
+use Rattle.mp_pointer.specs.Difference.{DifferOnlyAt}
+use Rattle.mp_pointer.specs.Part.{part, numeral}
+use Rattle.mp_tree.specs.Elements.{count_of, append}
 use Rattle.mp_pointer.specs.Spelling.{Tokens}
 use Rattle.mp_pointer.proofs.Facts.{same_numeral, numeral_first, equals_by_part, DifferOnlyAt-sym, DifferOnlyAt-trans}
-use Rattle.mp_patch.specs.Laws.{HasDocument, HasOneEnd, RunsUnrefused, HasOneRefusal, StaysShallow}
-use Rattle.mp_patch.specs.Operation.{Operation, add, remove, replace, move, copy, test, AddsTo, to_map, to_list, append, dash, NamesPlace, Adds, Removes, Step}
+use Rattle.mp_patch.specs.Laws.{HasOneEnd, RunsUnrefused, HasOneRefusal, StaysShallow}
+use Rattle.mp_patch.specs.Operation.{HasDocument}
+use Rattle.mp_patch.specs.Operation.{Operation, add, remove, replace, move, copy, test, AddsTo, to_map, to_list, dash, NamesPlace, Adds, Removes, Step}
 use Rattle.mp_patch.specs.Refusal.{RefusedBy, causes}
 use Rattle.mp_patch.specs.Run.{Runs}
-use Rattle.mp_patch.proofs.DepthLemmas.{Step-depth}
-use Rattle.mp_patch.proofs.DocumentLemmas.{part-document, document-changed, Adds-document, Removes-document, Removes-once, same_parts, same_members, same_elements, no_list_is_map, some_same}
-use Rattle.mp_patch.proofs.FirstLemmas.{one_first}
-use Rattle.mp_patch.proofs.StepLemmas.{same_last, not_empty}
+use Rattle.mp_tree.proofs.Facts.{members_of_object}
+use Rattle.mp_patch.proofs.Depth.{Step-depth}
+use Rattle.mp_patch.proofs.Documents.{part-document, document-changed, Adds-document, Removes-document, Removes-once, same_parts, same_elements, no_list_is_map, some_same}
+use Rattle.mp_patch.proofs.FirstCause.{one_first}
+use Rattle.mp_patch.proofs.SingleSteps.{same_last, not_empty}
 
 -- ---- each step gives a document
 
@@ -56,7 +59,7 @@ one_place token front back front' back' same (inr i) (inl j) = dash_is_no_index 
 one_place token front back front' back' same (inr i) (inr j) = (append_nothing front front' (ap (append front) (sym i.1) ∙ same ∙ ap (append front') j.1), i.1 ∙ sym j.1)
 
 adds_once : (v : Document) (token : List ℕ) (x y z : Document) → AddsTo v token x y → AddsTo v token x z → y ≡ z
-adds_once v token x y z (to_map ms is now) (to_map es was then) = now ∙ ap (λ m. object (put token v m)) (same_members ms es (sym is ∙ was)) ∙ sym then
+adds_once v token x y z (to_map ms is now) (to_map es was then) = now ∙ ap (λ m. object (put token v m)) (members_of_object ms es (sym is ∙ was)) ∙ sym then
 adds_once v token x y z (to_map ms is now) (to_list front back names_it was then) = no_list_is_map ms (append front back) (sym is ∙ was)
 adds_once v token x y z (to_list front back names_it is now) (to_map ms was then) = no_list_is_map ms (append front back) (sym was ∙ is)
 adds_once v token x y z (to_list front back names_it is now) (to_list front' back' names_too was then) =

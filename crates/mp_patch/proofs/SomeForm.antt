@@ -4,17 +4,17 @@ use Rattle.mp_tree.specs.Document.{Document, string, list, object, Items, no_ite
 use Rattle.mp_pointer.specs.Spelling.{Tokens, spell, tokens_in}
 use Rattle.mp_pointer.specs.declared.fault.PointerFault.{PointerFault}
 use Rattle.mp_pointer.proofs.Facts.{reads_spellings}
-use Rattle.mp_patch.specs.Form.{Carries, EachForm, IsForm, IsFaulty, IsNoPointer, Need, path_alone, a_value, an_origin, NamesOp, needed, op_member, path_member, value_member, from_member, text_at, text_of}
+use Rattle.mp_patch.specs.Form.{Carries, EachForm, IsForm, IsFaulty, IsNoPointer, Need, path_alone, a_value, an_origin, NamesOp, needed_members, op_member, path_member, value_member, from_member, text_at, text_of}
 use Rattle.mp_patch.specs.Laws.{IsFormOrFaulty}
-use Rattle.mp_patch.specs.Operation.{Operation, add, remove, replace, move, copy, test, append}
-use Rattle.mp_patch.specs.Read.{IsMapFault}
+use Rattle.mp_patch.specs.Operation.{Operation, add, remove, replace, move, copy, test}
+use Rattle.mp_tree.specs.Elements.{append, count_of}
+use Rattle.mp_patch.specs.Private.Reading.{IsMapFault}
 use Rattle.mp_patch.specs.declared.fault.FormCause.{FormCause}
 use Rattle.mp_patch.specs.declared.fault.FormCause.TheVariants.{NotAnObject, NoOp, UnknownOp, NoPath, NoFrom, BadPointer, NoValue}
 use Rattle.mp_patch.specs.declared.fault.FormFault.TheVariants as form_fault
 use Rattle.mp_patch.specs.declared.reading.OpFault.TheVariants.{Form}
-use Rattle.mp_pointer.specs.Part.{count_of}
 use Rattle.mp_tree.proofs.Facts.{decide_name}
-use Rattle.mp_patch.proofs.FormLemmas.{map_fault, no_pointer}
+use Rattle.mp_patch.proofs.Forms.{map_fault, no_pointer}
 
 -- the tokens that a text spells, where it spells some
 spelled : (text : List ℕ) → ((t : Tokens) × (text ≡ spell t)) ⊎ IsNoPointer text
@@ -62,7 +62,7 @@ module _ (ms : Members) where
   d = object ms
 
   abbrev Read : Type 0
-  Read = ((o : Operation) × Carries ms (needed o)) ⊎ ((cause : FormCause) × IsMapFault (Form cause) d)
+  Read = ((o : Operation) × Carries ms (needed_members o)) ⊎ ((cause : FormCause) × IsMapFault (Form cause) d)
 
   stands : (n text other : List ℕ) → text_at n d ≡ Some text → text ≡ other → find n ms ≡ Some (string other)
   stands n text other at is = text_found (find n ms) text at ∙ ap (λ t. Some (string t)) is
@@ -75,7 +75,7 @@ module _ (ms : Members) where
       | inr bad ↦ inr (BadPointer, (path_alone, (name, at, is), path, there, bad))
     ]
 
-    with_value : (make : Tokens → Document → Operation) (op : List ℕ) → ((t : Tokens) (v : Document) → needed (make t v) ≡ op_member op ∷ path_member t ∷ value_member v ∷ []) → name ≡ op → NamesOp a_value name → Read
+    with_value : (make : Tokens → Document → Operation) (op : List ℕ) → ((t : Tokens) (v : Document) → needed_members (make t v) ≡ op_member op ∷ path_member t ∷ value_member v ∷ []) → name ≡ op → NamesOp a_value name → Read
     with_value make op shape is names = elim (spelled path) [
       | inl p ↦ by p.0 p.1 (find (codes "value") ms) refl
       | inr bad ↦ inr (BadPointer, (a_value, (name, at, names), path, there, bad))
@@ -86,7 +86,7 @@ module _ (ms : Members) where
         by t same (Some v) value =
             inl (make t v, subst (Carries ms) (sym (shape t v)) (stands (codes "op") name op at is, (stands (codes "path") path (spell t) there same, (value, tt))))
 
-    with_origin : (make : Tokens → Tokens → Operation) (op : List ℕ) → ((f t : Tokens) → needed (make f t) ≡ op_member op ∷ path_member t ∷ from_member f ∷ []) → name ≡ op → NamesOp an_origin name → Read
+    with_origin : (make : Tokens → Tokens → Operation) (op : List ℕ) → ((f t : Tokens) → needed_members (make f t) ≡ op_member op ∷ path_member t ∷ from_member f ∷ []) → name ≡ op → NamesOp an_origin name → Read
     with_origin make op shape is names = by (text_at (codes "from") d) refl (spelled path)
       where
         to : (t : Tokens) (from : List ℕ) → path ≡ spell t → text_at (codes "from") d ≡ Some from → ((f : Tokens) × (from ≡ spell f)) ⊎ IsNoPointer from → Read

@@ -12,12 +12,12 @@ use Rattle.mp_patch.specs.Run.{IsRefused}
 use Rattle.mp_patch.specs.declared.fault.Cause.TheVariants.{IntoItself, RemoveRoot, Missing, NoPlace, TooDeep, TestFailed}
 use Rattle.mp_patch.specs.declared.steps.StepFault.TheVariants.{Refused}
 use Rattle.mp_tree.proofs.Facts.{decide_name, decide_path, decide_document}
-use Rattle.mp_patch.proofs.DocumentLemmas.{Removes-document, some_same}
-use Rattle.mp_patch.proofs.FirstLemmas.{unrefused}
-use Rattle.mp_patch.proofs.MoveLemmas.{stays, moved, copied, root_is_prefix}
+use Rattle.mp_patch.proofs.Documents.{Removes-document, some_same}
+use Rattle.mp_patch.proofs.FirstCause.{unrefused}
+use Rattle.mp_patch.proofs.Moves.{stays, moved, copied, root_is_prefix}
 use Rattle.mp_patch.proofs.RunLaws.{Step-document}
 use Rattle.mp_patch.proofs.SomeStep.{rewrite_part, some_addition, some_removal}
-use Rattle.mp_patch.proofs.StepLemmas.{some_missing}
+use Rattle.mp_patch.proofs.SingleSteps.{some_missing}
 
 decide_prefix : (f t : Tokens) → Dec (IsProperPrefix f t)
 decide_prefix [] [] = no (λ (n, rest, is). cc)

@@ -3,16 +3,17 @@ use Rattle.std.proofs.Common.{◌≡◌, ◌≢◌, ◌+◌, ◌<◌, ◌≤◌,
 use Rattle.std.proofs.lemmas.Slice.Eq.{bytes_eq-Decides}
 use Rattle.std.specs.Str.{bytes_eq}
 use Rattle.mp_tree.specs.Document.{Document, null, flag, whole, string, list, object, Items, no_items, item, put, without, IsDocument}
-use Rattle.mp_pointer.specs.Only.{DifferOnlyAt}
-use Rattle.mp_pointer.specs.Part.{part, child, element_from, numeral, count_of}
+use Rattle.mp_pointer.specs.Difference.{DifferOnlyAt}
+use Rattle.mp_pointer.specs.Part.{part, child, element_from, numeral}
+use Rattle.mp_tree.specs.Elements.{count_of, append}
 use Rattle.mp_pointer.specs.Spelling.{Tokens}
 use Rattle.mp_pointer.proofs.Facts.{nth, part-push, DifferOnlyAt-root, DifferOnlyAt-child}
-use Rattle.mp_patch.specs.Operation.{AddsTo, to_map, to_list, RemovesFrom, from_map, from_list, append, dash, Adds, Removes}
+use Rattle.mp_patch.specs.Operation.{AddsTo, to_map, to_list, RemovesFrom, from_map, from_list, dash, Adds, Removes}
 use Rattle.mp_patch.specs.Refusal.{LacksPlace, HasNoPlace}
 use Rattle.mp_pointer.proofs.Facts.{ChildChanges, set_item, element_changes, value_changes}
 use Rattle.mp_tree.proofs.Facts.{decide_name}
-use Rattle.mp_patch.proofs.DocumentLemmas.{part-document}
-use Rattle.mp_patch.proofs.StepLemmas.{has_place, root_place}
+use Rattle.mp_patch.proofs.Documents.{part-document}
+use Rattle.mp_patch.proofs.SingleSteps.{has_place, root_place}
 
 -- ---- a part can be changed
 

@@ -2,8 +2,9 @@
 use Rattle.std.proofs.Common.{◌≡◌, List, [], ◌∷◌, Some, IfSome, subst, codes}
 use Rattle.mp_tree.specs.Document.{Document, Items, no_items, item, Members, find, IsDocument, AreDocuments, IsMap}
 use Rattle.mp_tree.proofs.Facts.{IsDocument-document, IsDocument-find}
-use Rattle.mp_patch.specs.Form.{Carries, EachForm, needed}
-use Rattle.mp_patch.specs.Laws.{HasDocument, HaveDocuments, FormsHaveDocuments, PatchesHaveDocuments}
+use Rattle.mp_patch.specs.Form.{Carries, EachForm, needed_members}
+use Rattle.mp_patch.specs.Laws.{FormsHaveDocuments, PatchesHaveDocuments}
+use Rattle.mp_patch.specs.Operation.{HasDocument, HaveDocuments}
 use Rattle.mp_patch.specs.Operation.{Operation, add, remove, replace, move, copy, test}
 use Rattle.mp_patch.specs.View.{operation_of}
 use Rattle.mp_patch.specs.declared.op.Op.{Op}
@@ -24,7 +25,7 @@ have_documents (o ∷ ops) = (has_document o, have_documents ops)
 value_is_document : (ms : Members) (v : Document) → IsMap ms → find (codes "value") ms ≡ Some v → IsDocument v
 value_is_document ms v good at = subst (λ o. IfSome o IsDocument) at (IsDocument-find (codes "value") ms good)
 
-carried_document : (ms : Members) (o : Operation) → IsMap ms → Carries ms (needed o) → HasDocument o
+carried_document : (ms : Members) (o : Operation) → IsMap ms → Carries ms (needed_members o) → HasDocument o
 carried_document ms (add t v) good carries = value_is_document ms v good carries.1.1.0
 carried_document ms (remove t) good carries = tt
 carried_document ms (replace t v) good carries = value_is_document ms v good carries.1.1.0

@@ -1,11 +1,11 @@
 -- How a JSON Patch is written as a document (RFC 6902 sections 3 and 4): a list of maps, each with the members that its operation needs.
 use Rattle.std.specs.Prelude.{◌≡◌, ◌≢◌, ◌⊎◌, ◌∷◌, ℕ, codes, max, map, List, [], Option, None, Some, option_and_then, ⊤}
 use Rattle.mp_tree.specs.Document.{Document, string, list, object, Items, no_items, item, Members, find, depth}
-use Rattle.mp_tree.specs.View.{items_of, members_of}
-use Rattle.mp_pointer.specs.Part.{count_of}
+use Rattle.mp_tree.specs.View.{members_of}
+use Rattle.mp_tree.specs.Elements.{items_of, count_of, append}
 use Rattle.mp_pointer.specs.Spelling.{Tokens, spell}
 use Rattle.mp_patch.specs.First.{Causes, IsFirst}
-use Rattle.mp_patch.specs.Operation.{Operation, add, remove, replace, move, copy, test, append}
+use Rattle.mp_patch.specs.Operation.{Operation, add, remove, replace, move, copy, test}
 use Rattle.mp_patch.specs.declared.fault.FormCause.{FormCause}
 use Rattle.mp_patch.specs.declared.fault.FormCause.TheVariants.{NotAnObject, NoOp, UnknownOp, NoPath, NoFrom, BadPointer, NoValue}
 use Rattle.mp_patch.specs.declared.fault.FormFault.{FormFault}
@@ -25,17 +25,17 @@ from_member t = (codes "from", string (spell t))
 abbrev pub value_member : Document → List ℕ × Document
 value_member v = (codes "value", v)
 
-abbrev pub needed : Operation → List (List ℕ × Document)
-needed (add t v) = op_member (codes "add") ∷ path_member t ∷ value_member v ∷ []
-needed (remove t) = op_member (codes "remove") ∷ path_member t ∷ []
-needed (replace t v) = op_member (codes "replace") ∷ path_member t ∷ value_member v ∷ []
-needed (move f t) = op_member (codes "move") ∷ path_member t ∷ from_member f ∷ []
-needed (copy f t) = op_member (codes "copy") ∷ path_member t ∷ from_member f ∷ []
-needed (test t v) = op_member (codes "test") ∷ path_member t ∷ value_member v ∷ []
+abbrev pub needed_members : Operation → List (List ℕ × Document)
+needed_members (add t v) = op_member (codes "add") ∷ path_member t ∷ value_member v ∷ []
+needed_members (remove t) = op_member (codes "remove") ∷ path_member t ∷ []
+needed_members (replace t v) = op_member (codes "replace") ∷ path_member t ∷ value_member v ∷ []
+needed_members (move f t) = op_member (codes "move") ∷ path_member t ∷ from_member f ∷ []
+needed_members (copy f t) = op_member (codes "copy") ∷ path_member t ∷ from_member f ∷ []
+needed_members (test t v) = op_member (codes "test") ∷ path_member t ∷ value_member v ∷ []
 
 -- the map of exactly these
 abbrev pub shape : Operation → Document
-shape o = object (members_of (needed o))
+shape o = object (members_of (needed_members o))
 
 abbrev pub shapes : List Operation → Document
 shapes operations = list (items_of (map shape operations))
@@ -48,7 +48,7 @@ Carries ms (pair ∷ pairs) = (find pair.0 ms ≡ Some pair.1) × Carries ms pai
 
 -- d is a map that carries what o needs
 abbrev pub IsForm : Document → Operation → Type 0
-IsForm d o = (ms : Members) × (d ≡ object ms) × Carries ms (needed o)
+IsForm d o = (ms : Members) × (d ≡ object ms) × Carries ms (needed_members o)
 
 -- each element is a form of the operation at its place
 abbrev pub EachForm : Items → List Operation → Type 0
@@ -117,8 +117,8 @@ IsFaulty cause d = IsFirst cause (form_causes d)
 -- why a document is no patch: for an element, those before it are forms; want of memory says nothing of the document
 abbrev pub IsFormFault : FormFault → Document → Type 0
 IsFormFault NotAnArray d = (ds : Items) → d ≢ list ds
-IsFormFault (Form op cause) d =
-    (front : Items) × (x : Document) × (back : Items) × (d ≡ list (append front (item x back))) × (op ≡ count_of front) × ((operations : List Operation) × EachForm front operations) × IsFaulty cause x
+IsFormFault (Form number cause) d =
+    (front : Items) × (x : Document) × (back : Items) × (d ≡ list (append front (item x back))) × (number ≡ count_of front) × ((operations : List Operation) × EachForm front operations) × IsFaulty cause x
 IsFormFault OutOfMemory d = ⊤
 
 -- ---- depth

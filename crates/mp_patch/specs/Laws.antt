@@ -1,27 +1,14 @@
 -- Laws of patches alone. Each is the contract of a function of the module `laws` that runs nothing.
-use Rattle.std.specs.Prelude.{◌≡◌, ◌≢◌, ◌≤◌, ◌⊎◌, ℕ, List, [], ◌∷◌, ⊤}
+use Rattle.std.specs.Prelude.{◌≡◌, ◌≢◌, ◌≤◌, ◌⊎◌, ℕ, List}
 use Rattle.mp_tree.specs.Document.{Document, IsDocument, depth, depth_limit}
 use Rattle.mp_patch.specs.Form.{AreForms, IsFormFault, shapes}
-use Rattle.mp_patch.specs.Operation.{Operation, add, remove, replace, move, copy, test}
+use Rattle.mp_patch.specs.Operation.{Operation, HaveDocuments}
 use Rattle.mp_patch.specs.Run.{Runs, RefusedAt}
 use Rattle.mp_patch.specs.View.{operations_of}
 use Rattle.mp_patch.specs.declared.fault.Cause.{Cause}
 use Rattle.mp_patch.specs.declared.fault.FormFault.{FormFault}
 use Rattle.mp_patch.specs.declared.fault.FormFault.TheVariants.{OutOfMemory}
 use Rattle.mp_patch.specs.declared.op.Op.{Op}
-
--- the value of each operation is a document
-abbrev pub HasDocument : Operation → Type 0
-HasDocument (add t v) = IsDocument v
-HasDocument (remove t) = ⊤
-HasDocument (replace t v) = IsDocument v
-HasDocument (move f t) = ⊤
-HasDocument (copy f t) = ⊤
-HasDocument (test t v) = IsDocument v
-
-abbrev pub HaveDocuments : List Operation → Type 0
-HaveDocuments [] = ⊤
-HaveDocuments (o ∷ operations) = HasDocument o × HaveDocuments operations
 
 -- every list of `Op` is one of these
 abbrev pub PatchesHaveDocuments : Type 0

@@ -2,8 +2,7 @@ pub mod First
 pub mod Form
 pub mod Laws
 pub mod Operation
-pub mod Read
+pub mod Private
 pub mod Refusal
 pub mod Run
-pub mod Steps
 pub mod View

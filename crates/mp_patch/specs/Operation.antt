@@ -1,8 +1,9 @@
 -- The operations of a JSON Patch (RFC 6902 section 4): each says of two documents what their parts are, before and after.
-use Rattle.std.specs.Prelude.{◌≡◌, ◌≢◌, ◌⊎◌, ℕ, codes, List, [], ◌∷◌, ◌++◌, Some}
-use Rattle.mp_tree.specs.Document.{Document, list, object, Items, no_items, item, Members, find, put, without}
-use Rattle.mp_pointer.specs.Only.{DifferOnlyAt}
-use Rattle.mp_pointer.specs.Part.{part, numeral, count_of}
+use Rattle.std.specs.Prelude.{◌≡◌, ◌≢◌, ◌⊎◌, ℕ, codes, List, [], ◌∷◌, ◌++◌, Some, ⊤}
+use Rattle.mp_tree.specs.Document.{Document, list, object, Items, no_items, item, Members, find, put, without, IsDocument}
+use Rattle.mp_pointer.specs.Difference.{DifferOnlyAt}
+use Rattle.mp_pointer.specs.Part.{part, numeral}
+use Rattle.mp_tree.specs.Elements.{count_of, append}
 use Rattle.mp_pointer.specs.Spelling.{Tokens}
 
 -- each place is a pointer's list of tokens
@@ -28,11 +29,6 @@ pub record ChangesContainer (Change : List ℕ → Document → Document → Typ
   pub stands : part e container ≡ Some after
   pub changed : Change last before after
   pub only : DifferOnlyAt container d e
-
--- the elements of the front and then those of the back
-abbrev pub append : Items → Items → Items
-append no_items back = back
-append (item d front) back = item d (append front back)
 
 -- `-`, which names the place after the last element
 abbrev pub dash : List ℕ
@@ -85,3 +81,16 @@ Step d (move f t) e = Moves f t d e
 Step d (copy f t) e = Copies f t d e
 -- section 4.6: what is at t is v, and the document stays as it is
 Step d (test t v) e = (part d t ≡ Some v) × (e ≡ d)
+
+-- the value of each operation is a document
+abbrev pub HasDocument : Operation → Type 0
+HasDocument (add t v) = IsDocument v
+HasDocument (remove t) = ⊤
+HasDocument (replace t v) = IsDocument v
+HasDocument (move f t) = ⊤
+HasDocument (copy f t) = ⊤
+HasDocument (test t v) = IsDocument v
+
+abbrev pub HaveDocuments : List Operation → Type 0
+HaveDocuments [] = ⊤
+HaveDocuments (o ∷ operations) = HasDocument o × HaveDocuments operations

@@ -1,7 +1,8 @@
 -- When an operation of a JSON Patch is refused (RFC 6902 sections 4 and 5), and by which cause.
 use Rattle.std.specs.Prelude.{◌≡◌, ◌≢◌, ◌+◌, ◌<◌, ℕ, List, [], ◌∷◌, ◌++◌, length, Option, None, Some, ⊤}
 use Rattle.mp_tree.specs.Document.{Document, null, flag, whole, string, list, object, depth, depth_limit}
-use Rattle.mp_pointer.specs.Part.{part, numeral, count_of}
+use Rattle.mp_pointer.specs.Part.{part, numeral}
+use Rattle.mp_tree.specs.Elements.{count_of}
 use Rattle.mp_pointer.specs.Spelling.{Tokens, IsProperPrefix}
 use Rattle.mp_patch.specs.First.{Causes, IsFirst}
 use Rattle.mp_patch.specs.Operation.{Operation, add, remove, replace, move, copy, test, dash, Removes}

@@ -22,5 +22,5 @@ RefusedAt d operations k cause = (m : Document) × Runs d (take k operations) m 
 
 -- why there is no result; want of memory says nothing of the patch
 abbrev pub IsFaultOf : ApplyFault → Document → List Operation → Type 0
-IsFaultOf (Refused op cause) d operations = RefusedAt d operations op cause
+IsFaultOf (Refused number cause) d operations = RefusedAt d operations number cause
 IsFaultOf OutOfMemory d operations = ⊤

@@ -7,6 +7,7 @@ pub mod laws;
 pub mod op;
 pub mod patch;
 mod reading;
+mod serializing;
 mod steps;
 #[cfg(test)]
 mod tests;
@@ -15,4 +16,4 @@ mod writing;
 pub use applying::{apply, apply_owned};
 pub use fault::{ApplyFault, Cause, FormCause, FormFault};
 pub use op::Op;
-pub use patch::JsonPatch;
+pub use patch::{JsonPatch, write_patch};

@@ -1,6 +1,7 @@
 //! Patches: lists of operations.
-ghost use Rattle.std.specs.Prelude.{◌≡◌, ◌+◌, ◌≤◌, ◌++◌, ◌∷◌, [], OnOk, OnErr, IfOk, MatchResult};
+ghost use Rattle.std.specs.Prelude.{◌≡◌, ◌+◌, ◌≤◌, ◌++◌, ◌∷◌, [], OnOk, OnErr, IfOk, MatchResult, string_bytes};
 ghost use Rattle.mp_tree.specs.Document.{depth};
+ghost use Rattle.mp_tree.specs.Text.{text};
 ghost use Rattle.mp_tree.specs.View.{document};
 ghost use Rattle.mp_patch.specs.Form.{AreForms, IsFormFault, deepest, shapes};
 ghost use Rattle.mp_patch.specs.View.{operations_of};
@@ -8,8 +9,9 @@ ghost use Rattle.mp_patch.specs.View.{operations_of};
 use crate::fault::FormFault;
 use crate::op::Op;
 use crate::reading::read_ops;
-use crate::writing::{owned_shapes_of, shapes_of};
+use crate::writing::shapes_of;
 use mp_tree::Doc;
+use serde_json::to_string;
 use std::alloc::{AllocError, Global};
 use std::marker::Model;
 
@@ -100,12 +102,22 @@ impl JsonPatch {
         Ok(Doc::Items(shapes_of(self.ops(), alloc)?))
     }
 
-    /// As `to_doc`, of a patch that is given away: its values are moved and not copied.
-    pub fn into_doc(self, alloc: Global) -> Result<Doc, AllocError>
-        ensures document { IfOk result (λ d. document d ≡ shapes (operations_of self)) }
-        ensures depth { IfOk result (λ d.
-            depth (document d) ≤ 2 + deepest (operations_of self)) }
-    {
-        Ok(Doc::Items(owned_shapes_of(self.ops, alloc)?))
+    // Of the memory that the list itself takes.
+    pub(crate) fn allocator(&self) -> Global {
+        *self.ops.allocator()
+    }
+}
+
+/// The compact text of the document that `to_doc` gives, which is not made for it. `AllocError` where memory ran out.
+///
+/// ```text
+/// write_patch(alloc, &patch)  // [{"op":"remove","path":"/a"}], for a list of one Op::Remove
+/// ```
+pub fn write_patch(alloc: Global, patch: &JsonPatch) -> Result<String, AllocError>
+    ensures { IfOk result (λ s. string_bytes s ≡ text (shapes (operations_of patch.now))) }
+{
+    match to_string(alloc, patch) {
+        Ok(written) => Ok(written),
+        Err(_) => Err(AllocError),
     }
 }

@@ -2,10 +2,11 @@
 ghost use Rattle.std.specs.Prelude.{◌≡◌, ◌≢◌, codes, string_bytes, Some, None, MatchOption, MatchResult};
 ghost use Rattle.std.specs.Option.{option_copied};
 ghost use Rattle.mp_tree.specs.Document.{find, list, object};
-ghost use Rattle.mp_tree.specs.View.{document, items, members};
+ghost use Rattle.mp_tree.specs.View.{document, items};
+ghost use Rattle.mp_tree.specs.Private.Entries.{members};
 ghost use Rattle.mp_pointer.specs.Spelling.{spell};
-ghost use Rattle.mp_patch.specs.Form.{Carries, EachForm, IsFaulty, IsFormFault, IsForm, NamesOp, IsNoPointer, needed, text_at as text_under};
-ghost use Rattle.mp_patch.specs.Read.{IsOpFault, IsMapFault, IsOriginFault, IsTextFault, IsValueFault, fault_at, name_of};
+ghost use Rattle.mp_patch.specs.Form.{Carries, EachForm, IsFaulty, IsFormFault, IsForm, NamesOp, IsNoPointer, needed_members, text_at as text_under};
+ghost use Rattle.mp_patch.specs.Private.Reading.{IsOpFault, IsMapFault, IsOriginFault, IsTextFault, IsValueFault, fault_at, name_of};
 ghost use Rattle.mp_patch.specs.View.{operation_of, operations_of};
 
 use crate::fault::{FormCause, FormFault};
@@ -25,11 +26,11 @@ pub(crate) enum OpFault {
 
 impl OpFault {
     // As the fault of the element with that number.
-    pub(crate) fn at(self, op: usize) -> FormFault
-        ensures { result ≡ fault_at op self }
+    pub(crate) fn at(self, number: usize) -> FormFault
+        ensures { result ≡ fault_at number self }
     {
         match self {
-            OpFault::Form(cause) => FormFault::Form { op, cause },
+            OpFault::Form(cause) => FormFault::Form { op: number, cause },
             OpFault::OutOfMemory => FormFault::OutOfMemory,
         }
     }
@@ -67,7 +68,7 @@ pub(crate) enum OpName {
 
 // Where a part is, and where it goes.
 #[derive(Drop)]
-struct Places {
+struct Pointers {
     origin: Pointer,
     path: Pointer,
 }
@@ -98,11 +99,11 @@ fn read_op(element: &Doc, alloc: Global) -> Result<Op, OpFault>
 
 fn read_members(entries: &BTreeMap<String, Doc>, alloc: Global) -> Result<Op, OpFault>
     ensures { MatchResult result
-        (λ op. Carries (members entries.now.entries) (needed (operation_of op)))
+        (λ op. Carries (members entries.now.entries) (needed_members (operation_of op)))
         (λ fault. IsMapFault fault (object (members entries.now.entries))) }
 {
-    let op = text_at(entries, "op").ok_or(FormCause::NoOp)?;
-    let name = op_named(op).ok_or(FormCause::UnknownOp)?;
+    let word = text_at(entries, "op").ok_or(FormCause::NoOp)?;
+    let name = op_named(word).ok_or(FormCause::UnknownOp)?;
     let spelling = text_at(entries, "path").ok_or(FormCause::NoPath)?;
     match name {
         OpName::Add => {
@@ -115,11 +116,11 @@ fn read_members(entries: &BTreeMap<String, Doc>, alloc: Global) -> Result<Op, Op
             Ok(Op::Replace(path, value_in(entries, alloc)?))
         }
         OpName::Move => {
-            let Places { origin, path } = places_in(spelling, entries, alloc)?;
+            let Pointers { origin, path } = pointers_in(spelling, entries, alloc)?;
             Ok(Op::Move { origin, path })
         }
         OpName::Copy => {
-            let Places { origin, path } = places_in(spelling, entries, alloc)?;
+            let Pointers { origin, path } = pointers_in(spelling, entries, alloc)?;
             Ok(Op::Copy { origin, path })
         }
         OpName::Test => {
@@ -129,11 +130,11 @@ fn read_members(entries: &BTreeMap<String, Doc>, alloc: Global) -> Result<Op, Op
     }
 }
 
-fn places_in(
+fn pointers_in(
     spelling: &str,
     entries: &BTreeMap<String, Doc>,
     alloc: Global,
-) -> Result<Places, OpFault>
+) -> Result<Pointers, OpFault>
     ensures { MatchResult result
         (λ p. (spelling.now ≡ spell p.path)
         × (text_under (codes "from") (object (members entries.now.entries))
@@ -143,7 +144,7 @@ fn places_in(
     let origin_spelling = text_at(entries, "from").ok_or(FormCause::NoFrom)?;
     let path = pointer_of(spelling, alloc)?;
     let origin = pointer_of(origin_spelling, alloc)?;
-    Ok(Places { origin, path })
+    Ok(Pointers { origin, path })
 }
 
 fn op_named(name: &str) -> Option<OpName>

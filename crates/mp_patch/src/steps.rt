@@ -7,7 +7,7 @@ ghost use Rattle.mp_pointer.specs.Part.{numeral, part};
 ghost use Rattle.mp_patch.specs.Operation.{dash, add as add_operation, remove as remove_operation, replace as replace_operation, move as move_operation, copy as copy_operation, test as test_operation, Removes};
 ghost use Rattle.mp_patch.specs.Refusal.{RefusedBy};
 ghost use Rattle.mp_patch.specs.Run.{IsRefused};
-ghost use Rattle.mp_patch.specs.Steps.{Answers, Inserts, Takes, fault_at};
+ghost use Rattle.mp_patch.specs.Private.Steps.{Answers, Inserts, Takes, fault_at};
 ghost use Rattle.mp_patch.specs.View.{operation_of};
 
 use crate::fault::{ApplyFault, Cause};
@@ -17,7 +17,7 @@ use mp_tree::{Doc, items_mut, members_mut};
 use std::alloc::{AllocError, AllocFailed, Global};
 
 /// The number of tokens of a place and the depth of a value that is put there are together at most this.
-const DEPTH_LIMIT: usize = 126;
+const DEPTH_LIMIT: usize = mp_tree::DEPTH_LIMIT as usize;
 
 // Why an operation was not taken.
 #[derive(Clone, Copy, Drop)]
@@ -28,11 +28,11 @@ pub(crate) enum StepFault {
 
 impl StepFault {
     // As the fault of the operation with that number.
-    pub(crate) fn at(self, op: usize) -> ApplyFault
-        ensures { result ≡ fault_at op self }
+    pub(crate) fn at(self, number: usize) -> ApplyFault
+        ensures { result ≡ fault_at number self }
     {
         match self {
-            StepFault::Refused(cause) => ApplyFault::Refused { op, cause },
+            StepFault::Refused(cause) => ApplyFault::Refused { op: number, cause },
             StepFault::OutOfMemory => ApplyFault::OutOfMemory,
         }
     }
@@ -152,7 +152,7 @@ fn move_part(
     if origin.is_proper_prefix_of(path) {
         return Err(StepFault::Refused(Cause::IntoItself));
     }
-    if is_same_place(origin, path) {
+    if is_same_pointer(origin, path) {
         return match get(doc, origin) {
             Some(_) => Ok(()),
             None => Err(StepFault::Refused(Cause::Missing)),
@@ -178,14 +178,14 @@ fn copy_part(
     add(doc, path, part, alloc)
 }
 
-fn is_same_place(one: &Pointer, other: &Pointer) -> bool
+fn is_same_pointer(one: &Pointer, other: &Pointer) -> bool
     ensures { IsTrue result ↔ (one.now ≡ other.now) }
 {
     if one.len() != other.len() {
         return false;
     }
-    for place in 0..one.len() {
-        if one.token(place).unwrap() != other.token(place).unwrap() {
+    for number in 0..one.len() {
+        if one.token(number).unwrap() != other.token(number).unwrap() {
             return false;
         }
     }
@@ -260,18 +260,18 @@ fn insert_element(
     ensures { Inserts result fits token.now (document value)
         (document (Items elements.old)) (document (Items elements.new)) }
 {
-    let Some(place) = place_in(elements.len(), token) else {
+    let Some(index) = index_in(elements.len(), token) else {
         return Err(StepFault::Refused(Cause::NoPlace));
     };
     if !fits {
         return Err(StepFault::Refused(Cause::TooDeep));
     }
-    elements.insert(place, value)?;
+    elements.insert(index, value)?;
     Ok(())
 }
 
 // The place for a new element that the token names in a list of that length.
-fn place_in(len: usize, token: &str) -> Option<usize>
+fn index_in(len: usize, token: &str) -> Option<usize>
     ensures { MatchOption result
         ((token.now ≢ dash) × ((i : ℕ) → token.now ≡ numeral i → len < i))
         (λ i. (i ≤ len)

@@ -1,5 +1,7 @@
 //! Worked values: operations on documents, forms, and the texts of the faults.
-use crate::{ApplyFault, Cause, FormCause, FormFault, JsonPatch, Op, apply, apply_owned};
+use crate::{
+    ApplyFault, Cause, FormCause, FormFault, JsonPatch, Op, apply, apply_owned, write_patch,
+};
 use mp_pointer::Pointer;
 use mp_tree::{Doc, read_doc, write_doc};
 use std::alloc::{AllocError, Global};
@@ -159,7 +161,7 @@ fn nested(alloc: Global, count: u8) -> Result<Doc, AllocError> {
 }
 
 #[test]
-fn applied(rt: HostRuntime) -> Result<(), Fail> {
+fn operations_change_the_document(rt: HostRuntime) -> Result<(), Fail> {
     for (start, form, wanted) in APPLIED {
         let doc = read_doc(rt.alloc(), start.as_bytes())?;
         let patch = JsonPatch::from_doc(rt.alloc(), &read_doc(rt.alloc(), form.as_bytes())?)?;
@@ -171,7 +173,7 @@ fn applied(rt: HostRuntime) -> Result<(), Fail> {
 }
 
 #[test]
-fn refused(rt: HostRuntime) -> Result<(), Fail> {
+fn operations_are_refused_by_their_cause(rt: HostRuntime) -> Result<(), Fail> {
     for (start, form, number, wanted) in REFUSED {
         let doc = read_doc(rt.alloc(), start.as_bytes())?;
         let patch = JsonPatch::from_doc(rt.alloc(), &read_doc(rt.alloc(), form.as_bytes())?)?;
@@ -186,7 +188,7 @@ fn refused(rt: HostRuntime) -> Result<(), Fail> {
 }
 
 #[test]
-fn malformed(rt: HostRuntime) -> Result<(), Fail> {
+fn what_is_no_patch_has_a_first_fault(rt: HostRuntime) -> Result<(), Fail> {
     for (form, wanted) in MALFORMED {
         let doc = read_doc(rt.alloc(), form.as_bytes())?;
         match JsonPatch::from_doc(rt.alloc(), &doc) {
@@ -226,7 +228,23 @@ fn a_move_there_and_back(rt: HostRuntime) -> Result<(), Fail> {
 }
 
 #[test]
-fn depths(rt: HostRuntime) -> Result<(), Fail> {
+fn a_patch_is_written_as_its_document(rt: HostRuntime) -> Result<(), Fail> {
+    let text = concat!(
+        r#"[{"op":"test","path":"","value":{"a":[1,null]}},{"op":"add","path":"/a/-","value":2},"#,
+        r#"{"op":"replace","path":"/a/0","value":"x"},{"op":"remove","path":"/a/1"},"#,
+        r#"{"from":"/a","op":"copy","path":"/~0~1"},{"from":"/a","op":"move","path":"/b"}]"#,
+    );
+    let patch = JsonPatch::from_doc(rt.alloc(), &read_doc(rt.alloc(), text.as_bytes())?)?;
+    assert_eq!(rt; write_patch(rt.alloc(), &patch)?.as_str(), text);
+    assert_eq!(rt;
+        write_patch(rt.alloc(), &JsonPatch::new(rt.alloc()))?.as_str(),
+        "[]"
+    );
+    Ok(())
+}
+
+#[test]
+fn depths_have_a_limit(rt: HostRuntime) -> Result<(), Fail> {
     let start = Doc::Items(Vec::new(rt.alloc()));
     let mut shallow = JsonPatch::new(rt.alloc());
     let end = Pointer::parse(rt.alloc(), "/-")?;
@@ -252,7 +270,7 @@ fn depths(rt: HostRuntime) -> Result<(), Fail> {
 }
 
 #[test]
-fn fault_texts(rt: HostRuntime) -> Result<(), Fail> {
+fn faults_have_texts(rt: HostRuntime) -> Result<(), Fail> {
     for (cause, text) in CAUSES {
         let shown = format!(in rt.alloc(); "{cause}")?;
         assert_eq!(rt; shown.as_str(), *text);

@@ -1,7 +1,9 @@
 // From operations to their form as a document (RFC 6902 sections 3 and 4).
 ghost use Rattle.std.specs.Prelude.{◌≡◌, ◌∷◌, [], map, IfOk, OnOk};
 ghost use Rattle.mp_tree.specs.Document.{put, object};
-ghost use Rattle.mp_tree.specs.View.{document, items, items_of, members, members_of};
+ghost use Rattle.mp_tree.specs.View.{document, items, members_of};
+ghost use Rattle.mp_tree.specs.Elements.{items_of};
+ghost use Rattle.mp_tree.specs.Private.Entries.{members};
 ghost use Rattle.mp_patch.specs.Form.{op_member, path_member, from_member, shape, value_member};
 ghost use Rattle.mp_patch.specs.View.{operation_of, operations_of};
 
@@ -35,37 +37,12 @@ fn shape_of(op: &Op, alloc: Global) -> Result<Doc, AllocError>
     }
 }
 
-// The same of operations that are owned: their values are moved.
-pub(crate) fn owned_shapes_of(ops: Vec<Op>, alloc: Global) -> Result<Vec<Doc>, AllocError>
-    ensures { IfOk result (λ docs. items docs.items
-        ≡ items_of (map shape (operations_of ops.items))) }
-{
-    let mut elements = Vec::with_capacity(alloc, ops.len())?;
-    for op in ops {
-        elements.push(owned_shape_of(op, alloc)?)?;
-    }
-    Ok(elements)
-}
-
-fn owned_shape_of(op: Op, alloc: Global) -> Result<Doc, AllocError>
-    ensures { IfOk result (λ d. document d ≡ shape (operation_of op)) }
-{
-    match op {
-        Op::Add(path, value) => with_value(alloc, "add", &path, value),
-        Op::Remove(path) => without_value(alloc, "remove", &path),
-        Op::Replace(path, value) => with_value(alloc, "replace", &path, value),
-        Op::Move { origin, path } => with_origin(alloc, "move", &origin, &path),
-        Op::Copy { origin, path } => with_origin(alloc, "copy", &origin, &path),
-        Op::Test(path, value) => with_value(alloc, "test", &path, value),
-    }
-}
-
 fn with_value(alloc: Global, name: &str, path: &Pointer, value: Doc) -> Result<Doc, AllocError>
     ensures { IfOk result (λ d. document d ≡ object (members_of
         (op_member name.now ∷ path_member path.now
         ∷ value_member (document value) ∷ []))) }
 {
-    let mut entries = named(alloc, name, path)?;
+    let mut entries = common_members(alloc, name, path)?;
     set(&mut entries, "value", value, alloc)?;
     Ok(Doc::Members(entries))
 }
@@ -74,7 +51,7 @@ fn without_value(alloc: Global, name: &str, path: &Pointer) -> Result<Doc, Alloc
     ensures { IfOk result (λ d. document d ≡ object (members_of
         (op_member name.now ∷ path_member path.now ∷ []))) }
 {
-    Ok(Doc::Members(named(alloc, name, path)?))
+    Ok(Doc::Members(common_members(alloc, name, path)?))
 }
 
 fn with_origin(
@@ -86,13 +63,17 @@ fn with_origin(
     ensures { IfOk result (λ d. document d ≡ object (members_of
         (op_member name.now ∷ path_member path.now ∷ from_member origin.now ∷ []))) }
 {
-    let mut entries = named(alloc, name, path)?;
+    let mut entries = common_members(alloc, name, path)?;
     set(&mut entries, "from", Doc::Text(origin.print(alloc)?), alloc)?;
     Ok(Doc::Members(entries))
 }
 
 // The members that each operation has.
-fn named(alloc: Global, name: &str, path: &Pointer) -> Result<BTreeMap<String, Doc>, AllocError>
+fn common_members(
+    alloc: Global,
+    name: &str,
+    path: &Pointer,
+) -> Result<BTreeMap<String, Doc>, AllocError>
     ensures { IfOk result (λ m. members m.entries
         ≡ members_of (op_member name.now ∷ path_member path.now ∷ [])) }
 {

@@ -1,8 +1,9 @@
 -- Laws of pointers alone. Each is the contract of a function of the module `laws` that runs nothing.
 use Rattle.std.specs.Prelude.{◌≡◌, ◌≢◌, ◌≤◌, ◌↔◌, ℕ, List, None, Some, Ok, Err}
 use Rattle.mp_tree.specs.Document.{Document, IsDocument, Items, list}
-use Rattle.mp_pointer.specs.Only.{DifferOnlyAt}
-use Rattle.mp_pointer.specs.Part.{numeral, child, count_of, nth, part}
+use Rattle.mp_pointer.specs.Difference.{DifferOnlyAt}
+use Rattle.mp_pointer.specs.Part.{numeral, child, part}
+use Rattle.mp_tree.specs.Elements.{count_of, nth}
 use Rattle.mp_pointer.specs.Spelling.{Tokens, spell, IsFaultOf, tokens_in}
 use Rattle.mp_pointer.specs.declared.fault.PointerFault.{PointerFault}
 use Rattle.mp_pointer.specs.declared.fault.PointerFault.TheVariants.{OutOfMemory}

@@ -1,6 +1,8 @@
-pub mod Edit
+pub mod Cuts
+pub mod Difference
+pub mod Editing
 pub mod Laws
-pub mod Lent
-pub mod Only
+pub mod Lending
 pub mod Part
+pub mod Private
 pub mod Spelling

@@ -3,6 +3,7 @@ use Rattle.std.specs.Prelude.{◌+◌, ℕ, zero, suc, List, [], ◌∷◌, map,
 use Rattle.std.specs.Int.Digits.{digits_of}
 use Rattle.std.specs.Str.{bytes_eq}
 use Rattle.mp_tree.specs.Document.{Document, null, flag, whole, string, list, object, Items, no_items, item, Members, no_members, member, find}
+use Rattle.mp_tree.specs.Elements.{count_of}
 use Rattle.mp_pointer.specs.Spelling.{Tokens}
 
 -- the decimal spelling of an index, without leading zeros
@@ -24,12 +25,6 @@ child token (string s) = None
 child token (list ds) = element_from 0 token ds
 child token (object ms) = find token ms
 
--- the element at a place of a list, where the first place is 0
-abbrev pub nth : ℕ → Items → Option Document
-nth i no_items = None
-nth zero (item d ds) = Some d
-nth (suc i) (item d ds) = nth i ds
-
 abbrev pub part : Document → Tokens → Option Document
 part d [] = Some d
 part d (token ∷ rest) = option_and_then (λ e. part e rest) (child token d)
@@ -45,10 +40,6 @@ pub data Kind : Type 0 where
 abbrev pub names_of : Members → List (List ℕ)
 names_of no_members = []
 names_of (member n d ms) = n ∷ names_of ms
-
-abbrev pub count_of : Items → ℕ
-count_of no_items = 0
-count_of (item d ds) = suc (count_of ds)
 
 -- a scalar with its value, a map with its names, a list with its length
 abbrev pub kind_here : Document → Kind

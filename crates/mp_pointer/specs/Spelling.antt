@@ -35,16 +35,16 @@ LacksSlash text = (text ≢ []) × (slice_index text 0 ≢ 47)
 
 -- a `~` that no `0` and no `1` follows
 abbrev pub IsBadTilde : List ℕ → ℕ → Type 0
-IsBadTilde text place = (slice_index text place ≡ 126) × (slice_index text (place + 1) ≢ 48) × (slice_index text (place + 1) ≢ 49)
+IsBadTilde text offset = (slice_index text offset ≡ 126) × (slice_index text (offset + 1) ≢ 48) × (slice_index text (offset + 1) ≢ 49)
 
-pub record IsFirstBadTilde (text : List ℕ) (place : ℕ) : Type 0 where
-  pub here : IsBadTilde text place
-  pub before : (k : ℕ) → k < place → ¬ IsBadTilde text k
+pub record IsFirstBadTilde (text : List ℕ) (offset : ℕ) : Type 0 where
+  pub here : IsBadTilde text offset
+  pub before : (k : ℕ) → k < offset → ¬ IsBadTilde text k
 
 -- why the text is no pointer; want of memory says nothing of it
 abbrev pub IsFaultOf : PointerFault → List ℕ → Type 0
 IsFaultOf NoSlash text = LacksSlash text
-IsFaultOf (BadTilde place) text = (slice_index text 0 ≡ 47) × IsFirstBadTilde text place
+IsFaultOf (BadTilde offset) text = (slice_index text 0 ≡ 47) × IsFirstBadTilde text offset
 IsFaultOf OutOfMemory text = ⊤
 
 -- ---- the tokens that a text spells
@@ -79,7 +79,7 @@ first_bad_tilde (c ∷ rest) = if starts_badly c rest then Some 0 else option_ma
 
 abbrev pub unless_bad : Option ℕ → Tokens → Result Tokens PointerFault
 unless_bad None tokens = Ok tokens
-unless_bad (Some place) tokens = Err (BadTilde place)
+unless_bad (Some offset) tokens = Err (BadTilde offset)
 
 -- the tokens that the text spells, or the first fault: no slash, or a bad tilde at its offset
 unfoldable pub tokens_in : List ℕ → Result Tokens PointerFault

@@ -1,9 +1,9 @@
-ghost use Rattle.std.specs.Prelude.{◌≡◌, ◌≢◌, ◌≤◌, ◌-◌, ◌↔◌, ◌++◌, ◌∷◌, [], length, map, take, slice_get, IsTrue, IfOk, IfErr, OnOk, OnErr, MatchResult, Ok, Err, string_bytes};
+ghost use Rattle.std.specs.Prelude.{◌≡◌, ◌≢◌, ◌≤◌, ◌-◌, ◌↔◌, ◌++◌, ◌∷◌, [], length, map, take, get_or, slice_get, IsTrue, IfOk, IfErr, OnOk, OnErr, MatchResult, Ok, Err, string_bytes};
 ghost use Rattle.std.specs.Option.{option_copied};
 ghost use Rattle.mp_pointer.specs.Spelling.{spell, tokens_in, IsFaultOf, IsProperPrefix};
 
 use crate::fault::PointerFault;
-use crate::spelling::{bad_tilde, push_escaped, tokens_after};
+use crate::spelling::{bad_tilde, is_plain, pointer_after, push_escaped};
 use std::alloc::{AllocError, Global};
 use std::marker::Model;
 
@@ -16,17 +16,26 @@ use std::marker::Model;
 /// let pointer = Pointer::parse(alloc, "/a~1b/0")?;  // the tokens `a/b` and `0`
 /// let part = get(&doc, &pointer);                   // 5, where doc is {"a/b":[5]}
 /// ```
+// The tokens stand in one text, each after a slash, so that a copy asks for memory twice, however many there are, and
+// the text is the spelling where nothing has to be escaped.
 #[derive(Debug, Drop)]
 pub struct Pointer {
-    tokens: Vec<String>,
+    text: String,
+    // where each token ends in the text, in bytes
+    ends: Vec<usize>,
+    // only where nothing has to be escaped
+    is_plain: bool,
 }
 
 impl Model for Pointer {
-    ghost use Rattle.std.specs.Prelude.{List, ℕ, map, string_bytes};
+    ghost use Rattle.std.specs.Prelude.{List, ℕ, string_bytes};
+    ghost use Rattle.mp_pointer.specs.Cuts.{IsKept, cut};
 
     ghost Value = { List (List ℕ) };
 
-    ghost view = { λ p. map string_bytes p.tokens.items };
+    ghost view = { λ p. cut 0 p.ends.items (string_bytes p.text) };
+
+    ghost invariant = { λ p. IsKept p.is_plain p.ends.items (string_bytes p.text) };
 }
 
 impl Pointer {
@@ -55,11 +64,8 @@ impl Pointer {
             return Err(PointerFault::NoSlash);
         };
         match bad_tilde(text.as_bytes()) {
-            Some(place) => Err(PointerFault::BadTilde(place)),
-            None => {
-                let tokens = tokens_after(alloc, rest)?;
-                Ok(Pointer { tokens })
-            }
+            Some(offset) => Err(PointerFault::BadTilde(offset)),
+            None => Ok(pointer_after(alloc, rest)?),
         }
     }
 
@@ -68,8 +74,21 @@ impl Pointer {
         ensures { result ≡ [] }
     {
         Pointer {
-            tokens: Vec::new(alloc),
+            text: String::new(alloc),
+            ends: Vec::new(alloc),
+            is_plain: true,
         }
+    }
+
+    // The same, with room for tokens of so many bytes in all, each counted with a slash.
+    pub(crate) fn with_room(alloc: Global, bytes: usize) -> Result<Pointer, AllocError>
+        ensures { IfOk result (λ p. p ≡ []) }
+    {
+        Ok(Pointer {
+            text: String::with_capacity(alloc, bytes)?,
+            ends: Vec::new(alloc),
+            is_plain: true,
+        })
     }
 
     /// The one spelling of this pointer (RFC 6901 section 3). `AllocError` where memory ran out.
@@ -80,10 +99,21 @@ impl Pointer {
     pub fn print(&self, alloc: Global) -> Result<String, AllocError>
         ensures { IfOk result (λ text. string_bytes text ≡ spell self.now) }
     {
+        if self.is_plain {
+            String::from_str(alloc, self.text.as_str())
+        } else {
+            self.escaped(alloc)
+        }
+    }
+
+    // The spelling, token by token.
+    fn escaped(&self, alloc: Global) -> Result<String, AllocError>
+        ensures { IfOk result (λ text. string_bytes text ≡ spell self.now) }
+    {
         let mut text = String::new(alloc);
-        for token in self.tokens() {
+        for number in 0..self.len() {
             text.push('/')?;
-            push_escaped(&mut text, token.as_str())?;
+            push_escaped(&mut text, self.token(number).unwrap())?;
         }
         Ok(text)
     }
@@ -103,8 +133,8 @@ impl Pointer {
     pub fn child(&self, alloc: Global, token: &str) -> Result<Pointer, AllocError>
         ensures { IfOk result (λ p. p ≡ self.now ++ token.now ∷ []) }
     {
-        let mut child = self.copy(alloc)?;
-        child.tokens.push(String::from_str(alloc, token)?)?;
+        let mut child = self.front_with_room(alloc, self.len(), token.len() + 1, 1)?;
+        child.push(token)?;
         Ok(child)
     }
 
@@ -114,24 +144,33 @@ impl Pointer {
     /// ```text
     /// pointer.under(alloc, "x/")  // prints as /x~1/a, where pointer prints as /a
     /// ```
-    pub fn under(mut self, alloc: Global, token: &str) -> Result<Pointer, AllocError>
+    pub fn under(self, alloc: Global, token: &str) -> Result<Pointer, AllocError>
         ensures { IfOk result (λ p. p ≡ token.now ∷ self) }
     {
-        self.tokens.insert(0, String::from_str(alloc, token)?)?;
-        Ok(self)
+        let mut pointer = Pointer::empty(alloc);
+        pointer.push(token)?;
+        for number in 0..self.len() {
+            pointer.push(self.token(number).unwrap())?;
+        }
+        Ok(pointer)
     }
 
     /// Adds a token, given unescaped, at the end: the pointer then leads one step further into the document.
     /// `AllocError` where memory ran out: the pointer is as it was.
     ///
     /// ```text
-    /// pointer.push(alloc, "x/")?;  // then it prints as /a/x~1, where it printed as /a
+    /// pointer.push("x/")?;  // then it prints as /a/x~1, where it printed as /a
     /// ```
-    pub fn push(&mut self, alloc: Global, token: &str) -> Result<(), AllocError>
+    pub fn push(&mut self, token: &str) -> Result<(), AllocError>
         ensures ok { OnOk result (self.new ≡ self.old ++ token.now ∷ []) }
         ensures err { OnErr result (self.new ≡ self.old) }
     {
-        self.tokens.push(String::from_str(alloc, token)?)?;
+        self.ends.reserve(1)?;
+        self.text.reserve(token.len() + 1)?;
+        self.text.push_str("/")?;
+        self.text.push_str(token)?;
+        self.ends.push(self.text.as_str().len())?;
+        self.is_plain = self.is_plain && is_plain(token);
         Ok(())
     }
 
@@ -139,7 +178,9 @@ impl Pointer {
     pub fn pop(&mut self)
         ensures { self.new ≡ take (length self.old - 1) self.old }
     {
-        drop(self.tokens.pop());
+        let count = self.ends.len().saturating_sub(1);
+        self.text.truncate(end_of(self.ends.as_slice(), count));
+        self.ends.truncate(count);
     }
 
     /// The pointer of the first `count` tokens, which leads to a part that holds this pointer's.
@@ -148,28 +189,50 @@ impl Pointer {
         requires { count ≤ length self.now }
         ensures { IfOk result (λ p. p ≡ take count self.now) }
     {
-        let mut tokens = Vec::with_capacity(alloc, count)?;
-        for token in &self.tokens()[..count] {
-            tokens.push(String::from_str(alloc, token.as_str())?)?;
-        }
-        Ok(Pointer { tokens })
+        self.front_with_room(alloc, count, 0, 0)
+    }
+
+    // The same, with room for so many bytes and tokens more.
+    fn front_with_room(
+        &self,
+        alloc: Global,
+        count: usize,
+        bytes: usize,
+        tokens: usize,
+    ) -> Result<Pointer, AllocError>
+        requires { count ≤ length self.now }
+        ensures { IfOk result (λ p. p ≡ take count self.now) }
+    {
+        let end = end_of(self.ends.as_slice(), count);
+        let mut text = String::with_capacity(alloc, end.saturating_add(bytes))?;
+        text.push_str(&self.text.as_str()[..end])?;
+        let mut ends = Vec::with_capacity(alloc, count.saturating_add(tokens))?;
+        ends.extend_from_slice(&self.ends.as_slice()[..count])?;
+        Ok(Pointer {
+            text,
+            ends,
+            is_plain: self.is_plain,
+        })
     }
 
     /// How many tokens there are: 0 for the pointer to the whole document. Takes no memory.
     pub fn len(&self) -> usize
         ensures { result ≡ length self.now }
     {
-        self.tokens.len()
+        self.ends.len()
     }
 
-    /// The token at a place, counted from 0, with nothing escaped; None exactly where `place` is not below
+    /// The token of that number, counted from 0, with nothing escaped; None exactly where `number` is not below
     /// `len()`. Takes no memory.
-    pub fn token(&self, place: usize) -> Option<&str>
-        ensures { option_copied result ≡ slice_get self.now place }
+    pub fn token(&self, number: usize) -> Option<&str>
+        ensures { option_copied result ≡ slice_get self.now number }
     {
-        match self.tokens.get(place) {
-            Some(token) => Some(token.as_str()),
-            None => None,
+        let ends = self.ends.as_slice();
+        if number < ends.len() {
+            let slash = end_of(ends, number);
+            Some(&self.text.as_str()[slash + 1..ends[number]])
+        } else {
+            None
         }
     }
 
@@ -182,22 +245,22 @@ impl Pointer {
     pub fn is_proper_prefix_of(&self, other: &Pointer) -> bool
         ensures { IsTrue result ↔ IsProperPrefix self.now other.now }
     {
-        let tokens = self.tokens();
-        let others = other.tokens();
-        if others.len() <= tokens.len() {
+        if other.len() <= self.len() {
             return false;
         }
-        for (place, token) in tokens.iter().enumerate() {
-            if token.as_str() != others[place].as_str() {
+        for number in 0..self.len() {
+            if self.token(number).unwrap() != other.token(number).unwrap() {
                 return false;
             }
         }
         true
     }
+}
 
-    pub(crate) fn tokens(&self) -> &[String]
-        ensures { map string_bytes result.now ≡ self.now }
-    {
-        self.tokens.as_slice()
-    }
+// Where the first `count` tokens end.
+fn end_of(ends: &[usize], count: usize) -> usize
+    requires { count ≤ length ends.now }
+    ensures { result ≡ get_or (0 ∷ ends.now) count 0 }
+{
+    if count == 0 { 0 } else { ends[count - 1] }
 }

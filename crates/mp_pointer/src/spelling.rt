@@ -1,44 +1,69 @@
 // From a spelling to its tokens and back.
-ghost use Rattle.std.specs.Prelude.{◌≡◌, ◌≢◌, ◌+◌, ◌++◌, ◌∷◌, map, ◌<◌, ◌↔◌, ◌⊎◌, ℕ, length, slice_index, IsTrue, MatchOption, IfOk, OnOk, None, string_bytes};
+ghost use Rattle.std.specs.Prelude.{◌≡◌, ◌≢◌, ◌+◌, ◌++◌, ◌∷◌, ◌<◌, ◌↔◌, ◌⊎◌, ℕ, length, slice_index, IsTrue, MatchOption, IfOk, OnOk, None, string_bytes};
+ghost use Rattle.mp_pointer.specs.Cuts.{IsPlain};
 ghost use Rattle.mp_pointer.specs.Spelling.{escape, spell, first_bad_tilde, IsBadTilde, IsFirstBadTilde};
 
+use crate::pointer::Pointer;
 use std::alloc::{AllocError, Global};
 
 pub(crate) fn bad_tilde(text: &[u8]) -> Option<usize>
     ensures { MatchOption result ((k : ℕ) → ¬ (IsBadTilde text.now k)) (IsFirstBadTilde text.now) }
 {
-    for (place, byte) in text.iter().enumerate() {
-        if *byte == b'~' && !is_escape(text, place + 1) {
-            return Some(place);
+    for (offset, byte) in text.iter().enumerate() {
+        if *byte == b'~' && !is_escape(text, offset + 1) {
+            return Some(offset);
         }
     }
     None
 }
 
-fn is_escape(text: &[u8], place: usize) -> bool
+fn is_escape(text: &[u8], offset: usize) -> bool
     ensures { IsTrue result
-        ↔ (slice_index text.now place ≡ 48) ⊎ (slice_index text.now place ≡ 49) }
+        ↔ (slice_index text.now offset ≡ 48) ⊎ (slice_index text.now offset ≡ 49) }
 {
-    place < text.len() && (text[place] == b'0' || text[place] == b'1')
+    offset < text.len() && (text[offset] == b'0' || text[offset] == b'1')
 }
 
-// The tokens of the spelling that is a slash and then `rest`.
-pub(crate) fn tokens_after(alloc: Global, rest: &str) -> Result<Vec<String>, AllocError>
+// The pointer that is spelled by a slash and then `rest`.
+pub(crate) fn pointer_after(alloc: Global, rest: &str) -> Result<Pointer, AllocError>
     requires { first_bad_tilde rest.now ≡ None }
-    ensures { IfOk result (λ tokens. spell (map string_bytes tokens.items) ≡ 47 ∷ rest.now) }
+    ensures { IfOk result (λ p. spell p ≡ 47 ∷ rest.now) }
 {
-    let mut tokens = Vec::new(alloc);
+    let mut pointer = Pointer::with_room(alloc, rest.len().saturating_add(1))?;
     let mut rest = rest;
     'parts: while let Some((part, more)) = rest.split_once('/') {
-        tokens.push(unescaped(alloc, part)?)?;
+        push_unescaped(&mut pointer, part, alloc)?;
         rest = more;
     }
-    tokens.push(unescaped(alloc, rest)?)?;
-    Ok(tokens)
+    push_unescaped(&mut pointer, rest, alloc)?;
+    Ok(pointer)
 }
 
-// The token that is spelled between two slashes.
-pub(crate) fn unescaped(alloc: Global, spelled: &str) -> Result<String, AllocError>
+// Adds the token that is spelled between two slashes.
+fn push_unescaped(pointer: &mut Pointer, spelled: &str, alloc: Global) -> Result<(), AllocError>
+    requires between { (k : ℕ) → k < length spelled.now → slice_index spelled.now k ≢ 47 }
+    requires escapes { first_bad_tilde spelled.now ≡ None }
+    ensures { OnOk result (spell pointer.new ≡ spell pointer.old ++ 47 ∷ spelled.now) }
+{
+    if is_plain(spelled) {
+        return pointer.push(spelled);
+    }
+    pointer.push(unescape(alloc, spelled)?.as_str())
+}
+
+// Whether nothing in it is escaped, or has to be.
+pub(crate) fn is_plain(text: &str) -> bool
+    ensures { IsTrue result → IsPlain text.now }
+{
+    for byte in text.as_bytes() {
+        if *byte == b'~' || *byte == b'/' {
+            return false;
+        }
+    }
+    true
+}
+
+fn unescape(alloc: Global, spelled: &str) -> Result<String, AllocError>
     requires between { (k : ℕ) → k < length spelled.now → slice_index spelled.now k ≢ 47 }
     requires escapes { first_bad_tilde spelled.now ≡ None }
     ensures { IfOk result (λ token. escape (string_bytes token) ≡ spelled.now) }
@@ -64,6 +89,10 @@ pub(crate) fn unescaped(alloc: Global, spelled: &str) -> Result<String, AllocErr
 pub(crate) fn push_escaped(text: &mut String, token: &str) -> Result<(), AllocError>
     ensures { OnOk result (string_bytes text.new ≡ string_bytes text.old ++ escape token.now) }
 {
+    if is_plain(token) {
+        text.push_str(token)?;
+        return Ok(());
+    }
     let mut rest = token;
     'tildes: while let Some((plain, more)) = rest.split_once('~') {
         push_without_tildes(text, plain)?;

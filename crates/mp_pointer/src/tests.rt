@@ -97,7 +97,7 @@ fn check_print<R: Abort + AllocGlobal>(rt: &R, pointer: &Pointer, spelling: &str
 }
 
 #[test]
-fn parts(rt: HostRuntime) -> Result<(), Fail> {
+fn get_gives_the_part(rt: HostRuntime) -> Result<(), Fail> {
     for (input, text, wanted) in PARTS {
         let docs = read_docs(rt.alloc(), input.as_bytes())?;
         let pointer = Pointer::parse(rt.alloc(), text)?;
@@ -117,7 +117,7 @@ fn parts(rt: HostRuntime) -> Result<(), Fail> {
 }
 
 #[test]
-fn writes(rt: HostRuntime) -> Result<(), Fail> {
+fn get_mut_writes_that_part_alone(rt: HostRuntime) -> Result<(), Fail> {
     for (input, text, wanted) in WRITES {
         let mut docs = read_docs(rt.alloc(), input.as_bytes())?;
         let pointer = Pointer::parse(rt.alloc(), text)?;
@@ -140,7 +140,7 @@ fn writes(rt: HostRuntime) -> Result<(), Fail> {
 }
 
 #[test]
-fn edits(rt: HostRuntime) -> Result<(), Fail> {
+fn edit_part_edits_that_part_alone(rt: HostRuntime) -> Result<(), Fail> {
     for (input, text, wanted) in WRITES {
         let mut docs = read_docs(rt.alloc(), input.as_bytes())?;
         let pointer = Pointer::parse(rt.alloc(), text)?;
@@ -163,7 +163,7 @@ fn edits(rt: HostRuntime) -> Result<(), Fail> {
 }
 
 #[test]
-fn written_parts(rt: HostRuntime) -> Result<(), Fail> {
+fn what_was_written_is_found_there(rt: HostRuntime) -> Result<(), Fail> {
     for (input, text, wanted) in PARTS {
         let mut docs = read_docs(rt.alloc(), input.as_bytes())?;
         let pointer = Pointer::parse(rt.alloc(), text)?;
@@ -186,7 +186,7 @@ fn written_parts(rt: HostRuntime) -> Result<(), Fail> {
 }
 
 #[test]
-fn refused(rt: HostRuntime) {
+fn texts_that_spell_no_pointer_are_refused(rt: HostRuntime) {
     for (text, fault) in REFUSED {
         match Pointer::parse(rt.alloc(), text) {
             Ok(_) => panic!(rt; "{text} is no pointer"),
@@ -196,7 +196,7 @@ fn refused(rt: HostRuntime) {
 }
 
 #[test]
-fn tokens(rt: HostRuntime) -> Result<(), Fail> {
+fn tokens_are_those_of_a_list(rt: HostRuntime) -> Result<(), Fail> {
     let pointer = Pointer::parse(rt.alloc(), "/a~1b/~0")?;
     assert_eq!(rt; pointer.len(), 2);
     assert_eq!(rt; pointer.token(0), Some("a/b"));
@@ -213,7 +213,7 @@ fn tokens(rt: HostRuntime) -> Result<(), Fail> {
 }
 
 #[test]
-fn proper_prefixes(rt: HostRuntime) -> Result<(), Fail> {
+fn a_proper_prefix_is_shorter(rt: HostRuntime) -> Result<(), Fail> {
     let pointer = Pointer::parse(rt.alloc(), "/a")?;
     for (text, wanted) in [("/a/b", true), ("/a", false), ("/ab", false), ("", false)] {
         let other = Pointer::parse(rt.alloc(), text)?;
@@ -223,14 +223,14 @@ fn proper_prefixes(rt: HostRuntime) -> Result<(), Fail> {
 }
 
 #[test]
-fn indices(rt: HostRuntime) {
+fn tokens_spell_indices(rt: HostRuntime) {
     for (token, wanted) in INDICES {
         assert_eq!(rt; index_of(token), *wanted, "of {token:?}");
     }
 }
 
 #[test]
-fn fault_texts(rt: HostRuntime) -> Result<(), Fail> {
+fn faults_have_texts(rt: HostRuntime) -> Result<(), Fail> {
     for (fault, text) in FAULTS {
         let shown = format!(in rt.alloc(); "{fault}")?;
         assert_eq!(rt; shown.as_str(), *text);

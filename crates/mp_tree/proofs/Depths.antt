@@ -2,8 +2,12 @@
 use Rattle.std.proofs.Common.{◌≡◌, ◌≤◌, ◌<◌, ℕ, zero, suc, max, List, [], ◌∷◌, ◌++◌, length, get_or, String, Global, string_bytes, string_cmp, refl, ap, ◌∙◌, arith}
 use Rattle.std.specs.List.Sorted.{IsStrictlySortedBy}
 use Rattle.std.specs.Map.{keys_of, values_of}
-use Rattle.mp_tree.specs.Document.{depth, items_depth, members_depth}
-use Rattle.mp_tree.specs.View.{document, items, members}
+use Rattle.std.proofs.Common.{Bool, true, false, cond, Ordering}
+use Rattle.std.specs.Ordering.{match_ordering}
+use Rattle.std.specs.declared.cmp.Ordering.TheVariants.{Less, Equal, Greater}
+use Rattle.mp_tree.specs.Document.{Document, Members, no_members, member, name_cmp, is_name, put, without, depth, items_depth, members_depth}
+use Rattle.mp_tree.specs.View.{document, items}
+use Rattle.mp_tree.specs.Private.Entries.{members}
 use Rattle.mp_tree.specs.declared.doc.Doc.{Doc}
 use Rattle.mp_tree.proofs.IntoData.{put-below, IsBelow-members}
 
@@ -22,3 +26,23 @@ members_depth-members [] ascending = refl
 members_depth-members (e ∷ es) ascending =
     let listed = put-below (string_bytes e.0) (document e.1) (members es) (IsBelow-members e.0 es ascending.0) in
     ap members_depth listed ∙ ap (λ n. max (depth (document e.1)) n) (members_depth-members es ascending.1)
+
+-- ---- a map after a change
+
+members_depth-put_at : (o : Ordering) (n m : List ℕ) (d e : Document) (ms : Members) → members_depth (put n d ms) ≤ max (depth d) (members_depth ms)
+    → members_depth (match_ordering o (member n d (member m e ms)) (member n d ms) (member m e (put n d ms))) ≤ max (depth d) (members_depth (member m e ms))
+members_depth-put_at Less n m d e ms later = omega arith
+members_depth-put_at Equal n m d e ms later = omega arith
+members_depth-put_at Greater n m d e ms later = omega arith
+
+pub members_depth-put : (n : List ℕ) (d : Document) (ms : Members) → members_depth (put n d ms) ≤ max (depth d) (members_depth ms)
+members_depth-put n d no_members = omega arith
+members_depth-put n d (member m e ms) = members_depth-put_at (name_cmp n m) n m d e ms (members_depth-put n d ms)
+
+pub members_depth-without : (n : List ℕ) (ms : Members) → members_depth (without n ms) ≤ members_depth ms
+members_depth-without n no_members = omega arith
+members_depth-without n (member m d ms) = picked (is_name n m) (members_depth-without n ms)
+  where
+    picked : (b : Bool) → members_depth (without n ms) ≤ members_depth ms → members_depth (cond b ms (member m d (without n ms))) ≤ max (depth d) (members_depth ms)
+    picked true later = omega arith
+    picked false later = omega (arith, later)

@@ -13,7 +13,7 @@ is_here (string s) e = cc
 is_here (list ds) e = cc
 is_here (object ms) e = cc
 
-same_plain : (d e : Document) → plain d ≡ look_here e → d ≡ e
+pub same_plain : (d e : Document) → plain d ≡ look_here e → d ≡ e
 same_plain d null same = cc
 same_plain d (flag b) same = cc
 same_plain d (whole z) same = cc

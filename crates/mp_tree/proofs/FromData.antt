@@ -3,10 +3,11 @@ use Rattle.std.proofs.Common.{◌≡◌, ℕ, List, [], ◌∷◌, ◌++◌, map
 use Rattle.serde_json.specs.View.{view, items_view, members_view}
 use Rattle.serde_json.specs.declared.value.Value.{Value}
 use Rattle.mp_tree.specs.Document.{Document, Items, item, Members, put}
-use Rattle.mp_tree.specs.View.{document, items, members}
+use Rattle.mp_tree.specs.View.{document, items}
+use Rattle.mp_tree.specs.Private.Entries.{members}
 use Rattle.mp_tree.specs.Text.{document_from, items_from, members_from}
 use Rattle.mp_tree.specs.declared.doc.Doc.{Doc}
-use Rattle.mp_tree.proofs.BuiltMaps.{seen}
+use Rattle.mp_tree.proofs.MapBuilding.{seen}
 
 -- what a value is read as, and a document that was read
 abbrev pub from_value : Value → Option Document

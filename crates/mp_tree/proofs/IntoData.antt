@@ -6,7 +6,8 @@ use Rattle.std.specs.Map.{keys_of}
 use Rattle.serde_json.specs.Data as json
 use Rattle.serde_json.specs.Events.{items_len, members_len}
 use Rattle.mp_tree.specs.Document.{Document, Members, no_members, member, put, IsBelow}
-use Rattle.mp_tree.specs.View.{document, items, members}
+use Rattle.mp_tree.specs.View.{document, items}
+use Rattle.mp_tree.specs.Private.Entries.{members}
 use Rattle.mp_tree.specs.Text.{data_of, items_data, members_data}
 use Rattle.mp_tree.specs.declared.doc.Doc.{Doc}
 use Rattle.mp_tree.proofs.Maps.{IsBelow-put}

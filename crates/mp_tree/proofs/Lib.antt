@@ -1,5 +1,4 @@
 pub mod Ascending
-pub mod BuiltMaps
 pub mod Decisions
 pub mod Depths
 pub mod EqualLooks
@@ -7,14 +6,15 @@ pub mod Facts
 pub mod FromData
 pub mod IntoData
 pub mod Lists
+pub mod MapBuilding
 pub mod MapEdits
 pub mod MapLaws
 pub mod Maps
 pub mod Meaning
 pub mod Names
 pub mod ReadDocuments
-pub mod ReadLemmas
+pub mod ReadValues
 pub mod RoundTrip
 pub mod SameParts
-pub mod TextLemmas
+pub mod Texts
 pub mod Wholes

@@ -6,7 +6,8 @@ use Rattle.std.specs.BTreeMap.{UpdatesBy, get_by_text, is_at}
 use Rattle.std.specs.List.Sorted.{IsStrictlySortedBy}
 use Rattle.std.specs.Map.{keys_of, lookup}
 use Rattle.mp_tree.specs.Document.{Document, member, name_cmp, is_name, find, put, without, IsMap}
-use Rattle.mp_tree.specs.View.{document, members}
+use Rattle.mp_tree.specs.View.{document}
+use Rattle.mp_tree.specs.Private.Entries.{members}
 use Rattle.mp_tree.specs.declared.doc.Doc.{Doc}
 use Rattle.mp_tree.proofs.IntoData.{put-below, IsBelow-members}
 use Rattle.mp_tree.proofs.Maps.{find-put, find-without, IsMap-put, IsMap-without, members_same}

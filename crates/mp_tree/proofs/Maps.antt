@@ -95,7 +95,7 @@ find-without q k (member m d ms) map = find-without_at (is_name k m) q k m d ms 
 
 -- ---- equal look-ups
 
-find-here : (n : List ℕ) (d : Document) (ms : Members) → find n (member n d ms) ≡ Some d
+pub find-here : (n : List ℕ) (d : Document) (ms : Members) → find n (member n d ms) ≡ Some d
 find-here n d ms = rw (is_name-self n)
 
 abbrev pub pairs_of : Members → List (List ℕ × Document)

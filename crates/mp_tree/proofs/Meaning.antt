@@ -2,7 +2,8 @@
 use Rattle.std.proofs.Common.{◌≡◌, ℕ, List, [], ◌∷◌, map, Bool, IsUtf8, Ordering, Less, Equal, Greater, String, Vec, BTreeMap, Global, string_bytes, refl, sym, ap, ◌∙◌, subst, rules}
 use Rattle.mp_tree.specs.Document.{Document, null, flag, whole, string, list, object, IsDocument, AreDocuments, IsMap, HasTexts, ItemsHaveTexts, MembersHaveTexts, IsInRange, AreInRange, MembersAreInRange, Members, member, no_members, put, name_cmp}
 use Rattle.mp_tree.specs.Laws.{DocsAreDocuments}
-use Rattle.mp_tree.specs.View.{number_of, named, members_of, document, document_step, items, members}
+use Rattle.mp_tree.specs.View.{number_of, byte_entries, members_of, document, document_step, items}
+use Rattle.mp_tree.specs.Private.Entries.{members}
 use Rattle.mp_tree.specs.declared.whole.Whole.{Whole}
 use Rattle.mp_tree.specs.declared.doc.Doc.{Doc, Null, Flag, Text, Items, Members as Map, map-Doc, fold-roll-Doc, ind-Doc, the_lemmas}
 use Rattle.mp_tree.specs.declared.doc.Doc.TheOpen.{Doc-F}
@@ -10,9 +11,9 @@ use Rattle.std.specs.Ordering.{match_ordering}
 use Rattle.std.proofs.lemmas.Str.{IsUtf8-string_bytes}
 use Rattle.mp_tree.proofs.Maps.{IsMap-put}
 
-pub named-map : {V W : Type 0} (f : V → W) (es : List (String Global × V)) → named (map (λ e. (e.0, f e.1)) es) ≡ map (λ e. (string_bytes e.0, f e.1)) es
-named-map f [] = refl
-named-map f (e ∷ es) = ap (λ r. (string_bytes e.0, f e.1) ∷ r) (named-map f es)
+pub byte_entries-map : {V W : Type 0} (f : V → W) (es : List (String Global × V)) → byte_entries (map (λ e. (e.0, f e.1)) es) ≡ map (λ e. (string_bytes e.0, f e.1)) es
+byte_entries-map f [] = refl
+byte_entries-map f (e ∷ es) = ap (λ r. (string_bytes e.0, f e.1) ∷ r) (byte_entries-map f es)
 
 pub document-Null : document Null ≡ null
 document-Null = search (rules, the_lemmas)
@@ -31,8 +32,8 @@ document-Items v = search (rules, the_lemmas)
 
 pub document-Members : (m : BTreeMap (String Global) Doc) → document (Map m) ≡ object (members m.entries)
 document-Members m =
-    let opened : document (Map m) ≡ object (members_of (named (map (λ e. (e.0, document e.1)) m.entries))) = search (rules, the_lemmas) in
-    opened ∙ ap (λ es. object (members_of es)) (named-map document m.entries)
+    let opened : document (Map m) ≡ object (members_of (byte_entries (map (λ e. (e.0, document e.1)) m.entries))) = search (rules, the_lemmas) in
+    opened ∙ ap (λ es. object (members_of es)) (byte_entries-map document m.entries)
 
 -- ---- each `Doc` means a finite map at every level
 
@@ -53,7 +54,7 @@ AreDocuments-items : (ds : List (Paired IsDocument)) → AreDocuments (items (ma
 AreDocuments-items [] = tt
 AreDocuments-items (e ∷ ds) = (e.1, AreDocuments-items ds)
 
-IsMap-members : (ms : List (String Global × Paired IsDocument)) → IsMap (members_of (named (map (λ (m : String Global × Doc). (m.0, document m.1)) (map (λ m. (m.0, m.1.0)) ms))))
+IsMap-members : (ms : List (String Global × Paired IsDocument)) → IsMap (members_of (byte_entries (map (λ (m : String Global × Doc). (m.0, document m.1)) (map (λ m. (m.0, m.1.0)) ms))))
 IsMap-members [] = tt
 IsMap-members (m ∷ ms) = IsMap-put _ _ _ m.1.1 (IsMap-members ms)
 
@@ -84,7 +85,7 @@ MembersAreInRange-put n d (member m e ms) here rest = in_range_at (name_cmp n m)
     in_range_at Equal n m d e ms here rest later = (here, rest.1)
     in_range_at Greater n m d e ms here rest later = (rest.0, later)
 
-MembersAreInRange-members : (ms : List (String Global × Paired IsInRange)) → MembersAreInRange (members_of (named (map (λ (m : String Global × Doc). (m.0, document m.1)) (map (λ m. (m.0, m.1.0)) ms))))
+MembersAreInRange-members : (ms : List (String Global × Paired IsInRange)) → MembersAreInRange (members_of (byte_entries (map (λ (m : String Global × Doc). (m.0, document m.1)) (map (λ m. (m.0, m.1.0)) ms))))
 MembersAreInRange-members [] = tt
 MembersAreInRange-members (m ∷ ms) = MembersAreInRange-put _ _ _ m.1.1 (MembersAreInRange-members ms)
 
@@ -115,7 +116,7 @@ MembersHaveTexts-put n d (member m e ms) name here rest = have_at (name_cmp n m)
     have_at Equal n m d e ms name here rest later = (name, here, rest.2)
     have_at Greater n m d e ms name here rest later = (rest.0, rest.1, later)
 
-MembersHaveTexts-members : (ms : List (String Global × Paired HasTexts)) → MembersHaveTexts (members_of (named (map (λ (m : String Global × Doc). (m.0, document m.1)) (map (λ m. (m.0, m.1.0)) ms))))
+MembersHaveTexts-members : (ms : List (String Global × Paired HasTexts)) → MembersHaveTexts (members_of (byte_entries (map (λ (m : String Global × Doc). (m.0, document m.1)) (map (λ m. (m.0, m.1.0)) ms))))
 MembersHaveTexts-members [] = tt
 MembersHaveTexts-members (m ∷ ms) = MembersHaveTexts-put _ _ _ (IsUtf8-string_bytes m.0) m.1.1 (MembersHaveTexts-members ms)
 

@@ -21,9 +21,6 @@ same_from_cmp n m e = same_name n m (ap is_eq e)
 pub is_name-less : (n m : List ℕ) → name_cmp n m ≡ Less → is_name n m ≡ false
 is_name-less n m e = ap is_eq e
 
-pub is_name-greater : (n m : List ℕ) → name_cmp n m ≡ Greater → is_name n m ≡ false
-is_name-greater n m e = ap is_eq e
-
 differ : (b : Bool) {P : Type 0} → (b ≡ true → P) → (P → ⊥) → b ≡ false
 differ true f never = absurd (never (f refl))
 differ false f never = refl

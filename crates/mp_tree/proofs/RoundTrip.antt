@@ -27,7 +27,7 @@ use Rattle.mp_tree.specs.Document.{Document, null, flag, whole, string, list, ob
 use Rattle.mp_tree.specs.Laws.{ReadsBack, EqualTexts}
 use Rattle.mp_tree.specs.Text.{document_from, data_of, items_data, members_data, text, read, reading}
 use Rattle.mp_tree.proofs.Names.{below_is_above}
-use Rattle.mp_tree.proofs.TextLemmas.{depth-data_of, document_from-data_of}
+use Rattle.mp_tree.proofs.Texts.{depth-data_of, document_from-data_of}
 
 -- ---- a whole number's digits
 
@@ -184,14 +184,14 @@ mutual
 -- ---- the round trip
 
 reads_tokens : (d : Document) → IsInRange d → depth d ≤ max_depth → serde_json.read (text d) ≡ of_json (outline (data_of d))
-reads_tokens d range shallow =
+reads_tokens d range shallow_document =
     let j = outline (data_of d) in
     let printed : tokens (text d) ≡ json_tokens j = ap tokens (sym (print-outline (data_of d))) ∙ tokens-print (json_tokens j) (ArePrintable-json_tokens j (has_numbers d range)) in
     let nests : tree.depth j ≤ max_depth = omega (arith, depth-outline (data_of d), depth-data_of d) in
     ap (λ o. option_and_then of_json (option_and_then (λ p. json_text.if_last p.0 p.1) o)) (ap (json_text.value max_depth) (printed ∙ sym (append-nil (json_tokens j))) ∙ value-json_tokens j max_depth [] nests)
 
 pub read-text : ReadsBack
-read-text d good texts range shallow =
+read-text d good texts range shallow_document =
     let whole_text : serde_json.read (text d) ≡ Some (data_of d) = reads_tokens d range (omega arith) ∙ reads_outline d range good in
     let is : reading (text d) ≡ Some (data_of d) = rw (is_utf8-from_IsUtf8 (text d) (IsUtf8-text d range texts)) whole_text in
     ap (option_and_then document_from) is ∙ document_from-data_of d good
@@ -200,5 +200,5 @@ some_same : {A : Type 0} (a b : A) → Some a ≡ Some b → a ≡ b
 some_same a b same = cc
 
 pub same-text : EqualTexts
-same-text d e good texts range shallow good' texts' range' shallow' =
-    (λ same. ap text same, λ same. some_same d e (sym (read-text d good texts range shallow) ∙ ap read same ∙ read-text e good' texts' range' shallow'))
+same-text d e good texts range shallow_document good' texts' range' shallow' =
+    (λ same. ap text same, λ same. some_same d e (sym (read-text d good texts range shallow_document) ∙ ap read same ∙ read-text e good' texts' range' shallow'))

@@ -4,9 +4,10 @@ use Rattle.std.proofs.lemmas.List.{length-map}
 use Rattle.std.specs.List.Sorted.{IsStrictlySortedBy}
 use Rattle.std.specs.Map.{keys_of}
 use Rattle.mp_tree.specs.Document.{Document, object, Items, no_items, item, Members, no_members}
-use Rattle.mp_tree.specs.View.{document, members_of, items, members}
+use Rattle.mp_tree.specs.View.{document, members_of, items}
+use Rattle.mp_tree.specs.Private.Entries.{members}
 use Rattle.mp_tree.specs.declared.doc.Doc.{Doc}
-use Rattle.mp_tree.proofs.BuiltMaps.{seen}
+use Rattle.mp_tree.proofs.MapBuilding.{seen}
 use Rattle.mp_tree.proofs.IntoData.{put-below, IsBelow-members}
 use Rattle.mp_tree.proofs.Maps.{pairs_of}
 use Rattle.mp_tree.proofs.Lists.{empty_from_length}

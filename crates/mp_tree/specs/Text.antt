@@ -8,10 +8,10 @@ use Rattle.serde_json.specs.Find.{as_u64, as_i64, of_integer}
 use Rattle.serde_json.specs.Read as serde_json
 use Rattle.serde_json.specs.Written.{compact_text}
 use Rattle.mp_tree.specs.Document.{Document, null, flag, whole, string, list, object, Items, no_items, item, Members, no_members, member, put, depth, depth_limit}
-use Rattle.mp_tree.specs.declared.read.DocsFault.{DocsFault}
-use Rattle.mp_tree.specs.declared.read.DocsFault.TheVariants.{NotJson, NotWhole, NotAnArray}
-use Rattle.mp_tree.specs.declared.read.ReadFault.{ReadFault}
-use Rattle.mp_tree.specs.declared.read.ReadFault.TheVariants as fault
+use Rattle.mp_tree.specs.declared.reading.DocsFault.{DocsFault}
+use Rattle.mp_tree.specs.declared.reading.DocsFault.TheVariants.{NotJson, NotWhole, NotAnArray}
+use Rattle.mp_tree.specs.declared.reading.ReadFault.{ReadFault}
+use Rattle.mp_tree.specs.declared.reading.ReadFault.TheVariants as fault
 
 -- ---- reading
 
@@ -69,13 +69,13 @@ documents_in bytes = read_or_fault (reading bytes)
 -- ---- the document that the bytes are, or the first fault: not JSON, a number that is not whole, too deep
 
 -- a document within the depth rule
-abbrev pub shallow : Document → Result Document ReadFault
-shallow d = if nat_le (depth d) depth_limit then Ok d else Err fault.TooDeep
+abbrev pub shallow_document : Document → Result Document ReadFault
+shallow_document d = if nat_le (depth d) depth_limit then Ok d else Err fault.TooDeep
 
 -- of a document, where all numbers were whole
 abbrev whole_document : Option Document → Result Document ReadFault
 whole_document None = Err fault.NotWhole
-whole_document (Some d) = shallow d
+whole_document (Some d) = shallow_document d
 
 -- of a reading, where there was one
 abbrev document_read : Option Data → Result Document ReadFault

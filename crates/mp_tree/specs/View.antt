@@ -1,19 +1,15 @@
 -- The document that a `Doc` means.
 use Rattle.std.specs.Prelude.{ℕ, ℤ, List, [], ◌∷◌, map, String, string_bytes}
 use Rattle.std.specs.declared.alloc.Global.{Global}
-use Rattle.mp_tree.specs.Document.{Document, null, flag, whole, string, list, object, Items, no_items, item, Members, no_members, put}
+use Rattle.mp_tree.specs.Document.{Document, null, flag, whole, string, list, object, Items, Members, no_members, put}
 use Rattle.mp_tree.specs.declared.whole.Whole.{Whole}
 use Rattle.mp_tree.specs.declared.doc.Doc.{Doc, fold-Doc}
 use Rattle.mp_tree.specs.declared.doc.Doc.TheOpen.{Doc-F}
+use Rattle.mp_tree.specs.Elements.{items_of}
 
 -- the number that a `Whole` is
 abbrev pub number_of : Whole → ℤ
 number_of n = n.value
-
--- the elements of a list of documents
-abbrev pub items_of : List Document → Items
-items_of [] = no_items
-items_of (d ∷ ds) = item d (items_of ds)
 
 -- the map of a list of pairs
 abbrev pub members_of : List (List ℕ × Document) → Members
@@ -21,8 +17,8 @@ members_of [] = no_members
 members_of (m ∷ ms) = put m.0 m.1 (members_of ms)
 
 -- a map's entries, each name as its bytes
-abbrev pub named : {V : Type 0} → List (String Global × V) → List (List ℕ × V)
-named es = map (λ e. (string_bytes e.0, e.1)) es
+abbrev pub byte_entries : {V : Type 0} → List (String Global × V) → List (List ℕ × V)
+byte_entries es = map (λ e. (string_bytes e.0, e.1)) es
 
 -- one level, with each part already seen as its document
 abbrev pub document_step : Doc-F Document → Document
@@ -31,7 +27,7 @@ document_step (Doc-F.Flag b) = flag b
 document_step (Doc-F.Whole n) = whole (number_of n)
 document_step (Doc-F.Text s) = string (string_bytes s)
 document_step (Doc-F.Items v) = list (items_of v.items)
-document_step (Doc-F.Members m) = object (members_of (named m.entries))
+document_step (Doc-F.Members m) = object (members_of (byte_entries m.entries))
 
 -- the document that a `Doc` means
 abbrev pub document : Doc → Document
@@ -40,7 +36,3 @@ document = fold-Doc Document document_step
 -- the documents of a list's elements
 abbrev pub items : List Doc → Items
 items ds = items_of (map document ds)
-
--- the members of a map's entries
-abbrev pub members : List (String Global × Doc) → Members
-members es = members_of (map (λ e. (string_bytes e.0, document e.1)) es)

@@ -1,9 +1,9 @@
 //! Documents: copies, equality and depth.
 ghost use Rattle.std.specs.Prelude.{◌≡◌, ◌≤◌, ◌↔◌, IfOk, IsTrue};
 
-use crate::built::map_of;
-use crate::fits::is_within;
-use crate::same::is_same;
+use crate::building::map_of;
+use crate::comparing::is_same;
+use crate::measuring::is_within;
 use crate::whole::Whole;
 use std::alloc::{AllocError, Global};
 use std::collections::BTreeMap;
@@ -73,7 +73,8 @@ impl Doc {
     }
 }
 
-ghost use Rattle.mp_tree.specs.View.{document, items, members};
+ghost use Rattle.mp_tree.specs.View.{document, items};
+ghost use Rattle.mp_tree.specs.Private.Entries.{members};
 
 #[cycle(copy)]
 fn copy_of(doc: &Doc, alloc: Global) -> Result<Doc, AllocError>

@@ -1,22 +1,22 @@
 //! JSON documents with whole numbers: their tree, and reading and writing them.
 #![tactic(auto)]
 
-mod built;
-pub mod container;
+mod building;
+mod comparing;
+mod converting;
 pub mod doc;
-mod fits;
 pub mod laws;
-mod parts;
-pub mod read;
-mod same;
-mod serialize;
+pub mod lending;
+mod measuring;
+pub mod reading;
+mod serializing;
 #[cfg(test)]
 mod tests;
 pub mod whole;
-pub mod write;
+pub mod writing;
 
-pub use container::{items_mut, members_mut};
 pub use doc::Doc;
-pub use read::{DocsFault, ReadFault, read_doc, read_docs};
+pub use lending::{items_mut, members_mut};
+pub use reading::{DEPTH_LIMIT, DocsFault, ReadFault, read_doc, read_docs};
 pub use whole::Whole;
-pub use write::{write_doc, write_text};
+pub use writing::{write_doc, write_text};

@@ -98,15 +98,16 @@ fn to_doc(rt: HostRuntime) -> Result<(), Fail> {
     tell(&rt, watch_to_doc(rt.alloc()))
 }
 
-fn watch_into_doc(alloc: Global) -> Option<Seen> {
+fn watch_write_patch(alloc: Global) -> Option<Seen> {
     let form = doc_of(alloc, LONG_FORM)?;
     let patch = JsonPatch::from_doc(alloc, &form).ok()?;
-    Some(Seen::of_doc(patch.into_doc(alloc), &form))
+    let text = mp_tree::write_doc(alloc, &form).ok()?;
+    Some(Seen::of_text(mp_patch::write_patch(alloc, &patch), text.as_str()))
 }
 
 #[test]
-fn into_doc(rt: HostRuntime) -> Result<(), Fail> {
-    tell(&rt, watch_into_doc(rt.alloc()))
+fn write_patch(rt: HostRuntime) -> Result<(), Fail> {
+    tell(&rt, watch_write_patch(rt.alloc()))
 }
 
 fn of_application(given: Result<Doc, ApplyFault>, wanted: &Doc) -> Seen {

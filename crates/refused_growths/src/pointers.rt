@@ -80,7 +80,7 @@ fn front(rt: HostRuntime) -> Result<(), Fail> {
 /// After a refusal the pointer is what it was.
 fn watch_push(alloc: Global) -> Option<Seen> {
     let mut pointer = pointer_of(alloc, TEXT)?;
-    Some(match pointer.push(alloc, "x/") {
+    Some(match pointer.push("x/") {
         Ok(()) => Seen::answer_if(has_tokens(&pointer, LONGER)),
         Err(_) => Seen::NoMemory.with(has_tokens(&pointer, TOKENS)),
     })

@@ -67,7 +67,7 @@ fn check_get<R: Abort + AllocGlobal>(
 }
 
 #[test]
-fn examples(rt: HostRuntime) -> Result<(), Fail> {
+fn the_examples_of_rfc_6901(rt: HostRuntime) -> Result<(), Fail> {
     for (pointer, text) in EXAMPLES {
         check_get(&rt, pointer, EXAMPLE, text, 0)?;
     }
@@ -75,7 +75,7 @@ fn examples(rt: HostRuntime) -> Result<(), Fail> {
 }
 
 #[test]
-fn parts(rt: HostRuntime) -> Result<(), Fail> {
+fn pointers_name_parts(rt: HostRuntime) -> Result<(), Fail> {
     for (pointer, input, text, status) in PARTS {
         check_get(&rt, pointer, input, text, *status)?;
     }
@@ -83,7 +83,7 @@ fn parts(rt: HostRuntime) -> Result<(), Fail> {
 }
 
 #[test]
-fn faults(rt: HostRuntime) -> Result<(), Fail> {
+fn faults_of_input_and_pointer(rt: HostRuntime) -> Result<(), Fail> {
     for (pointer, input, text, status) in FAULTS {
         check_get(&rt, pointer, input, text, *status)?;
     }

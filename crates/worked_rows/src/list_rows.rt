@@ -89,20 +89,20 @@ const COMPATIBLE: &[&str] = &[
 ];
 
 #[test]
-fn joins(rt: HostRuntime) -> Result<(), Fail> {
+fn lists_are_joined(rt: HostRuntime) -> Result<(), Fail> {
     check_rows(&rt, &Command::Join, JOINS);
     Ok(())
 }
 
 #[test]
-fn replays(rt: HostRuntime) -> Result<(), Fail> {
+fn lists_are_replayed(rt: HostRuntime) -> Result<(), Fail> {
     check_rows(&rt, &Command::Replay, REPLAYS);
     Ok(())
 }
 
 /// All orders of four patches, with each of them repeated once.
 #[test]
-fn shuffle(rt: HostRuntime) -> Result<(), Fail> {
+fn all_orders_give_one_document(rt: HostRuntime) -> Result<(), Fail> {
     let count = COMPATIBLE.len();
     for code in 0..count * count * count * count {
         let order = [

@@ -32,7 +32,7 @@ const CASES: &[Case] = &[
 ];
 
 #[test]
-fn merge(rt: HostRuntime) -> Result<(), Fail> {
+fn merge_gives_the_result(rt: HostRuntime) -> Result<(), Fail> {
     for (original, patch, result) in CASES {
         let input = format!(in rt.alloc(); "[{original},{patch}]")?;
         check(&rt, &Command::Merge, input.as_bytes(), result, 0);
@@ -41,7 +41,7 @@ fn merge(rt: HostRuntime) -> Result<(), Fail> {
 }
 
 #[test]
-fn merge_in_place(rt: HostRuntime) -> Result<(), Fail> {
+fn merging_in_place_gives_the_result(rt: HostRuntime) -> Result<(), Fail> {
     for (original, patch, result) in CASES {
         let mut target = read_doc(rt.alloc(), original.as_bytes())?;
         let patch = read_doc(rt.alloc(), patch.as_bytes())?;
@@ -54,7 +54,7 @@ fn merge_in_place(rt: HostRuntime) -> Result<(), Fail> {
 
 /// A patch that is received twice leaves what it leaves once.
 #[test]
-fn replay(rt: HostRuntime) -> Result<(), Fail> {
+fn a_repeated_patch_changes_nothing_more(rt: HostRuntime) -> Result<(), Fail> {
     for (original, patch, result) in CASES {
         let once = format!(in rt.alloc(); "[{original},{patch}]")?;
         check(&rt, &Command::Replay, once.as_bytes(), result, 0);
@@ -65,7 +65,7 @@ fn replay(rt: HostRuntime) -> Result<(), Fail> {
 }
 
 #[test]
-fn rewrite(rt: HostRuntime) -> Result<(), Fail> {
+fn rewriting_gives_the_result(rt: HostRuntime) -> Result<(), Fail> {
     for (original, patch, result) in CASES {
         let input = format!(in rt.alloc(); "[{original},{patch}]")?;
         let edits = line(&rt, &Command::Rewrite, input.as_str())?;

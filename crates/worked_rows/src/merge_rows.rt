@@ -46,17 +46,17 @@ const SHAPES: &[Row] = &[
 ];
 
 #[test]
-fn results(rt: HostRuntime) {
+fn patches_are_merged_in_turn(rt: HostRuntime) {
     check_rows(&rt, &Command::Merge, RESULTS);
 }
 
 #[test]
-fn numbers(rt: HostRuntime) {
+fn numbers_are_whole(rt: HostRuntime) {
     check_rows(&rt, &Command::Merge, NUMBERS);
 }
 
 #[test]
-fn shapes(rt: HostRuntime) {
+fn inputs_of_another_shape_are_refused(rt: HostRuntime) {
     check_rows(&rt, &Command::Merge, SHAPES);
 }
 
@@ -78,7 +78,7 @@ fn nested(rt: &HostRuntime, depth: usize) -> Result<String, Fail> {
 }
 
 #[test]
-fn nesting(rt: HostRuntime) -> Result<(), Fail> {
+fn nesting_has_a_limit(rt: HostRuntime) -> Result<(), Fail> {
     let deepest = nested(&rt, 127)?;
     let inner = nested(&rt, 126)?;
     check(&rt, &Command::Merge, deepest.as_bytes(), inner.as_str(), 0);

@@ -270,26 +270,26 @@ const FORMS: &[Row] = &[
 ];
 
 #[test]
-fn operations(rt: HostRuntime) -> Result<(), Fail> {
+fn operations_change_or_refuse(rt: HostRuntime) -> Result<(), Fail> {
     check_rows(&rt, &Command::Patch, OPERATIONS);
     Ok(())
 }
 
 #[test]
-fn patches(rt: HostRuntime) -> Result<(), Fail> {
+fn patches_run_whole_or_not_at_all(rt: HostRuntime) -> Result<(), Fail> {
     check_rows(&rt, &Command::Patch, PATCHES);
     Ok(())
 }
 
 #[test]
-fn forms(rt: HostRuntime) -> Result<(), Fail> {
+fn elements_that_are_no_operation_are_told(rt: HostRuntime) -> Result<(), Fail> {
     check_rows(&rt, &Command::Patch, FORMS);
     Ok(())
 }
 
 /// A copy of the deepest document into itself.
 #[test]
-fn depth(rt: HostRuntime) -> Result<(), Fail> {
+fn depths_have_a_limit(rt: HostRuntime) -> Result<(), Fail> {
     let open = "[".repeat(rt.alloc(), 126)?;
     let close = "]".repeat(rt.alloc(), 126)?;
     let input = format!(in rt.alloc();

@@ -72,13 +72,13 @@ const OTHER_ORDER: &str =
 const END: &str = r#"{"a":{"x":1},"s":{"t":[null]}}"#;
 
 #[test]
-fn rewritten(rt: HostRuntime) -> Result<(), Fail> {
+fn patches_are_rewritten(rt: HostRuntime) -> Result<(), Fail> {
     check_rows(&rt, &Command::Rewrite, REWRITTEN);
     Ok(())
 }
 
 #[test]
-fn guarded(rt: HostRuntime) -> Result<(), Fail> {
+fn another_document_fails_a_test(rt: HostRuntime) -> Result<(), Fail> {
     let input = r#"[{"a":1,"b":2},{"a":null,"b":3,"c":4}]"#;
     let edits = line(&rt, &Command::Rewrite, input)?;
     for (document, text, status) in GUARDED {

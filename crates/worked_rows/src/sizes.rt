@@ -127,7 +127,7 @@ fn many_patches(rt: HostRuntime) -> Result<(), Fail> {
 }
 
 #[test]
-fn long_pointers(rt: HostRuntime) -> Result<(), Fail> {
+fn long_pointers_are_followed(rt: HostRuntime) -> Result<(), Fail> {
     let alloc = rt.alloc();
     // One token that is spelled in 5,000 bytes.
     let spelled = repeated(alloc, "a~0~1", 1_000)?;
@@ -151,7 +151,7 @@ fn long_pointers(rt: HostRuntime) -> Result<(), Fail> {
 }
 
 #[test]
-fn empty_names(rt: HostRuntime) -> Result<(), Fail> {
+fn empty_names_are_names(rt: HostRuntime) -> Result<(), Fail> {
     let alloc = rt.alloc();
     let command = Command::Get(String::from_str(alloc, "/")?);
     check(&rt, &command, br#"[{"":{"":1}}]"#, r#"{"":1}"#, 0);
@@ -194,7 +194,7 @@ fn empty_names(rt: HostRuntime) -> Result<(), Fail> {
 
 /// The deepest documents and patches, and a clash at their end.
 #[test]
-fn deepest(rt: HostRuntime) -> Result<(), Fail> {
+fn the_deepest_document_is_read(rt: HostRuntime) -> Result<(), Fail> {
     let alloc = rt.alloc();
     let opened = repeated(alloc, "{\"a\":", 126)?;
     let closed = repeated(alloc, "}", 126)?;

@@ -2,7 +2,8 @@
 ghost use Rattle.std.specs.Prelude.{◌≡◌, ◌+◌, ◌^◌, ◌<◌, length, IfOk, OnOk, OnErr};
 ghost use Rattle.std.specs.Io.{ReadsAtMost, WritesAtMost};
 ghost use Rattle.std.specs.Io.KnownBytes.{Keeps, ReadConsumes, WriteAppends};
-ghost use Rattle.mp_cli.specs.Counted.{device_of, calls_of, bytes_of, CountsBytes, CountsFailure, IsFlushed};
+ghost use Rattle.mp_cli.specs.Counted.{device_of, calls_of, bytes_of, IsFlushed};
+ghost use Rattle.mp_cli.specs.Private.Counts.{CountsBytes, CountsFailure};
 
 use super::Counted;
 use std::io;

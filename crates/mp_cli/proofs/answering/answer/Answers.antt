@@ -3,12 +3,12 @@ use Rattle.std.proofs.lemmas.Result.{IfOk-weaker}
 use Rattle.mp_tree.specs.Document.{Document}
 use Rattle.mp_tree.specs.View.{document}
 use Rattle.mp_cli.specs.Answered.{answered_by, IsAnswered, IsJoinAnswer}
-use Rattle.mp_cli.proofs.AnswerLemmas.{listed-items}
+use Rattle.mp_cli.proofs.AnswerCases.{list_of-items}
 use Rattle.mp_cli.proofs.answering.answer.Goals as goal
 
 pub returns-in-Join : goal.returns-in-Join
 unfolding IsAnswered
 returns-in-Join c =
     let docs = c.in-Ok.docs.items in
-    let listed_docs = listed-items docs in
+    let listed_docs = list_of-items docs in
     IfOk-weaker c.join.result _ _ (λ a is. rw (c.in-Join.is, c.in-Ok.ensures.documents) (subst (λ (ps : List Document). IsJoinAnswer ps (answered_by a)) (ap (map document) c.as_slice-in-Join.ensures.value ∙ sym listed_docs) is)) c.join.ensures

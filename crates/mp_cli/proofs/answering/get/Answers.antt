@@ -1,7 +1,9 @@
 use Rattle.std.proofs.Common.{◌≡◌, ℕ, List, [], ◌∷◌, length, arith, refl, subst, sym}
 use Rattle.mp_tree.specs.View.{items}
 use Rattle.mp_tree.specs.declared.doc.Doc.{Doc}
-use Rattle.mp_cli.specs.Answered.{Answered, Gives, get_answer, wrong_shape}
+use Rattle.mp_cli.specs.Answered.{get_answer}
+use Rattle.mp_cli.specs.Lines.{Answered, wrong_shape}
+use Rattle.mp_cli.specs.Private.Answers.{Gives}
 use Rattle.mp_cli.proofs.answering.get.Goals as goal
 
 -- `get` takes one document

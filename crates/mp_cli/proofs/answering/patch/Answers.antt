@@ -1,6 +1,6 @@
 use Rattle.std.proofs.Common.{arith}
 use Rattle.std.proofs.lemmas.Result.{IfOk-weaker}
-use Rattle.mp_cli.proofs.AnswerLemmas.{not_two}
+use Rattle.mp_cli.proofs.AnswerCases.{not_two}
 use Rattle.mp_cli.proofs.answering.patch.Goals as goal
 
 pub returns-then-len-ne2 : goal.returns-then-len-ne2

@@ -2,8 +2,9 @@ use Rattle.std.proofs.Common.{◌≡◌, ◌==◌, ◌∷◌, ◌∙◌, map, ap
 use Rattle.std.proofs.lemmas.Result.{IfOk-weaker}
 use Rattle.mp_tree.specs.View.{document}
 use Rattle.mp_tree.proofs.Facts.{IsDocument-document}
-use Rattle.mp_cli.specs.Answered.{line, replayed}
-use Rattle.mp_cli.proofs.AnswerLemmas.{first_and_rest, no_replay, if_both, replay_answer}
+use Rattle.mp_cli.specs.Answered.{replayed}
+use Rattle.mp_cli.specs.Lines.{line}
+use Rattle.mp_cli.proofs.AnswerCases.{first_and_rest, no_replay, if_both, replay_answer}
 use Rattle.mp_cli.proofs.answering.replay.Goals as goal
 
 pub returns-in-Ok : goal.returns-in-Ok
@@ -14,7 +15,7 @@ returns-in-Ok c =
     let e = c.in-Ok.doc in
     let split : docs ≡ d ∷ ps = first_and_rest docs ps d (c.if-is_empty.ensures ∙ ap (λ n. n == 0) c.args.docs.ok.0) c.remove-start.ensures.value (c.as_slice.ensures.value ∙ c.remove-start.ensures.items) in
     let text = c.in_ok-write_doc-in-Ok.ensures.text in
-    IfOk-weaker c.printed.result _ _ (λ a is. replay_answer docs ps d _ split (replayed (document e) (IsDocument-document e) c.in-Ok.ensures.outcome (is ∙ ap (λ t. line t 0) text))) c.printed.ensures
+    IfOk-weaker c.result_line.result _ _ (λ a is. replay_answer docs ps d _ split (replayed (document e) (IsDocument-document e) c.in-Ok.ensures.outcome (is ∙ ap (λ t. line t 0) text))) c.result_line.ensures
 
 pub returns : goal.returns
 returns c =

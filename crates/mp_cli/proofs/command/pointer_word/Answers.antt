@@ -1,7 +1,7 @@
 use Rattle.std.proofs.Common.{◌≡◌, ◌∙◌, ap, sym, false, true, is_some, Some}
 use Rattle.std.proofs.lemmas.Result.{IfOk-weaker}
 use Rattle.clap.proofs.CallerLemmas.{some_of_text}
-use Rattle.mp_cli.proofs.CommandLineLemmas.{first_value-some, pointer_in-first_value}
+use Rattle.mp_cli.proofs.CommandLine.{first_value-some, pointer_in-first_value}
 use Rattle.mp_cli.proofs.command.pointer_word.Goals as goal
 
 pub unreachable-requires-in_default-get_str : goal.unreachable-requires-in_default-get_str

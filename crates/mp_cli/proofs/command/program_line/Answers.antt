@@ -2,7 +2,7 @@ use Rattle.std.proofs.Common.{◌∙◌, ap, ap₂, codes}
 use Rattle.std.proofs.lemmas.Result.{IfOk-weaker}
 use Rattle.clap.specs.Simple.{new_shape}
 use Rattle.clap.specs.Words.{with_subcommand}
-use Rattle.mp_cli.proofs.CommandLineLemmas.{app_of-settings}
+use Rattle.mp_cli.proofs.CommandLine.{app_of-settings}
 use Rattle.mp_cli.specs.CommandLine.{command_line}
 use Rattle.mp_cli.proofs.command.program_line.Goals as goal
 

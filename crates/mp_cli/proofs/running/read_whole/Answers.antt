@@ -1,4 +1,4 @@
-use Rattle.mp_cli.proofs.RunLemmas.{ReadSoFar-read}
+use Rattle.mp_cli.proofs.Runs.{ReadSoFar-read}
 use Rattle.mp_cli.proofs.running.read_whole.Goals as goal
 
 pub returns-then-len-count-gt-INPUT_LIMIT-clause-reads :

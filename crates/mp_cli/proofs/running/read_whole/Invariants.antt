@@ -1,4 +1,4 @@
-use Rattle.mp_cli.proofs.RunLemmas.{ReadSoFar}
+use Rattle.mp_cli.proofs.Runs.{ReadSoFar}
 use Rattle.mp_cli.proofs.running.read_whole.Given as goal
 
 abbrev pub invariant-loop : goal.invariant-loop

@@ -1,6 +1,6 @@
 use Rattle.std.proofs.lemmas.List.{take_rest}
 use Rattle.std.proofs.Common.{◌≡◌, arith}
-use Rattle.mp_cli.proofs.RunLemmas.{Keeps-none, WrittenSoFar-write, WritesPart-failed}
+use Rattle.mp_cli.proofs.Runs.{Keeps-none, WrittenSoFar-write, WritesPart-failed}
 use Rattle.mp_cli.proofs.running.write_whole.Goals as goal
 
 pub loop-rest-preserved : goal.loop-rest-preserved

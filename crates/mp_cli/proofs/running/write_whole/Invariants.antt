@@ -1,5 +1,5 @@
 use Rattle.std.proofs.Common.{length}
-use Rattle.mp_cli.proofs.RunLemmas.{WrittenSoFar}
+use Rattle.mp_cli.proofs.Runs.{WrittenSoFar}
 use Rattle.mp_cli.proofs.running.write_whole.Given as goal
 
 abbrev pub invariant-loop-rest : goal.invariant-loop-rest

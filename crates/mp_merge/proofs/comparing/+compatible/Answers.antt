@@ -1,11 +1,12 @@
 use Rattle.std.proofs.Common.{◌≡◌, [], ◌∷◌, Some, None, String, Global, string_bytes, sym, ap, ◌∙◌, subst, true≢false}
 use Rattle.mp_tree.specs.Document.{object, find}
-use Rattle.mp_tree.specs.View.{document, members}
+use Rattle.mp_tree.specs.View.{document}
+use Rattle.mp_tree.specs.Private.Entries.{members}
 use Rattle.mp_tree.specs.declared.doc.Doc.{Doc}
 use Rattle.mp_tree.proofs.Facts.{document-Members}
 use Rattle.mp_merge.specs.Clash.{Clash, Compatible}
-use Rattle.mp_merge.proofs.ClashesByName.{decided, no_map, clash_of_others, clash_with_a_map, compatible-self, absent_under, compatible_under, clash_under}
-use Rattle.mp_merge.proofs.WalkLemmas.{next_member, rest_ascends, pass, looked_up}
+use Rattle.mp_merge.proofs.Clashes.ByName.{decided, no_map, clash_of_others, clash_with_a_map, compatible-self, absent_under, compatible_under, clash_under}
+use Rattle.mp_merge.proofs.Collections.Members.{next_member, rest_ascends, pass, looked_up}
 use Rattle.mp_merge.proofs.comparing.+compatible.Goals as goal
 
 pub compatible-returns-in-Members-q : goal.compatible-returns-in-Members-q

@@ -1,8 +1,8 @@
 use Rattle.std.proofs.Common.{string_cmp}
 use Rattle.std.specs.List.Sorted.{IsStrictlySortedBy}
 use Rattle.std.specs.Map.{keys_of}
-use Rattle.mp_tree.specs.View.{members}
-use Rattle.mp_merge.proofs.ClashesByName.{SameClashes}
+use Rattle.mp_tree.specs.Private.Entries.{members}
+use Rattle.mp_merge.proofs.Clashes.ByName.{SameClashes}
 use Rattle.mp_merge.proofs.comparing.+compatible.Given as goal
 
 -- the clashes with the changes that are left are those with all

@@ -1,14 +1,15 @@
 use Rattle.std.proofs.Common.{◌≡◌, [], ◌∷◌, ◌++◌, Some, None, String, Global, string_bytes, refl, sym, ap, ap₂, ◌∙◌, subst}
 use Rattle.mp_tree.specs.Document.{object, no_members, find}
 use Rattle.mp_tree.specs.Look.{Path}
-use Rattle.mp_tree.specs.View.{document, members}
+use Rattle.mp_tree.specs.View.{document}
+use Rattle.mp_tree.specs.Private.Entries.{members}
 use Rattle.mp_tree.specs.declared.doc.Doc.{Doc}
 use Rattle.mp_tree.proofs.Facts.{document-Members}
-use Rattle.mp_merge.specs.ClashWalk.{WalksClashes, WalksMembers}
-use Rattle.mp_merge.specs.Walks.{Grew}
-use Rattle.mp_merge.proofs.Clashes.{IsClashesRest, clashes_after_one, back_again}
-use Rattle.mp_merge.proofs.Grown.{grew_by_all, grew_by_none}
-use Rattle.mp_merge.proofs.WalkLemmas.{next_member, rest_ascends, looked_up}
+use Rattle.mp_merge.specs.Private.Clashes.{WalksClashes, WalksMembers}
+use Rattle.mp_merge.specs.Private.Growth.{Grew}
+use Rattle.mp_merge.proofs.Clashes.Conflicts.{IsClashesRest, clashes_after_one, back_again}
+use Rattle.mp_merge.proofs.Collections.Growth.{grew_by_all, grew_by_none}
+use Rattle.mp_merge.proofs.Collections.Members.{next_member, rest_ascends, looked_up}
 use Rattle.mp_merge.proofs.comparing.+push_clashes.Goals as goal
 
 pub push_clashes-returns-in-Members-q-clause-places : goal.push_clashes-returns-in-Members-q-clause-places

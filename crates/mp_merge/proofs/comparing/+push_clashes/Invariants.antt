@@ -1,9 +1,9 @@
 use Rattle.std.proofs.Common.{◌≡◌, string_cmp}
 use Rattle.std.specs.List.Sorted.{IsStrictlySortedBy}
 use Rattle.std.specs.Map.{keys_of}
-use Rattle.mp_tree.specs.View.{members}
-use Rattle.mp_merge.specs.ClashWalk.{WalksMembers}
-use Rattle.mp_merge.proofs.Grown.{IsRestOf}
+use Rattle.mp_tree.specs.Private.Entries.{members}
+use Rattle.mp_merge.specs.Private.Clashes.{WalksMembers}
+use Rattle.mp_merge.proofs.Collections.Growth.{IsRestOf}
 use Rattle.mp_merge.proofs.comparing.+push_clashes.Given as goal
 
 -- the clashes with the changes that are left, added to those that are there, are the clashes with all

@@ -2,9 +2,9 @@ use Rattle.std.proofs.Common.{◌≡◌, ◌++◌, List, Some, sym, ap, ◌∙�
 use Rattle.mp_tree.specs.Look.{Path}
 use Rattle.mp_tree.specs.View.{document}
 use Rattle.mp_merge.specs.Clash.{AreAllClashes}
-use Rattle.mp_merge.specs.ClashWalk.{WalksClashes}
+use Rattle.mp_merge.specs.Private.Clashes.{WalksClashes}
 use Rattle.mp_tree.proofs.Facts.{IsDocument-document}
-use Rattle.mp_merge.proofs.Clashes.{walk_finds_all}
+use Rattle.mp_merge.proofs.Clashes.Conflicts.{walk_finds_all}
 use Rattle.mp_merge.proofs.comparing.conflict.Goals as goal
 
 pub returns : goal.returns

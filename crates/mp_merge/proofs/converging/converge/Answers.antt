@@ -11,12 +11,13 @@ use Rattle.mp_patch.specs.Operation.{Operation}
 use Rattle.mp_patch.specs.Run.{IsFaultOf}
 use Rattle.mp_patch.specs.View.{operations_of}
 use Rattle.mp_patch.specs.declared.fault.ApplyFault.{ApplyFault}
-use Rattle.mp_merge.specs.Application.{mp}
-use Rattle.mp_merge.specs.Converging.{AreReplicas}
-use Rattle.mp_merge.specs.Headline.{Converge, LeadsTo, ReachesEnd, ReplicasConverge}
+use Rattle.mp_merge.specs.Application.{merge_patch}
+use Rattle.mp_merge.specs.Replicas.{AreReplicas}
+use Rattle.mp_merge.specs.Convergence.{Converge, LeadsTo, ReachesEnd, ReplicasConverge}
 use Rattle.mp_merge.specs.Join.{IsJoin}
-use Rattle.mp_merge.specs.Laws.{HaveSameMembers, HasOneRewriting}
-use Rattle.mp_merge.specs.Lists.{IsListFault, IsReplayFault}
+use Rattle.mp_merge.specs.Laws.{HasOneRewriting}
+use Rattle.mp_merge.specs.Lists.{HaveSameMembers}
+use Rattle.mp_merge.specs.Lists.{IsJoinAllFault, IsReplayFault}
 use Rattle.mp_merge.specs.Outcome.{IsOutcome}
 use Rattle.mp_merge.specs.Rewriting.{IsRewriting}
 use Rattle.mp_merge.specs.declared.fault.ListFault.{ListFault}
@@ -51,7 +52,7 @@ module _ (docs : DocsAreDocuments) (law : ReplicasConverge) (start : Doc) (here 
   the_end = law first patches (docs start).0 are.some all_documents are.compatible
 
   abbrev end : Document
-  end = mp (Some first) the_end.joined
+  end = merge_patch (Some first) the_end.joined
 
   module _ (received : List Doc) (same : HaveSameMembers patches (map document received)) where
     abbrev reached : ReachesEnd first the_end.joined end (map document received)
@@ -60,13 +61,13 @@ module _ (docs : DocsAreDocuments) (law : ReplicasConverge) (start : Doc) (here 
     replay_taken : (r : Result Doc ListFault) → MatchResult r (λ e. IsOutcome first (map document received) (document e)) (λ fault. IsReplayFault fault (map document received)) → IfErr r (λ fault. fault ≡ OutOfMemory)
     replay_taken r says = only_memory r _ _ reached.replays says
 
-    join_taken : (r : Result Doc ListFault) → MatchResult r (λ j. IsJoin (map document received) (document j)) (λ fault. IsListFault fault (map document received)) → IfErr r (λ fault. fault ≡ OutOfMemory)
+    join_taken : (r : Result Doc ListFault) → MatchResult r (λ j. IsJoin (map document received) (document j)) (λ fault. IsJoinAllFault fault (map document received)) → IfErr r (λ fault. fault ≡ OutOfMemory)
     join_taken r says = only_memory r _ _ reached.joins says
 
     replay_is : (r : Result Doc ListFault) (d : Doc) → r ≡ Ok d → MatchResult r (λ e. IsOutcome first (map document received) (document e)) (λ fault. IsReplayFault fault (map document received)) → document d ≡ end
     replay_is r d is says = reached.one_outcome (document d) (docs d).0 (when_ok r d _ _ is says)
 
-    join_is : (r : Result Doc ListFault) (d : Doc) → r ≡ Ok d → MatchResult r (λ j. IsJoin (map document received) (document j)) (λ fault. IsListFault fault (map document received)) → document d ≡ the_end.joined
+    join_is : (r : Result Doc ListFault) (d : Doc) → r ≡ Ok d → MatchResult r (λ j. IsJoin (map document received) (document j)) (λ fault. IsJoinAllFault fault (map document received)) → document d ≡ the_end.joined
     join_is r d is says = reached.one_join (document d) (docs d).0 (when_ok r d _ _ is says)
 
   leads : HasOneRewriting → (joined : Doc) → document joined ≡ the_end.joined → (operations : List Operation) → IsRewriting first (document joined) operations → LeadsTo first end operations
@@ -134,7 +135,7 @@ returns-clause-merged c are =
     let there = c.args.there.now in
     let one = replay_is c.docs_are_documents.ensures c.replicas_converge.ensures.replicas start here there are here (same_members (map document here)) c.replay.result c.in_ok-replayed_here.replayed_here c.in_ok-replayed_here.ensures.ok c.replay.ensures.outcome in
     let joined = join_is c.docs_are_documents.ensures c.replicas_converge.ensures.replicas start here there are here (same_members (map document here)) c.join_all.result c.in_ok-joined_here.joined_here c.in_ok-joined_here.ensures.ok c.join_all.ensures.joined in
-    c.in_ok-merged.ensures.merged ∙ ap (mp (Some (document start))) joined ∙ sym one
+    c.in_ok-merged.ensures.merged ∙ ap (merge_patch (Some (document start))) joined ∙ sym one
 
 pub returns-clause-patched : goal.returns-clause-patched
 returns-clause-patched c are =

@@ -3,14 +3,15 @@ use Rattle.std.proofs.lemmas.Result.{on_ok_weaker, on_err_weaker, err_from_is_er
 use Rattle.std.specs.List.Sorted.{IsStrictlySortedBy}
 use Rattle.std.specs.Map.{keys_of}
 use Rattle.mp_tree.specs.Document.{Document, Members, member, null, object, find, put, IsMap}
-use Rattle.mp_tree.specs.View.{document, members}
+use Rattle.mp_tree.specs.View.{document}
+use Rattle.mp_tree.specs.Private.Entries.{members}
 use Rattle.mp_tree.specs.declared.doc.Doc.{Doc}
 use Rattle.mp_tree.proofs.Facts.{IsMap-members, IsDocument-document, members-cons, find-members, members-inserted, members-removed, document-Members, document-Null}
-use Rattle.mp_merge.specs.Application.{changed, mp, mp_members, target_members}
-use Rattle.mp_merge.specs.MergeWalk.{NeedsNoneAt, NeedsNoneIn, ResumesAt}
+use Rattle.mp_merge.specs.Application.{set_or_remove, merge_patch, merge_patch_members, target_members}
+use Rattle.mp_merge.specs.Private.Merging.{NeedsNoneAt, NeedsNoneIn, ResumesAt}
 use Rattle.mp_merge.specs.Resumption.{NeedsNoMemory}
-use Rattle.mp_merge.proofs.ApplicationLemmas.{mp_members-step, changed-other}
-use Rattle.mp_merge.proofs.InPlace.{IsAmong, IsUntouched, absent_needs, changed_resumes, first_among, first_untouched, merges_into_null, needs_in, present_needs, rest_among, rest_untouched, resumes_all, set_resumes}
+use Rattle.mp_merge.proofs.Application.ByName.{merge_patch_members-step, set_or_remove-other}
+use Rattle.mp_merge.proofs.Application.Resumption.{IsAmong, IsUntouched, absent_needs, changed_resumes, first_among, first_untouched, merges_into_null, needs_in, present_needs, rest_among, rest_untouched, resumes_all, set_resumes}
 use Rattle.mp_merge.proofs.in_place.+merge_at.Goals as goal
 
 -- ---- an object into a target
@@ -27,7 +28,7 @@ merge_at-returns-in-Some-clause-merged t c =
     let patch : document c.args.patch.now ≡ object (members changes.entries) = ap document c.in-Members.is ∙ document-Members changes in
     let stood : members entries.entries ≡ target_members (Some old) = same_entries old c.make_object.new.target (members entries.entries) c.make_object.ensures (ap document c.in-Some.ensures.value ∙ document-Members entries) in
     on_ok_weaker c.merge_members.result
-    (λ is. document-Members c.merge_members.new.entries ∙ ap object (is ∙ ap (λ ts. mp_members ts (members changes.entries)) stood) ∙ ap (mp (Some old)) (sym patch))
+    (λ is. document-Members c.merge_members.new.entries ∙ ap object (is ∙ ap (λ ts. merge_patch_members ts (members changes.entries)) stood) ∙ ap (merge_patch (Some old)) (sym patch))
     c.merge_members.ensures.merged
 
 pub merge_at-returns-in-Some-clause-resumes : goal.merge_at-returns-in-Some-clause-resumes
@@ -40,8 +41,8 @@ merge_at-returns-in-Some-clause-resumes t c =
     let stood : members entries.entries ≡ target_members (Some old) = same_entries old c.make_object.new.target (members entries.entries) c.make_object.ensures (ap document c.in-Some.ensures.value ∙ document-Members entries) in
     on_err_weaker c.merge_members.result
     (λ is.
-    ap (λ d. mp (Some d) (document c.args.patch.now)) (document-Members now) ∙ ap (mp (Some (object (members now.entries)))) patch
-    ∙ ap object (is ∙ ap (λ ts. mp_members ts (members changes.entries)) stood) ∙ ap (mp (Some old)) (sym patch))
+    ap (λ d. merge_patch (Some d) (document c.args.patch.now)) (document-Members now) ∙ ap (merge_patch (Some (object (members now.entries)))) patch
+    ∙ ap object (is ∙ ap (λ ts. merge_patch_members ts (members changes.entries)) stood) ∙ ap (merge_patch (Some old)) (sym patch))
     c.merge_members.ensures.resumes
 
 pub merge_at-returns-in-Some-clause-no_memory : goal.merge_at-returns-in-Some-clause-no_memory
@@ -62,7 +63,7 @@ merge_entry-returns-then-is_null-clause-merged t c =
     let old = c.args.entries.now in
     let ts = members old.entries in
     let is : document c.args.change.now ≡ null = c.is_null.ensures.0 c.if-is_null.true in
-    members-removed n old c.remove.new.self c.remove.ensures.updates ∙ ap (λ p. changed n p (mp (find n ts) p) ts) (sym is)
+    members-removed n old c.remove.new.self c.remove.ensures.updates ∙ ap (λ p. set_or_remove n p (merge_patch (find n ts) p) ts) (sym is)
 
 pub merge_entry-returns-in-Some-clause-merged : goal.merge_entry-returns-in-Some-clause-merged
 merge_entry-returns-in-Some-clause-merged t c =
@@ -75,8 +76,8 @@ merge_entry-returns-in-Some-clause-merged t c =
     let other : p ≡ null → ⊥ = λ e. true≢false (sym (c.is_null.ensures.1 e) ∙ c.if-is_null.false) in
     on_ok_weaker c.merge_at.result
     (λ is.
-    members-inserted n old (c.get_mut.follows.lender w) w ((c.get_mut.follows.holds w).3 (search rules)) ∙ ap (λ x. put n x ts) (is ∙ ap (λ o. mp o p) (sym stood))
-    ∙ sym (changed-other n p (mp (find n ts) p) ts other))
+    members-inserted n old (c.get_mut.follows.lender w) w ((c.get_mut.follows.holds w).3 (search rules)) ∙ ap (λ x. put n x ts) (is ∙ ap (λ o. merge_patch o p) (sym stood))
+    ∙ sym (set_or_remove-other n p (merge_patch (find n ts) p) ts other))
     c.merge_at.ensures.merged
 
 pub merge_entry-returns-in-Some-clause-resumes : goal.merge_entry-returns-in-Some-clause-resumes
@@ -88,7 +89,7 @@ merge_entry-returns-in-Some-clause-resumes t c =
     let w = c.merge_at.new.target in
     let stood : find n ts ≡ Some (document c.in-Some.value.now) = find-members n old.entries ∙ ap (option_map document) (sym c.in-Some.ensures.value) in
     let set = members-inserted n old (c.get_mut.follows.lender w) w ((c.get_mut.follows.holds w).3 (search rules)) in
-    on_err_weaker c.merge_at.result (λ again. set_resumes n p (document w) ts (members (c.get_mut.follows.lender w).entries) set (again ∙ ap (λ o. mp o p) (sym stood))) c.merge_at.ensures.resumes
+    on_err_weaker c.merge_at.result (λ again. set_resumes n p (document w) ts (members (c.get_mut.follows.lender w).entries) set (again ∙ ap (λ o. merge_patch o p) (sym stood))) c.merge_at.ensures.resumes
 
 pub merge_entry-returns-in-Some-clause-no_memory : goal.merge_entry-returns-in-Some-clause-no_memory
 merge_entry-returns-in-Some-clause-no_memory t c needs =
@@ -130,12 +131,12 @@ merge_entry-returns-in_ok-insert-in-None-clause-merged t c =
     let name = string_bytes c.in_ok-from_str-in-None.field-0 in
     let named : name ≡ n = c.in_ok-from_str-in-None.ensures.ok in
     let stood : find n ts ≡ None = find-members n old.entries ∙ ap (option_map document) (sym c.in-None.ensures.value) in
-    let is : document d ≡ mp (find n ts) p = c.in_ok-merge_at-in-None.ensures.merged ∙ ap (λ v. mp (Some v) p) document-Null ∙ merges_into_null p ∙ ap (λ o. mp o p) (sym stood) in
+    let is : document d ≡ merge_patch (find n ts) p = c.in_ok-merge_at-in-None.ensures.merged ∙ ap (λ v. merge_patch (Some v) p) document-Null ∙ merges_into_null p ∙ ap (λ o. merge_patch o p) (sym stood) in
     let other : p ≡ null → ⊥ = λ e. true≢false (sym (c.is_null.ensures.1 e) ∙ c.if-is_null.false) in
     let kept = c.get_mut.follows.lender-at-none in
     let same = ap (λ m. members m.entries) c.get_mut.follows.holds-at-none in
     members-inserted name kept c.insert.new.self d c.in_ok-insert-in-None.ensures.updates ∙ ap (λ k. put k (document d) (members kept.entries)) named ∙ ap (put n (document d)) same ∙ ap (λ x. put n x ts) is
-    ∙ sym (changed-other n p (mp (find n ts) p) ts other)
+    ∙ sym (set_or_remove-other n p (merge_patch (find n ts) p) ts other)
 
 -- ---- name by name
 
@@ -155,13 +156,13 @@ merge_members-loop-name-preserved t c =
     let first = members-cons e c.next.new.self ascending in
     let is : members l.name-iterator ≡ member n p left = ap members c.in-Some.ensures.steps ∙ first in
     let good : IsMap (member n p left) = subst IsMap first (IsMap-members (e ∷ c.next.new.self)) in
-    let made : members now.entries ≡ changed n p (mp (find n ts) p) ts = c.in_ok-merge_entry.ensures.merged ∙ ap (λ k. changed k p (mp (find k ts) p) ts) c.as_str.ensures.value in
+    let made : members now.entries ≡ set_or_remove n p (merge_patch (find n ts) p) ts = c.in_ok-merge_entry.ensures.merged ∙ ap (λ k. set_or_remove k p (merge_patch (find k ts) p) ts) c.as_str.ensures.value in
     let resumes : ResumesAt n p ts (members now.entries) = subst (λ ms. ResumesAt n p ts ms) (sym made) (changed_resumes n p ts (IsMap-members l.entries.entries) (IsDocument-document e.1)) in
     let among : IsAmong (member n p left) all = subst (λ ms. IsAmong ms all) is l.invariant.among in
     let untouched : IsUntouched (member n p left) before ts = subst (λ ms. IsUntouched ms before ts) is l.invariant.untouched in
     record {
       ascends = ascending.1;
-      result = ap (λ ms. mp_members ms left) made ∙ sym (mp_members-step ts n p left (IsMap-members l.entries.entries) good) ∙ ap (mp_members ts) (sym is) ∙ l.invariant.result;
+      result = ap (λ ms. merge_patch_members ms left) made ∙ sym (merge_patch_members-step ts n p left (IsMap-members l.entries.entries) good) ∙ ap (merge_patch_members ts) (sym is) ∙ l.invariant.result;
       again = resumes_all ts (members now.entries) all n p (IsMap-members l.entries.entries) (IsMap-members now.entries) (IsMap-members c.args.changes.now.entries) (first_among n p left all among) resumes ∙ l.invariant.again;
       among = rest_among n p left all good.1 among;
       untouched = rest_untouched n p left before ts (members now.entries) good.1 untouched resumes;

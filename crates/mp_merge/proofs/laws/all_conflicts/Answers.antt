@@ -1,4 +1,4 @@
-use Rattle.mp_merge.proofs.Clashes.{clashes_exist, empty_if_compatible, one_list}
+use Rattle.mp_merge.proofs.Clashes.Conflicts.{clashes_exist, empty_if_compatible, one_list}
 use Rattle.mp_merge.proofs.laws.all_conflicts.Goals as goal
 
 pub returns-clause-exist : goal.returns-clause-exist

@@ -1,4 +1,4 @@
-use Rattle.mp_merge.proofs.Outcomes.{application_is_outcome}
+use Rattle.mp_merge.proofs.Outcome.{application_is_outcome}
 use Rattle.mp_merge.proofs.laws.application_is_outcome.Goals as goal
 
 pub returns : goal.returns

@@ -1,4 +1,4 @@
-use Rattle.mp_merge.proofs.InTurn.{applied_in_turn}
+use Rattle.mp_merge.proofs.Application.InTurn.{applied_in_turn}
 use Rattle.mp_merge.proofs.laws.applied_in_turn.Goals as goal
 
 pub returns : goal.returns

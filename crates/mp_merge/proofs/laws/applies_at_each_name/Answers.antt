@@ -1,4 +1,4 @@
-use Rattle.mp_merge.proofs.ApplicationLemmas.{applies_at_each_name, others_replace}
+use Rattle.mp_merge.proofs.Application.ByName.{applies_at_each_name, others_replace}
 use Rattle.mp_merge.proofs.laws.applies_at_each_name.Goals as goal
 
 pub returns-clause-objects : goal.returns-clause-objects

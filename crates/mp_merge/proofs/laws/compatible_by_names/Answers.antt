@@ -1,4 +1,4 @@
-use Rattle.mp_merge.proofs.ByNames.{compatible_by_names, compatible_if_equal}
+use Rattle.mp_merge.proofs.Joins.ByName.{compatible_by_names, compatible_if_equal}
 use Rattle.mp_merge.proofs.laws.compatible_by_names.Goals as goal
 
 pub returns-clause-objects : goal.returns-clause-objects

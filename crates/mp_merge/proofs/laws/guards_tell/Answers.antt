@@ -1,4 +1,4 @@
-use Rattle.mp_merge.proofs.Guards.{guarded_list, refused_guard_tells}
+use Rattle.mp_merge.proofs.Rewritings.Guards.{guarded_list, refused_guard_tells}
 use Rattle.mp_merge.proofs.laws.guards_tell.Goals as goal
 
 pub returns-clause-passed : goal.returns-clause-passed

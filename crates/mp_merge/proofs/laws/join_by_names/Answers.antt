@@ -1,4 +1,4 @@
-use Rattle.mp_merge.proofs.ByNames.{join_by_names, join_of_equal}
+use Rattle.mp_merge.proofs.Joins.ByName.{join_by_names, join_of_equal}
 use Rattle.mp_merge.proofs.laws.join_by_names.Goals as goal
 
 pub returns-clause-objects : goal.returns-clause-objects

@@ -1,4 +1,4 @@
-use Rattle.mp_merge.proofs.Outcomes.{join_gives_outcome}
+use Rattle.mp_merge.proofs.Outcome.{join_gives_outcome}
 use Rattle.mp_merge.proofs.laws.join_gives_outcome.Goals as goal
 
 pub returns : goal.returns

@@ -1,4 +1,4 @@
-use Rattle.mp_merge.proofs.Joins.{join_grows}
+use Rattle.mp_merge.proofs.Joins.Laws.{join_grows}
 use Rattle.mp_merge.proofs.laws.join_grows.Goals as goal
 
 pub returns : goal.returns

@@ -1,4 +1,4 @@
-use Rattle.mp_merge.proofs.InPlace.{applied_once, merges_into_null, tries_resume}
+use Rattle.mp_merge.proofs.Application.Resumption.{applied_once, merges_into_null, tries_resume}
 use Rattle.mp_merge.proofs.laws.merging_again.Goals as goal
 
 pub returns-clause-into_null : goal.returns-clause-into_null

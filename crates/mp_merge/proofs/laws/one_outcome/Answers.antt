@@ -1,4 +1,4 @@
-use Rattle.mp_merge.proofs.Outcomes.{one_outcome}
+use Rattle.mp_merge.proofs.Outcome.{one_outcome}
 use Rattle.mp_merge.proofs.laws.one_outcome.Goals as goal
 
 pub returns : goal.returns

@@ -1,5 +1,5 @@
-use Rattle.mp_merge.proofs.Headline.{replicas_converge}
-use Rattle.mp_merge.proofs.Joins.{join_is_associative, join_is_commutative, join_is_idempotent, pair_has_join}
+use Rattle.mp_merge.proofs.Convergence.{replicas_converge}
+use Rattle.mp_merge.proofs.Joins.Laws.{join_is_associative, join_is_commutative, join_is_idempotent, pair_has_join}
 use Rattle.mp_merge.proofs.laws.replicas_converge.Goals as goal
 
 pub returns-clause-replicas : goal.returns-clause-replicas

@@ -1,4 +1,4 @@
-use Rattle.mp_merge.proofs.AnyOrder.{rewriting_runs}
+use Rattle.mp_merge.proofs.Rewritings.AnyOrder.{rewriting_runs}
 use Rattle.mp_merge.proofs.laws.rewriting_runs.Goals as goal
 
 pub returns : goal.returns

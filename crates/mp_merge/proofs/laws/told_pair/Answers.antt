@@ -1,4 +1,4 @@
-use Rattle.mp_merge.proofs.ToldPairs.{compatible_have_none, compatible_or_told, one_told_pair}
+use Rattle.mp_merge.proofs.Clashes.ToldPair.{compatible_have_none, compatible_or_told, one_told_pair}
 use Rattle.mp_merge.proofs.laws.told_pair.Goals as goal
 
 pub returns-clause-exists : goal.returns-clause-exists

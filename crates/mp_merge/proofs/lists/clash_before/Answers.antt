@@ -1,7 +1,7 @@
 use Rattle.std.proofs.Common.{◌≡◌, map, Some, slice_get, subst, arith}
 use Rattle.mp_tree.specs.View.{document}
 use Rattle.mp_merge.specs.Clash.{Compatible}
-use Rattle.mp_merge.proofs.Numbered.{at_number, same_at, below_more}
+use Rattle.mp_merge.proofs.Joins.Numbered.{at_number, same_at, below_more}
 use Rattle.mp_merge.proofs.lists.clash_before.Goals as goal
 
 pub loop-first-preserved : goal.loop-first-preserved

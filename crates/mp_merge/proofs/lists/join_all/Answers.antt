@@ -3,8 +3,8 @@ use Rattle.std.proofs.lemmas.List.{length-map, take_all}
 use Rattle.mp_tree.specs.View.{document}
 use Rattle.mp_tree.proofs.Facts.{IsDocument-document}
 use Rattle.mp_merge.specs.Join.{IsJoin}
-use Rattle.mp_merge.proofs.Joins.{join_is_no_deeper}
-use Rattle.mp_merge.proofs.Numbered.{are_documents}
+use Rattle.mp_merge.proofs.Joins.Laws.{join_is_no_deeper}
+use Rattle.mp_merge.proofs.Joins.Numbered.{are_documents}
 use Rattle.mp_merge.proofs.lists.join_all.Goals as goal
 
 pub returns-clause-depth : goal.returns-clause-depth

@@ -2,7 +2,7 @@ use Rattle.std.proofs.Common.{map, sym, subst, arith}
 use Rattle.mp_tree.specs.View.{document}
 use Rattle.mp_tree.proofs.Facts.{IsDocument-document}
 use Rattle.mp_merge.specs.Outcome.{IsOutcome}
-use Rattle.mp_merge.proofs.Outcomes.{join_gives_outcome}
+use Rattle.mp_merge.proofs.Outcome.{join_gives_outcome}
 use Rattle.mp_merge.proofs.lists.replay_owned.Goals as goal
 
 pub returns-clause-outcome : goal.returns-clause-outcome

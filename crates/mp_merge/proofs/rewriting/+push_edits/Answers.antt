@@ -1,14 +1,16 @@
 use Rattle.std.proofs.Common.{◌≡◌, [], Some, option_map, String, Global, string_bytes, sym, ap, ◌∙◌, subst, refl, Bor}
 use Rattle.std.specs.Option.{option_copied}
 use Rattle.mp_tree.specs.Document.{object, no_members, find}
-use Rattle.mp_tree.specs.View.{document, members}
+use Rattle.mp_tree.specs.View.{document}
+use Rattle.mp_tree.specs.Private.Entries.{members}
 use Rattle.mp_tree.specs.declared.doc.Doc.{Doc}
 use Rattle.mp_tree.proofs.Facts.{document-Members}
-use Rattle.mp_merge.specs.EditWalk.{AreMemberEdits, all_guarded}
-use Rattle.mp_merge.proofs.Clashes.{back_again}
-use Rattle.mp_merge.proofs.EditWalks.{both_maps, IsEditsRest, edits_after_one, lent_part, renamed}
-use Rattle.mp_merge.proofs.Grown.{grew_by_all}
-use Rattle.mp_merge.proofs.WalkLemmas.{next_member, rest_ascends, looked_up}
+use Rattle.mp_merge.specs.Private.Edits.{AreMemberEdits, all_edits}
+use Rattle.mp_pointer.proofs.Facts.{lent_part}
+use Rattle.mp_merge.proofs.Clashes.Conflicts.{back_again}
+use Rattle.mp_merge.proofs.Rewritings.Walk.{both_maps, IsEditsRest, edits_after_one, renamed}
+use Rattle.mp_merge.proofs.Collections.Growth.{grew_by_all}
+use Rattle.mp_merge.proofs.Collections.Members.{next_member, rest_ascends, looked_up}
 use Rattle.mp_merge.proofs.rewriting.+push_edits.Goals as goal
 
 pub push_edits-returns-in_ok-push_member_edits-in-Members-there-clause-path : goal.push_edits-returns-in_ok-push_member_edits-in-Members-there-clause-path
@@ -31,9 +33,9 @@ push_member_edits-loop-name-preserved t c =
     let n = string_bytes e.0 in
     let s = c.args.path.now in
     let entries = c.args.entries.now.entries in
-    let before = all_guarded c.args.edits.now.items in
-    let now = all_guarded l.edits.items in
-    let later = all_guarded c.push_edits.new.edits.items in
+    let before = all_edits c.args.edits.now.items in
+    let now = all_edits l.edits.items in
+    let later = all_edits c.push_edits.new.edits.items in
     let all = members c.args.changes.now.entries in
     let first = next_member l.name-iterator left e c.in-Some.ensures.steps l.invariant.ascends in
     let found : find n (members entries) ≡ option_map document (option_copied c.get-value.result) = looked_up c.as_str.result.now n entries (option_copied c.get-value.result) c.as_str.ensures.value c.get-value.ensures.value in
@@ -50,6 +52,6 @@ pub push_member_edits-returns-clause-edits : goal.push_member_edits-returns-clau
 push_member_edits-returns-clause-edits t c =
     let l = c.loop-name in
     let none : members l.name-iterator ≡ no_members = ap members c.in-None.ensures.steps.0 in
-    grew_by_all (all_guarded c.args.edits.now.items) (all_guarded l.edits.items) (AreMemberEdits c.args.path.now (members l.name-iterator) (members c.args.entries.now.entries))
+    grew_by_all (all_edits c.args.edits.now.items) (all_edits l.edits.items) (AreMemberEdits c.args.path.now (members l.name-iterator) (members c.args.entries.now.entries))
     (AreMemberEdits c.args.path.now (members c.args.changes.now.entries) (members c.args.entries.now.entries)) l.invariant.rest
     (subst (λ ms. AreMemberEdits c.args.path.now ms (members c.args.entries.now.entries) []) (sym none) refl)

@@ -1,9 +1,9 @@
 use Rattle.std.proofs.Common.{◌≡◌, string_cmp}
 use Rattle.std.specs.List.Sorted.{IsStrictlySortedBy}
 use Rattle.std.specs.Map.{keys_of}
-use Rattle.mp_tree.specs.View.{members}
-use Rattle.mp_merge.specs.EditWalk.{all_guarded}
-use Rattle.mp_merge.proofs.EditWalks.{IsEditsRest}
+use Rattle.mp_tree.specs.Private.Entries.{members}
+use Rattle.mp_merge.specs.Private.Edits.{all_edits}
+use Rattle.mp_merge.proofs.Rewritings.Walk.{IsEditsRest}
 use Rattle.mp_merge.proofs.rewriting.+push_edits.Given as goal
 
 -- the edits of the changes that are left, added to those that are there, are the edits of all
@@ -11,5 +11,5 @@ abbrev pub invariant-push_member_edits-loop-name : goal.invariant-push_member_ed
 invariant-push_member_edits-loop-name l = record {
   ascends : IsStrictlySortedBy string_cmp (keys_of l.name-iterator);
   path : l.path ≡ l.initial.path;
-  rest : IsEditsRest (all_guarded l.initial.edits.items) (all_guarded l.edits.items) l.initial.path (members l.changes.entries) (members l.name-iterator) (members l.entries.entries);
+  rest : IsEditsRest (all_edits l.initial.edits.items) (all_edits l.edits.items) l.initial.path (members l.changes.entries) (members l.name-iterator) (members l.entries.entries);
 }

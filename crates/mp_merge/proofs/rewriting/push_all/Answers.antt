@@ -1,9 +1,10 @@
 use Rattle.std.proofs.Common.{◌≡◌, Some, ap, ◌∙◌}
 use Rattle.std.proofs.lemmas.Result.{on_ok_weaker}
 use Rattle.mp_tree.specs.Document.{object}
-use Rattle.mp_tree.specs.View.{document, members}
+use Rattle.mp_tree.specs.View.{document}
+use Rattle.mp_tree.specs.Private.Entries.{members}
 use Rattle.mp_tree.proofs.Facts.{document-Members}
-use Rattle.mp_merge.proofs.EditWalks.{both_maps}
+use Rattle.mp_merge.proofs.Rewritings.Walk.{both_maps}
 use Rattle.mp_merge.proofs.rewriting.push_all.Goals as goal
 
 pub returns-in-Members-doc : goal.returns-in-Members-doc

@@ -1,7 +1,8 @@
 use Rattle.std.proofs.Common.{ap, ◌∙◌}
-use Rattle.mp_tree.specs.View.{document, members}
+use Rattle.mp_tree.specs.View.{document}
+use Rattle.mp_tree.specs.Private.Entries.{members}
 use Rattle.mp_tree.proofs.Facts.{document-Members}
-use Rattle.mp_patch.proofs.FormLemmas.{form_of_map}
+use Rattle.mp_patch.proofs.Forms.{form_of_map}
 use Rattle.mp_patch.proofs.reading.read_op.Goals as goal
 
 pub returns-in-Members : goal.returns-in-Members

@@ -1,6 +1,7 @@
 use Rattle.std.proofs.Common.{◌≡◌, None, Some, option_map, option_and_then, inl, inr, ap, sym, ◌∙◌}
 use Rattle.mp_tree.specs.Document.{find}
-use Rattle.mp_tree.specs.View.{document, members}
+use Rattle.mp_tree.specs.View.{document}
+use Rattle.mp_tree.specs.Private.Entries.{members}
 use Rattle.mp_tree.proofs.Facts.{find-members, document-Null, document-Flag, document-Whole, document-Text, document-Items, document-Members}
 use Rattle.mp_patch.specs.Form.{text_of}
 use Rattle.mp_patch.proofs.reading.text_at.Goals as goal

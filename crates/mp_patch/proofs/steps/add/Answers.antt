@@ -4,8 +4,8 @@ use Rattle.std.specs.Option.{option_copied}
 use Rattle.mp_tree.specs.View.{document}
 use Rattle.mp_tree.specs.declared.doc.Doc.{Doc}
 use Rattle.mp_patch.specs.Refusal.{LacksPlace}
-use Rattle.mp_patch.specs.Steps.{Inserts}
-use Rattle.mp_patch.proofs.StepLemmas.{to_last, at_ends, added}
+use Rattle.mp_patch.specs.Private.Steps.{Inserts}
+use Rattle.mp_patch.proofs.SingleSteps.{to_last, at_ends, added}
 use Rattle.mp_patch.proofs.steps.add.Goals as goal
 
 pub returns-in-Some : goal.returns-in-Some

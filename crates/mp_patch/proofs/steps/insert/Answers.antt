@@ -1,12 +1,13 @@
 use Rattle.std.proofs.Common.{◌≡◌, Some, IsTrue, string_bytes, sym, subst, ap, ◌∙◌}
 use Rattle.mp_tree.specs.Document.{put}
-use Rattle.mp_tree.specs.View.{document, members}
+use Rattle.mp_tree.specs.View.{document}
+use Rattle.mp_tree.specs.Private.Entries.{members}
 use Rattle.mp_tree.specs.declared.doc.Doc
 use Rattle.mp_tree.specs.declared.doc.Doc.{Doc}
 use Rattle.mp_tree.proofs.Facts.{members-inserted}
 use Rattle.mp_patch.specs.Operation.{AddsTo}
 use Rattle.mp_patch.specs.Refusal.{LacksPlace}
-use Rattle.mp_patch.proofs.StepLemmas.{value_inserted}
+use Rattle.mp_patch.proofs.SingleSteps.{value_inserted}
 use Rattle.mp_patch.proofs.steps.insert.Goals as goal
 
 pub returns-in_ok-insert : goal.returns-in_ok-insert

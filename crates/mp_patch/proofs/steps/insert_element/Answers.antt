@@ -1,5 +1,5 @@
 use Rattle.std.proofs.Common.{◌≡◌, ◌≤◌, length, arith}
-use Rattle.mp_patch.proofs.StepLemmas.{element_inserted, element_place, no_element_place, in_list}
+use Rattle.mp_patch.proofs.SingleSteps.{element_inserted, element_place, no_element_place, in_list}
 use Rattle.mp_patch.proofs.steps.insert_element.Goals as goal
 
 pub returns-in_default : goal.returns-in_default
@@ -10,14 +10,14 @@ returns-in_default c =
 pub returns-then-not-fits : goal.returns-then-not-fits
 returns-then-not-fits c =
     let docs = c.args.elements.now in
-    let i = c.in-Some.place in
+    let i = c.in-Some.index in
     let long : c.len.result ≡ length docs.items = omega (arith, docs.ok.0) in
     (element_place c.args.token.now i docs (in_list c.args.token.now i c.len.result (length docs.items) long c.in-Some.ensures.1) (omega (arith, c.in-Some.ensures.0)), c.if-not-fits.true)
 
 pub returns : goal.returns
 returns c =
     let docs = c.args.elements.now in
-    let i = c.in-Some.place in
+    let i = c.in-Some.index in
     let long : c.len.result ≡ length docs.items = omega (arith, docs.ok.0) in
     let named = in_list c.args.token.now i c.len.result (length docs.items) long c.in-Some.ensures.1 in
     let within : i ≤ length docs.items = omega (arith, c.in-Some.ensures.0) in

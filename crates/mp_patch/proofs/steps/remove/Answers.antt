@@ -5,8 +5,8 @@ use Rattle.mp_tree.specs.View.{document}
 use Rattle.mp_tree.specs.declared.doc.Doc.{Doc}
 use Rattle.mp_pointer.specs.Part.{child}
 use Rattle.mp_patch.specs.Operation.{RemovesFrom}
-use Rattle.mp_patch.specs.Steps.{Takes}
-use Rattle.mp_patch.proofs.StepLemmas.{to_last, at_ends, removed, nothing_there}
+use Rattle.mp_patch.specs.Private.Steps.{Takes}
+use Rattle.mp_patch.proofs.SingleSteps.{to_last, at_ends, removed, nothing_there}
 use Rattle.mp_patch.proofs.steps.remove.Goals as goal
 
 pub returns-in_default : goal.returns-in_default

@@ -1,11 +1,11 @@
 use Rattle.std.proofs.Common.{◌≡◌, Some, MatchResult, IsTrue, IsFalse, take, arith, rules, sym, ap, ◌∙◌, subst}
 use Rattle.mp_tree.specs.View.{document}
-use Rattle.mp_pointer.specs.Only.{DifferOnlyAt}
+use Rattle.mp_pointer.specs.Difference.{DifferOnlyAt}
 use Rattle.mp_pointer.specs.Part.{part}
 use Rattle.mp_pointer.specs.Spelling.{Tokens}
 use Rattle.mp_patch.specs.declared.fault.Cause.TheVariants.{TooDeep}
 use Rattle.mp_patch.specs.declared.steps.StepFault.TheVariants.{Refused}
-use Rattle.mp_patch.proofs.StepLemmas.{to_end, replaced, set_means}
+use Rattle.mp_patch.proofs.SingleSteps.{to_end, replaced, set_means}
 use Rattle.mp_patch.proofs.steps.replace.Goals as goal
 
 pub returns-in-Some : goal.returns-in-Some

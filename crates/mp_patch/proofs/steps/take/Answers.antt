@@ -3,9 +3,9 @@ use Rattle.mp_tree.specs.View.{document}
 use Rattle.mp_tree.specs.declared.doc.Doc
 use Rattle.mp_tree.specs.declared.doc.Doc.{Doc}
 use Rattle.mp_tree.proofs.Facts.{find-members, members-removed}
-use Rattle.mp_patch.specs.Steps.{Takes}
+use Rattle.mp_patch.specs.Private.Steps.{Takes}
 use Rattle.mp_pointer.proofs.Facts.{no_child}
-use Rattle.mp_patch.proofs.StepLemmas.{value_removed}
+use Rattle.mp_patch.proofs.SingleSteps.{value_removed}
 use Rattle.mp_patch.proofs.steps.take.Goals as goal
 
 pub returns-in-Some : goal.returns-in-Some

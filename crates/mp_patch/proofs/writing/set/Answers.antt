@@ -1,6 +1,7 @@
 use Rattle.std.proofs.Common.{◌≡◌, string_bytes, ap, ◌∙◌}
 use Rattle.mp_tree.specs.Document.{put}
-use Rattle.mp_tree.specs.View.{document, members}
+use Rattle.mp_tree.specs.View.{document}
+use Rattle.mp_tree.specs.Private.Entries.{members}
 use Rattle.mp_tree.proofs.Facts.{members-inserted}
 use Rattle.mp_patch.proofs.writing.set.Goals as goal
 

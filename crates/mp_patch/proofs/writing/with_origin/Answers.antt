@@ -1,7 +1,7 @@
 use Rattle.std.proofs.Common.{codes, ap, ap₂, ◌∙◌}
 use Rattle.mp_tree.specs.Document.{object, put, string}
 use Rattle.mp_tree.proofs.Facts.{document-Members, document-Text}
-use Rattle.mp_patch.proofs.FormLemmas.{shape_with_origin}
+use Rattle.mp_patch.proofs.Forms.{shape_with_origin}
 use Rattle.mp_patch.proofs.writing.with_origin.Goals as goal
 
 pub returns : goal.returns

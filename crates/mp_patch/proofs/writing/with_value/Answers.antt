@@ -2,7 +2,7 @@ use Rattle.std.proofs.Common.{codes, ap, ◌∙◌}
 use Rattle.mp_tree.specs.Document.{object, put}
 use Rattle.mp_tree.specs.View.{document}
 use Rattle.mp_tree.proofs.Facts.{document-Members}
-use Rattle.mp_patch.proofs.FormLemmas.{shape_with_value}
+use Rattle.mp_patch.proofs.Forms.{shape_with_value}
 use Rattle.mp_patch.proofs.writing.with_value.Goals as goal
 
 pub returns : goal.returns

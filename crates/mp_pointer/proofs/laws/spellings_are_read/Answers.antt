@@ -1,4 +1,4 @@
-use Rattle.mp_pointer.proofs.SpellingLemmas.{reads_spellings}
+use Rattle.mp_pointer.proofs.Spellings.{reads_spellings}
 use Rattle.mp_pointer.proofs.laws.spellings_are_read.Goals as goal
 
 pub returns : goal.returns

@@ -5,7 +5,7 @@ use Rattle.std.specs.Map.{keys_of}
 use Rattle.mp_tree.specs.Document.{object}
 use Rattle.mp_tree.specs.View.{document, members_of}
 use Rattle.mp_tree.specs.declared.doc.Doc.{Doc}
-use Rattle.mp_tree.proofs.BuiltMaps.{seen, ascend_from_seen, seen-same}
+use Rattle.mp_tree.proofs.MapBuilding.{seen, ascend_from_seen, seen-same}
 use Rattle.mp_tree.proofs.Lists.{map-push}
 use Rattle.mp_tree.proofs.Meaning.{document-Members}
 use Rattle.mp_tree.proofs.doc.+copy.Goals as goal

@@ -1,7 +1,7 @@
 use Rattle.std.proofs.Common.{◌≡◌, List, ◌++◌, take, map, String, Global}
 use Rattle.mp_tree.specs.View.{document}
 use Rattle.mp_tree.specs.declared.doc.Doc.{Doc}
-use Rattle.mp_tree.proofs.BuiltMaps.{seen}
+use Rattle.mp_tree.proofs.MapBuilding.{seen}
 use Rattle.mp_tree.proofs.doc.+copy.Given as goal
 
 abbrev pub invariant-copy_items-loop-element : goal.invariant-copy_items-loop-element

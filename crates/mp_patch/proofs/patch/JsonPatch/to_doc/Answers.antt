@@ -3,7 +3,7 @@ use Rattle.mp_tree.specs.Document.{depth, list}
 use Rattle.mp_tree.proofs.Facts.{document-Items}
 use Rattle.mp_patch.specs.Form.{shapes}
 use Rattle.mp_patch.specs.View.{operations_of}
-use Rattle.mp_patch.proofs.FormLemmas.{shapes-depth}
+use Rattle.mp_patch.proofs.Forms.{shapes-depth}
 use Rattle.mp_patch.proofs.patch.JsonPatch.to_doc.Goals as goal
 
 pub returns-clause-document : goal.returns-clause-document

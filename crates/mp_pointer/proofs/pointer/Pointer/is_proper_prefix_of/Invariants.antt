@@ -1,5 +1,5 @@
 use Rattle.std.proofs.Common.{◌≡◌, take}
 use Rattle.mp_pointer.proofs.pointer.Pointer.is_proper_prefix_of.Given as goal
 
-abbrev pub invariant-loop-place : goal.invariant-loop-place
-invariant-loop-place l = take l.place l.fn.self ≡ take l.place l.fn.other
+abbrev pub invariant-loop-number : goal.invariant-loop-number
+invariant-loop-number l = take l.number l.fn.self ≡ take l.number l.fn.other

@@ -1,8 +1,8 @@
-use Rattle.std.proofs.Common.{◌≡◌, ◌≢◌, [], ◌∷◌, Ok, None, length, map, string_bytes, refl, sym, ap, ◌∙◌, subst, arith, eqb-true, eq-eqb, true≢false}
+use Rattle.std.proofs.Common.{◌≡◌, ◌≢◌, [], ◌∷◌, Ok, None, length, refl, sym, ap, ◌∙◌, subst, arith, eqb-true, eq-eqb, true≢false}
 use Rattle.std.proofs.lemmas.List.{nil_from_length}
 use Rattle.std.proofs.lemmas.Str.Pattern.{strip_prefix_char}
 use Rattle.mp_pointer.specs.Spelling.{IsFirstBadTilde, first_bad_tilde, tokens_in}
-use Rattle.mp_pointer.proofs.SpellingLemmas.{first_bad-none, first_bad-back, lacks_slash, tokens_in-spell, tokens_in-no_slash, tokens_in-bad_tilde}
+use Rattle.mp_pointer.proofs.Spellings.{first_bad-none, first_bad-back, lacks_slash, tokens_in-spell, tokens_in-no_slash, tokens_in-bad_tilde}
 use Rattle.mp_pointer.proofs.pointer.Pointer.parse.Goals as goal
 
 pub returns-then-is_empty-clause-tokens : goal.returns-then-is_empty-clause-tokens
@@ -20,8 +20,8 @@ returns-in_default-clause-fault c =
 pub returns-in_default-clause-tokens : goal.returns-in_default-clause-tokens
 returns-in_default-clause-tokens c = λ _. tokens_in-no_slash c.args.text.now (returns-in_default-clause-fault c)
 
-pub tokens_after-requires : goal.tokens_after-requires
-tokens_after-requires c =
+pub pointer_after-requires : goal.pointer_after-requires
+pointer_after-requires c =
     let rest_is = rw c.in-Some.is at (strip_prefix_char 47 c.args.text.now c.strip_prefix.result c.strip_prefix.ensures.cases (omega arith)) in
     let rest = c.in-Some.rest.now in
     let good : first_bad_tilde (47 ∷ rest) ≡ None = ap first_bad_tilde (sym (c.as_bytes.ensures.value ∙ rest_is)) ∙ first_bad-none c.as_bytes.result.now c.in-None.ensures in
@@ -29,17 +29,17 @@ tokens_after-requires c =
 
 pub returns-in-Some-bad_tilde-clause-fault : goal.returns-in-Some-bad_tilde-clause-fault
 returns-in-Some-bad_tilde-clause-fault c =
-    let place = c.in-Some-bad_tilde.place in
+    let offset = c.in-Some-bad_tilde.offset in
     let rest_is = rw c.in-Some.is at (strip_prefix_char 47 c.args.text.now c.strip_prefix.result c.strip_prefix.ensures.cases (omega arith)) in
-    (rw rest_is refl, subst (λ xs. IsFirstBadTilde xs place) c.as_bytes.ensures.value c.in-Some-bad_tilde.ensures)
+    (rw rest_is refl, subst (λ xs. IsFirstBadTilde xs offset) c.as_bytes.ensures.value c.in-Some-bad_tilde.ensures)
 
 pub returns-in-Some-bad_tilde-clause-tokens : goal.returns-in-Some-bad_tilde-clause-tokens
 returns-in-Some-bad_tilde-clause-tokens c = λ _.
-    let place = c.in-Some-bad_tilde.place in
+    let offset = c.in-Some-bad_tilde.offset in
     let rest_is = rw c.in-Some.is at (strip_prefix_char 47 c.args.text.now c.strip_prefix.result c.strip_prefix.ensures.cases (omega arith)) in
-    ap tokens_in rest_is ∙ tokens_in-bad_tilde c.in-Some.rest.now place (subst (λ xs. IsFirstBadTilde xs place) (c.as_bytes.ensures.value ∙ rest_is) c.in-Some-bad_tilde.ensures)
+    ap tokens_in rest_is ∙ tokens_in-bad_tilde c.in-Some.rest.now offset (subst (λ xs. IsFirstBadTilde xs offset) (c.as_bytes.ensures.value ∙ rest_is) c.in-Some-bad_tilde.ensures)
 
-pub returns-in_ok-tokens-in-None-clause-tokens : goal.returns-in_ok-tokens-in-None-clause-tokens
-returns-in_ok-tokens-in-None-clause-tokens c =
+pub returns-in_ok-pointer_after-in-None-clause-tokens : goal.returns-in_ok-pointer_after-in-None-clause-tokens
+returns-in_ok-pointer_after-in-None-clause-tokens c =
     let rest_is = rw c.in-Some.is at (strip_prefix_char 47 c.args.text.now c.strip_prefix.result c.strip_prefix.ensures.cases (omega arith)) in
-    ap tokens_in (rest_is ∙ sym c.in_ok-tokens-in-None.ensures) ∙ tokens_in-spell (map string_bytes c.in_ok-tokens-in-None.tokens.items)
+    ap tokens_in (rest_is ∙ sym c.in_ok-pointer_after-in-None.ensures) ∙ tokens_in-spell c.in_ok-pointer_after-in-None.field-0

@@ -1,0 +1,33 @@
+-- What a replica shows, from the bytes of its start and of its patches.
+use Rattle.std.specs.Prelude.{◌≡◌, ◌≢◌, ℕ, List, Ok, Err, ⊤}
+use Rattle.mp_tree.specs.Document.{Document}
+use Rattle.mp_tree.specs.Text.{document_in, documents_in, text as compact}
+use Rattle.mp_tree.specs.Elements.{items_of}
+use Rattle.mp_tree.specs.declared.reading.DocsFault.TheVariants as docs
+use Rattle.mp_tree.specs.declared.reading.ReadFault.TheVariants as read
+use Rattle.mp_merge.specs.Lists.{IsReplayFault}
+use Rattle.mp_merge.specs.Outcome.{IsOutcome}
+use Rattle.library_example.specs.declared.fault.ShowFault.{ShowFault}
+use Rattle.library_example.specs.declared.fault.ShowFault.TheVariants.{Start, Patches, Replay, OutOfMemory}
+
+-- the documents that the bytes give
+pub record AreRead (start patches : List ℕ) (d : Document) (ps : List Document) : Type 0 where
+  pub first : document_in start ≡ Ok d
+  pub rest : documents_in patches ≡ Ok (items_of ps)
+
+-- the text of the outcome of the start and the patches
+pub record IsShown (start patches shown : List ℕ) : Type 0 where
+  pub d : Document
+  pub ps : List Document
+  pub e : Document
+  pub are : AreRead start patches d ps
+  pub outcome : IsOutcome d ps e
+  pub text : shown ≡ compact e
+
+-- the first fault: of the start, of the patches, or the least pair of them that clash
+abbrev pub IsNotShown : ShowFault → List ℕ → List ℕ → Type 0
+IsNotShown (Start fault) start patches = fault ≢ read.OutOfMemory → document_in start ≡ Err fault
+IsNotShown (Patches fault) start patches = fault ≢ docs.OutOfMemory → documents_in patches ≡ Err fault
+IsNotShown (Replay fault) start patches =
+    (d : Document) × (ps : List Document) × AreRead start patches d ps × IsReplayFault fault ps
+IsNotShown OutOfMemory start patches = ⊤

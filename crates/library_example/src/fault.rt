@@ -1,0 +1,64 @@
+//! Why a replica has nothing to show.
+ghost use Rattle.std.specs.Prelude.{◌≡◌};
+
+use mp_merge::ListFault;
+use mp_tree::{DocsFault, ReadFault};
+use std::alloc::AllocError;
+use thiserror::Error;
+
+/// Why there is nothing to show.
+#[derive(Debug, Drop, Error)]
+pub enum ShowFault {
+    /// The start is no document.
+    #[error("start: {0}")]
+    Start(ReadFault),
+    /// The patches are no list of documents.
+    #[error("patches: {0}")]
+    Patches(DocsFault),
+    /// Two of the patches clash, or memory ran out at them.
+    #[error("{0}")]
+    Replay(ListFault),
+    /// Memory ran out.
+    #[error("out of memory")]
+    OutOfMemory,
+}
+
+impl From<ReadFault> for ShowFault {
+    ghost use Rattle.library_example.specs.declared.fault.ShowFault.TheVariants.{Start};
+
+    ghost from_gives = { λ fault shown. shown ≡ Start fault };
+
+    fn from(fault: ReadFault) -> ShowFault {
+        ShowFault::Start(fault)
+    }
+}
+
+impl From<DocsFault> for ShowFault {
+    ghost use Rattle.library_example.specs.declared.fault.ShowFault.TheVariants.{Patches};
+
+    ghost from_gives = { λ fault shown. shown ≡ Patches fault };
+
+    fn from(fault: DocsFault) -> ShowFault {
+        ShowFault::Patches(fault)
+    }
+}
+
+impl From<ListFault> for ShowFault {
+    ghost use Rattle.library_example.specs.declared.fault.ShowFault.TheVariants.{Replay};
+
+    ghost from_gives = { λ fault shown. shown ≡ Replay fault };
+
+    fn from(fault: ListFault) -> ShowFault {
+        ShowFault::Replay(fault)
+    }
+}
+
+impl From<AllocError> for ShowFault {
+    ghost use Rattle.library_example.specs.declared.fault.ShowFault.TheVariants.{OutOfMemory};
+
+    ghost from_gives = { λ _ shown. shown ≡ OutOfMemory };
+
+    fn from(_refused: AllocError) -> ShowFault {
+        ShowFault::OutOfMemory
+    }
+}

@@ -1,0 +1,12 @@
+//! What a program does with the library, in short: the README and `docs/REPLICAS.md` show lines of it.
+#![tactic(auto)]
+
+pub mod fault;
+pub mod receiving;
+pub mod replica;
+#[cfg(test)]
+mod tests;
+
+pub use fault::ShowFault;
+pub use receiving::{Envelope, Received, Replica};
+pub use replica::{at, for_a_peer, show};

@@ -1,0 +1,223 @@
+//! The lines of the program, each with its status: the texts stand here alone.
+ghost use Rattle.std.specs.Prelude.{◌≡◌, ◌≢◌, ◌++◌, IfOk, option_map, string_bytes};
+ghost use Rattle.mp_tree.specs.View.{document};
+ghost use Rattle.mp_pointer.specs.Part.{numeral};
+ghost use Rattle.mp_cli.specs.Lines.{bad_tilde_line, cause_words, conflict_line, form_fault, form_words, input_fault, line as line_with, operation_line, part_line, pointer_text, pointers_text, run_fault, spelling_fault, wrong_shape as shape_fault};
+ghost use Rattle.mp_cli.specs.Private.Answers.{Gives, list_fault};
+ghost use Rattle.mp_cli.specs.Lines.{line_of, status_of};
+
+use crate::answers::Answer;
+use crate::running::RunFault;
+use mp_merge::ListFault;
+use mp_patch::{ApplyFault, Cause, FormCause, FormFault};
+use mp_pointer::{Pointer, PointerFault};
+use mp_tree::{Doc, DocsFault, write_doc, write_text};
+use std::alloc::{AllocError, Global};
+
+/// The status where the command gives a result.
+const RESULT: u8 = 0;
+
+/// The status where the command has no result.
+const NO_RESULT: u8 = 1;
+
+/// The status where the input or a word is at fault.
+const REFUSED: u8 = 2;
+
+/// The status where the machine is.
+const FAILED: u8 = 3;
+
+pub(crate) fn fault_answer(alloc: Global, fault: DocsFault) -> Result<Answer, AllocError>
+    ensures line { Gives result (input_fault fault) }
+    ensures fault { IfOk result (λ a. fault ≢ DocsFault.OutOfMemory) }
+{
+    match fault {
+        DocsFault::NotJson => line(alloc, "input: not JSON", REFUSED),
+        DocsFault::NotWhole => line(alloc, "input: number not whole", REFUSED),
+        DocsFault::NotAnArray => wrong_shape(alloc),
+        DocsFault::OutOfMemory => Err(AllocError),
+    }
+}
+
+pub(crate) fn wrong_shape(alloc: Global) -> Result<Answer, AllocError>
+    ensures { Gives result shape_fault }
+{
+    line(alloc, "input: wrong shape", REFUSED)
+}
+
+fn line(alloc: Global, text: &str, status: u8) -> Result<Answer, AllocError>
+    ensures { Gives result (line_with text.now status) }
+{
+    let mut with_newline = String::from_str(alloc, text)?;
+    with_newline.push_str("\n")?;
+    Ok(Answer {
+        text: with_newline,
+        status,
+    })
+}
+
+pub(crate) fn fault_in_spelling(alloc: Global, fault: PointerFault) -> Result<Answer, AllocError>
+    ensures line { Gives result (spelling_fault fault) }
+    ensures fault { IfOk result (λ a. fault ≢ PointerFault.OutOfMemory) }
+{
+    match fault {
+        PointerFault::NoSlash => line(alloc, "pointer: no slash", REFUSED),
+        PointerFault::BadTilde(offset) => bad_tilde(alloc, offset),
+        PointerFault::OutOfMemory => Err(AllocError),
+    }
+}
+
+fn bad_tilde(alloc: Global, offset: usize) -> Result<Answer, AllocError>
+    ensures { Gives result (bad_tilde_line offset) }
+{
+    let text = with_number(alloc, "pointer: bad tilde at ", offset)?;
+    line(alloc, text.as_str(), REFUSED)
+}
+
+pub(crate) fn part(alloc: Global, found: Option<&Doc>) -> Result<Answer, AllocError>
+    ensures { Gives result (part_line (option_map (λ d. document d.now) found.entry)) }
+{
+    match found {
+        Some(doc) => result_line(write_doc(alloc, doc)?),
+        None => line(alloc, "missing", NO_RESULT),
+    }
+}
+
+pub(crate) fn fault_in_form(alloc: Global, fault: FormFault) -> Result<Answer, AllocError>
+    ensures line { Gives result (form_fault fault) }
+    ensures fault { IfOk result (λ a. fault ≢ FormFault.OutOfMemory) }
+{
+    match fault {
+        FormFault::NotAnArray => wrong_shape(alloc),
+        FormFault::Form { op, cause } => operation(alloc, op, words_of_form(cause), REFUSED),
+        FormFault::OutOfMemory => Err(AllocError),
+    }
+}
+
+fn words_of_form(cause: FormCause) -> &'static str
+    ensures { result.now ≡ form_words cause }
+{
+    match cause {
+        FormCause::NotAnObject => "not an object",
+        FormCause::NoOp => "no op",
+        FormCause::UnknownOp => "unknown op",
+        FormCause::NoPath => "no path",
+        FormCause::NoFrom => "no from",
+        FormCause::BadPointer => "bad pointer",
+        FormCause::NoValue => "no value",
+    }
+}
+
+pub(crate) fn fault_in_run(alloc: Global, fault: ApplyFault) -> Result<Answer, AllocError>
+    ensures line { Gives result (run_fault fault) }
+    ensures fault { IfOk result (λ a. fault ≢ ApplyFault.OutOfMemory) }
+{
+    match fault {
+        ApplyFault::Refused { op, cause } => operation(alloc, op, words_of_cause(cause), NO_RESULT),
+        ApplyFault::OutOfMemory => Err(AllocError),
+    }
+}
+
+fn words_of_cause(cause: Cause) -> &'static str
+    ensures { result.now ≡ cause_words cause }
+{
+    match cause {
+        Cause::IntoItself => "into itself",
+        Cause::RemoveRoot => "remove of root",
+        Cause::Missing => "missing",
+        Cause::NoPlace => "no place",
+        Cause::TooDeep => "too deep",
+        Cause::TestFailed => "test failed",
+    }
+}
+
+fn operation(alloc: Global, op: usize, words: &str, status: u8) -> Result<Answer, AllocError>
+    ensures { Gives result (operation_line op words.now status) }
+{
+    let mut text = with_number(alloc, "operation ", op)?;
+    text.push_str(": ")?;
+    text.push_str(words)?;
+    line(alloc, text.as_str(), status)
+}
+
+pub(crate) fn fault_in_list(alloc: Global, fault: ListFault) -> Result<Answer, AllocError>
+    ensures line { Gives result (list_fault fault) }
+    ensures fault { IfOk result (λ a. fault ≢ ListFault.OutOfMemory) }
+{
+    match fault {
+        ListFault::NoPatches => line(alloc, "no patches", NO_RESULT),
+        ListFault::ConflictOf {
+            first,
+            second,
+            places,
+        } => conflict(alloc, first, second, places.as_slice()),
+        ListFault::OutOfMemory => Err(AllocError),
+    }
+}
+
+fn conflict(
+    alloc: Global,
+    first: usize,
+    second: usize,
+    places: &[Pointer],
+) -> Result<Answer, AllocError>
+    ensures { Gives result (conflict_line first second places.now) }
+{
+    let mut text = with_number(alloc, "conflict: patches ", first)?;
+    text.push_str(with_number(alloc, " and ", second)?.as_str())?;
+    text.push_str(" at ")?;
+    text.push_str(pointers(alloc, places)?.as_str())?;
+    line(alloc, text.as_str(), NO_RESULT)
+}
+
+// With a comma and one space between two.
+fn pointers(alloc: Global, places: &[Pointer]) -> Result<String, AllocError>
+    ensures { IfOk result (λ text. string_bytes text ≡ pointers_text places.now) }
+{
+    let Some((first, rest)) = places.split_first() else {
+        return Ok(String::new(alloc));
+    };
+    let mut text = pointer(alloc, first)?;
+    for place in rest {
+        text.push_str(", ")?;
+        text.push_str(pointer(alloc, place)?.as_str())?;
+    }
+    Ok(text)
+}
+
+fn pointer(alloc: Global, place: &Pointer) -> Result<String, AllocError>
+    ensures { IfOk result (λ text. string_bytes text ≡ pointer_text place.now) }
+{
+    write_text(alloc, place.print(alloc)?.as_str())
+}
+
+// The text before a number, and the number in plain decimals.
+fn with_number(alloc: Global, before: &str, number: usize) -> Result<String, AllocError>
+    ensures { IfOk result (λ text. string_bytes text ≡ before.now ++ numeral number) }
+{
+    format!(in alloc; "{before}{number}")
+}
+
+pub(crate) fn result_line(mut text: String) -> Result<Answer, AllocError>
+    ensures { Gives result (line_with (string_bytes text) 0) }
+{
+    text.push_str("\n")?;
+    Ok(Answer {
+        text,
+        status: RESULT,
+    })
+}
+
+/// The line for a fault of `run`, without its newline, and the status that the program ends with.
+///
+/// For `RunFault::ReadFailed` it is the line `read failed` with the status 3.
+pub fn fault_line(fault: &RunFault) -> (&'static str, u8)
+    ensures line { result.0.now ≡ line_of fault.now }
+    ensures status { result.1 ≡ status_of fault.now }
+{
+    match fault {
+        RunFault::ReadFailed => ("read failed", FAILED),
+        RunFault::WriteFailed => ("write failed", FAILED),
+        RunFault::TooLong => ("input: too long", REFUSED),
+        RunFault::OutOfMemory => ("out of memory", FAILED),
+    }
+}

@@ -1,0 +1,6 @@
+-- Applying a merge patch.
+pub mod ByName
+pub mod Depth
+pub mod InTurn
+pub mod Looks
+pub mod Resumption

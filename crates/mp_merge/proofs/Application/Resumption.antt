@@ -1,0 +1,170 @@
+-- Merging in place: what one name of an object comes to, and that a try that was refused can be made again.
+use Rattle.std.proofs.Common.{◌≡◌, inl, inr, ℕ, List, [], ◌∷◌, false, cond, Option, Some, None, IfSome, refl, sym, ap, ◌∙◌, subst}
+use Rattle.std.proofs.lemmas.List.Elements.{All-contains_itself, All-weaker}
+use Rattle.std.specs.List.{All, Contains}
+use Rattle.mp_tree.specs.Document.{Document, null, flag, whole, string, list, object, Members, member, is_name, find, put, IsDocument, IsMap, IsBelow}
+use Rattle.mp_tree.specs.Look.{Path, nothing, an_object, plain, look, look_of}
+use Rattle.mp_tree.proofs.Facts.{IsDocument-find, cases_same, find-below, find-put, is_name-self, members_same, find-here}
+use Rattle.mp_merge.specs.Application.{after_patch, set_or_remove, in_turn, merge_patch, merge_patch_members, target_members, unless_null}
+use Rattle.mp_merge.specs.Laws.{AppliedOnce, MergesIntoNull, TriesResume}
+use Rattle.mp_merge.specs.Lists.{HaveSameMembers}
+use Rattle.mp_merge.specs.Lists.{PairwiseCompatible}
+use Rattle.mp_merge.specs.Private.Merging.{NeedsNoneAt, NeedsNoneIn, ResumesAt}
+use Rattle.mp_merge.specs.Resumption.{NeedsNoMemory}
+use Rattle.mp_merge.proofs.Application.ByName.{IsDocument-merge_patch, IsMap-merge_patch_members, find-set_or_remove, find-merge_patch_members}
+use Rattle.mp_merge.proofs.Clashes.ByName.{compatible-self}
+use Rattle.mp_merge.proofs.Collections.Elements.{Contains-head, Contains-tail, Contains-cases, Contains-one}
+use Rattle.mp_merge.proofs.Application.InTurn.{applied_in_turn}
+use Rattle.mp_merge.proofs.Outcome.{application_is_outcome, replicas_agree}
+
+-- ---- a patch that is applied twice
+
+pub merges_into_null : MergesIntoNull
+merges_into_null null = refl
+merges_into_null (flag b) = refl
+merges_into_null (whole z) = refl
+merges_into_null (string s) = refl
+merges_into_null (list ds) = refl
+merges_into_null (object ps) = refl
+
+twice_once : (p q : Document) → Contains (p ∷ p ∷ []) q → p ≡ q
+twice_once p q at = elim (Contains-cases p q (p ∷ []) at) [ inl same ↦ same | inr there ↦ Contains-one p q there ]
+
+same_twice : (p : Document) → HaveSameMembers (p ∷ p ∷ []) (p ∷ [])
+same_twice p q = (λ at. subst (Contains (p ∷ [])) (twice_once p q at) (Contains-head p []), λ at. Contains-tail p q (p ∷ []) at)
+
+pub applied_once : AppliedOnce
+applied_once d p good patch =
+    let all : (q r : Document) → Contains (p ∷ p ∷ []) q → Contains (p ∷ p ∷ []) r → q ≡ r = λ q r one two. sym (twice_once p q one) ∙ twice_once p r two in
+    let free : PairwiseCompatible (p ∷ p ∷ []) = λ q r one two. compatible-self q r (all q r one two) in
+    let documents : All IsDocument (p ∷ p ∷ []) = All-weaker (Contains (p ∷ p ∷ [])) IsDocument (λ q at. subst IsDocument (twice_once p q at) patch) (p ∷ p ∷ []) (All-contains_itself (p ∷ p ∷ [])) in
+    replicas_agree d (p ∷ p ∷ []) (p ∷ []) (in_turn d (p ∷ p ∷ [])) (merge_patch (Some d) p) (same_twice p) (IsDocument-merge_patch (Some (merge_patch (Some d) p)) p (IsDocument-merge_patch (Some d) p good patch) patch) (IsDocument-merge_patch (Some d) p good patch)
+    (applied_in_turn d (p ∷ p ∷ []) good documents free) (application_is_outcome d p good patch)
+
+mp_twice : (t : Option Document) (p : Document) → IfSome t IsDocument → IsDocument p → merge_patch (Some (merge_patch t p)) p ≡ merge_patch t p
+mp_twice None p target good = ap (λ d. merge_patch (Some d) p) (sym (merges_into_null p)) ∙ applied_once null p tt good ∙ merges_into_null p
+mp_twice (Some d) p target good = applied_once d p target good
+
+-- what one name has after a change is changed no more
+changed_once : (t : Option Document) (p : Document) → IfSome t IsDocument → IsDocument p → merge_patch (unless_null p (merge_patch t p)) p ≡ merge_patch t p
+changed_once t null target good = refl
+changed_once t (flag b) target good = refl
+changed_once t (whole z) target good = refl
+changed_once t (string s) target good = refl
+changed_once t (list ds) target good = refl
+changed_once t (object ps) target good = mp_twice t (object ps) target good
+
+pub tries_resume : TriesResume
+tries_resume d p [] tries = refl
+tries_resume d p (e ∷ rest) tries = tries_resume e p rest tries.1 ∙ tries.0
+
+-- ---- one name
+
+pub changed_resumes : (n : List ℕ) (p : Document) (ts : Members) → IsMap ts → IsDocument p → ResumesAt n p ts (set_or_remove n p (merge_patch (find n ts) p) ts)
+changed_resumes n p ts map good = record {
+  others = λ m other. find-set_or_remove m n p (merge_patch (find n ts) p) ts map ∙ ap (λ b. cond b (unless_null p (merge_patch (find n ts) p)) (find m ts)) other;
+  here = ap (λ t. merge_patch t p) (find-set_or_remove n n p (merge_patch (find n ts) p) ts map ∙ ap (λ b. cond b (unless_null p (merge_patch (find n ts) p)) (find n ts)) (is_name-self n)) ∙ changed_once (find n ts) p (IsDocument-find n ts map) good;
+}
+
+-- so it is where the value at the name is another one from which the patch's value gives the same
+pub set_resumes : (n : List ℕ) (p d : Document) (ts us : Members) → us ≡ put n d ts → merge_patch (Some d) p ≡ merge_patch (find n ts) p → ResumesAt n p ts us
+set_resumes n p d ts us is same = record {
+  others = λ m other. ap (find m) is ∙ find-put m n d ts ∙ ap (λ b. cond b (Some d) (find m ts)) other;
+  here = ap (λ o. merge_patch o p) (ap (find n) is ∙ find-put n n d ts ∙ ap (λ b. cond b (Some d) (find n ts)) (is_name-self n)) ∙ same;
+}
+
+-- so applying all of the patch gives the same as before
+pub resumes_all : (ts us ps : Members) (n : List ℕ) (p : Document) → IsMap ts → IsMap us → IsMap ps → find n ps ≡ Some p → ResumesAt n p ts us → merge_patch_members us ps ≡ merge_patch_members ts ps
+resumes_all ts us ps n p map now good carried resumes = members_same (merge_patch_members us ps) (merge_patch_members ts ps) (IsMap-merge_patch_members us ps now good) (IsMap-merge_patch_members ts ps map good) at_name
+  where
+    here : after_patch (find n us) (find n ps) ≡ after_patch (find n ts) (find n ps)
+    here = ap (after_patch (find n us)) carried ∙ ap (unless_null p) resumes.here ∙ sym (ap (after_patch (find n ts)) carried)
+
+    at_name : (q : List ℕ) → find q (merge_patch_members us ps) ≡ find q (merge_patch_members ts ps)
+    at_name q =
+        find-merge_patch_members us ps now good q
+        ∙ cases_same q n
+        (λ same. subst (λ k. after_patch (find k us) (find k ps) ≡ after_patch (find k ts) (find k ps)) (sym same) here)
+        (λ other. ap (λ t. after_patch t (find q ps)) (resumes.others q other))
+        ∙ sym (find-merge_patch_members ts ps map good q)
+
+-- ---- the names that are left
+
+-- what is left of the patch is some of it
+abbrev pub IsAmong : Members → Members → Type 0
+IsAmong left all = (q : List ℕ) (x : Document) → find q left ≡ Some x → find q all ≡ Some x
+
+-- at the names that are left nothing has changed
+abbrev pub IsUntouched : Members → Members → Members → Type 0
+IsUntouched left before now = (q : List ℕ) (x : Document) → find q left ≡ Some x → find q now ≡ find q before
+
+-- a name that is left behind the first is another one
+left_is_other : (n q : List ℕ) (p x : Document) (left : Members) → IsBelow n left → find q left ≡ Some x → (is_name q n ≡ false) × (find q (member n p left) ≡ Some x)
+left_is_other n q p x left below found =
+    cases_same q n
+    (λ same. absurd (let none : find q left ≡ None = ap (λ k. find k left) same ∙ find-below n left below in let never = sym found ∙ none in cc))
+    (λ other. (other, ap (λ b. cond b (Some p) (find q left)) other ∙ found))
+
+pub first_among : (n : List ℕ) (p : Document) (left all : Members) → IsAmong (member n p left) all → find n all ≡ Some p
+first_among n p left all among = among n p (find-here n p left)
+
+pub rest_among : (n : List ℕ) (p : Document) (left all : Members) → IsBelow n left → IsAmong (member n p left) all → IsAmong left all
+rest_among n p left all below among q x found = among q x (left_is_other n q p x left below found).1
+
+pub first_untouched : (n : List ℕ) (p : Document) (left before now : Members) → IsUntouched (member n p left) before now → find n now ≡ find n before
+first_untouched n p left before now same = same n p (find-here n p left)
+
+pub rest_untouched : (n : List ℕ) (p : Document) (left before now later : Members) → IsBelow n left → IsUntouched (member n p left) before now → ResumesAt n p now later → IsUntouched left before later
+rest_untouched n p left before now later below same resumes q x found =
+    let other = left_is_other n q p x left below found in
+    resumes.others q other.0 ∙ same q x other.1
+
+-- ---- no memory
+
+pub absent_needs : (p : Document) (t : Option Document) → (p ≡ null → ⊥) → t ≡ None → NeedsNoneAt p t → ⊥
+absent_needs p t other absent (inl is) = other is
+absent_needs p t other absent (inr there) = let never : Some there.0 ≡ None = sym there.1 ∙ absent in absurd (cc)
+
+pub present_needs : (p d : Document) (t : Option Document) → (p ≡ null → ⊥) → t ≡ Some d → NeedsNoneAt p t → NeedsNoMemory d p
+present_needs p d t other here (inl is) = absurd (other is)
+present_needs p d t other here (inr there) = let same : there.0 ≡ d = (let both : Some there.0 ≡ Some d = sym there.1 ∙ here in cc) in subst (λ (e : Document). NeedsNoMemory e p) same there.2
+
+-- an object there, and what the patch has below it
+needs_at : (n : List ℕ) (ts ps : Members) (p : Document) → find n ps ≡ Some p → NeedsNoMemory (object ts) (object ps) → NeedsNoneAt p (find n ts)
+needs_at n ts ps p found needs = by p (look_of-found []) refl
+  where
+    look_of-found : (w : Path) → look (object ps) (n ∷ w) ≡ look p w
+    look_of-found w = ap (λ o. look_of o w) found
+
+    no_value : (v : Document) → look p [] ≡ plain v → v ≡ null
+    no_value v is = needs.nulls_alone (n ∷ []) v (look_of-found [] ∙ is)
+
+    inside : (t : Option Document) → find n ts ≡ t → look p [] ≡ an_object → look_of t [] ≡ an_object → NeedsNoneAt p (find n ts)
+    inside None is map there = absurd (let never : nothing ≡ an_object = there in cc)
+    inside (Some d) is map there = inr (
+      d,
+      is,
+      record {
+        object_alone = map;
+        nulls_alone = λ w v here. needs.nulls_alone (n ∷ w) v (look_of-found w ∙ here);
+        objects_there = λ w here. sym (ap (λ o. look_of o w) is) ∙ needs.objects_there (n ∷ w) (look_of-found w ∙ here);
+      },
+    )
+
+    by : (q : Document) → look (object ps) (n ∷ []) ≡ look p [] → q ≡ p → NeedsNoneAt p (find n ts)
+    by null is same = inl (sym same)
+    by (flag b) is same = absurd (let never = no_value (flag b) (ap (λ d. look d []) (sym same)) in cc)
+    by (whole z) is same = absurd (let never = no_value (whole z) (ap (λ d. look d []) (sym same)) in cc)
+    by (string s) is same = absurd (let never = no_value (string s) (ap (λ d. look d []) (sym same)) in cc)
+    by (list ds) is same = absurd (let never = no_value (list ds) (ap (λ d. look d []) (sym same)) in cc)
+    by (object qs) is same =
+        let map : look p [] ≡ an_object = ap (λ d. look d []) (sym same) in
+        inside (find n ts) refl map (needs.objects_there (n ∷ []) (is ∙ map))
+
+pub needs_in : (t : Document) (ps : Members) → NeedsNoMemory t (object ps) → NeedsNoneIn ps (target_members (Some t))
+needs_in (object ts) ps needs n p found = needs_at n ts ps p found needs
+needs_in null ps needs n p found = absurd (let never = needs.objects_there [] refl in cc)
+needs_in (flag b) ps needs n p found = absurd (let never = needs.objects_there [] refl in cc)
+needs_in (whole z) ps needs n p found = absurd (let never = needs.objects_there [] refl in cc)
+needs_in (string s) ps needs n p found = absurd (let never = needs.objects_there [] refl in cc)
+needs_in (list ds) ps needs n p found = absurd (let never = needs.objects_there [] refl in cc)

@@ -1,0 +1,101 @@
+-- Clashes name by name.
+use Rattle.std.proofs.Common.{◌≡◌, ◌↔◌, ℕ, List, [], ◌∷◌, Bool, true, false, Option, Some, None, String, BTreeMap, Global, refl, sym, ap, ◌∙◌, subst, rules, true≢false}
+use Rattle.mp_tree.specs.Document.{Document, null, flag, whole, string, list, object, Members, no_members, member, find, IsMap}
+use Rattle.mp_tree.specs.Look.{Path, nothing, an_object, plain, look, look_of, look_here}
+use Rattle.mp_tree.specs.View.{document, document_step}
+use Rattle.mp_tree.specs.declared.doc.Doc.{Doc, Members as Map, ind-Doc, roll-Doc, fold-roll-Doc, the_lemmas}
+use Rattle.mp_tree.specs.declared.doc.Doc.TheOpen.{Doc-F}
+use Rattle.mp_tree.proofs.Facts.{is_here, find-below, cases_same, is_name-self, find-here, same_plain}
+use Rattle.mp_merge.specs.Clash.{Clash, Compatible}
+
+-- ---- at the root
+
+abbrev pub IsNoMap : Document → Type 0
+IsNoMap d = look_here d ≡ plain d
+
+-- a `Doc` that is no object
+abbrev NoMapUnless : Doc → Type 0
+NoMapUnless d = ((m : BTreeMap (String Global) Doc) → d ≡ Map m → ⊥) → IsNoMap (document d)
+
+pub no_map : (d : Doc) → ((m : BTreeMap (String Global) Doc) → d ≡ Map m → ⊥) → IsNoMap (document d)
+no_map = ind-Doc NoMapUnless (λ x y is. opened x)
+  where
+    opened : (x : Doc-F Doc) → NoMapUnless (roll-Doc x)
+    opened Doc-F.Null never = subst IsNoMap (sym (fold-roll-Doc Document document_step Doc-F.Null)) refl
+    opened (Doc-F.Flag b) never = subst IsNoMap (sym (fold-roll-Doc Document document_step (Doc-F.Flag b))) refl
+    opened (Doc-F.Whole n) never = subst IsNoMap (sym (fold-roll-Doc Document document_step (Doc-F.Whole n))) refl
+    opened (Doc-F.Text s) never = subst IsNoMap (sym (fold-roll-Doc Document document_step (Doc-F.Text s))) refl
+    opened (Doc-F.Items v) never = subst IsNoMap (sym (fold-roll-Doc Document document_step (Doc-F.Items v))) refl
+    opened (Doc-F.Members m) never = absurd (never m (search (rules, the_lemmas)))
+
+pub clash_at_root : (p q : Document) → (look_here p ≡ look_here q → ⊥) → Clash p q []
+clash_at_root p q other = record { first = is_here p; second = is_here q; differ = other }
+
+pub clash_of_others : (p q : Document) → IsNoMap p → (p ≡ q → ⊥) → Clash p q []
+clash_of_others p q plain_p other = clash_at_root p q (λ same. other (same_plain p q (sym plain_p ∙ same)))
+
+pub clash_with_a_map : (ms : Members) (q : Document) → IsNoMap q → Clash (object ms) q []
+clash_with_a_map ms q plain_q = clash_at_root (object ms) q (λ same. never (same ∙ plain_q))
+  where
+    never : an_object ≡ plain q → ⊥
+    never e = cc
+
+pub compatible-self : (p q : Document) → p ≡ q → Compatible p q
+compatible-self p q same w clash = clash.differ (ap (λ d. look d w) same)
+
+pub clash-sym : (p q : Document) (w : Path) → Clash p q w → Clash q p w
+clash-sym p q w clash = record { first = clash.second; second = clash.first; differ = λ same. clash.differ (sym same) }
+
+pub compatible-sym : (p q : Document) → Compatible p q → Compatible q p
+compatible-sym p q none w clash = none w (clash-sym q p w clash)
+
+pub decided : (b : Bool) {P : Type 0} → (b ≡ true) ↔ P → ((P → ⊥) → ⊥) → b ≡ true
+decided true same never = refl
+decided false same never = absurd (never (λ p. true≢false (sym (same.1 p))))
+
+-- ---- name by name
+
+-- the clashes with all the members are those with the members that are left
+abbrev pub SameClashes : Members → Members → Members → Type 0
+SameClashes ps left qs = (w : Path) → Clash (object ps) (object qs) w ↔ Clash (object left) (object qs) w
+
+abbrev pub ClashOf : Option Document → Option Document → Path → Type 0
+ClashOf p q w = (look_of p w ≡ nothing → ⊥) × (look_of q w ≡ nothing → ⊥) × (look_of p w ≡ look_of q w → ⊥)
+
+pub clash_of : (ps qs : Members) (n : List ℕ) (w : Path) → Clash (object ps) (object qs) (n ∷ w) → ClashOf (find n ps) (find n qs) w
+clash_of ps qs n w clash = (clash.first, clash.second, clash.differ)
+
+pub clash_from : (ps qs : Members) (n : List ℕ) (w : Path) → ClashOf (find n ps) (find n qs) w → Clash (object ps) (object qs) (n ∷ w)
+clash_from ps qs n w clash = record { first = clash.0; second = clash.1; differ = clash.2 }
+
+-- the first name may be passed where nothing clashes under it
+pub pass_first : (n : List ℕ) (p : Document) (ps qs : Members) → IsMap (member n p ps) → ((w : Path) → ClashOf (Some p) (find n qs) w → ⊥) → SameClashes (member n p ps) ps qs
+pass_first n p ps qs map none [] = (λ clash. absurd (clash.differ refl), λ clash. absurd (clash.differ refl))
+pass_first n p ps qs map none (m ∷ w) = cases_same m n
+    (λ here. let absent : find m ps ≡ None = ap (λ k. find k ps) here ∙ find-below n ps map.1 in (
+      λ clash. absurd (none w (subst (λ o. ClashOf o (find n qs) w) (find-here n p ps) (subst (λ k. ClashOf (find k (member n p ps)) (find k qs) w) here (clash_of (member n p ps) qs m w clash)))),
+      λ clash. absurd (clash.first (ap (λ o. look_of o w) absent)),
+    ))
+    (λ other. let same : find m (member n p ps) ≡ find m ps = rw other refl in (
+      λ clash. clash_from ps qs m w (subst (λ o. ClashOf o (find m qs) w) same (clash_of (member n p ps) qs m w clash)),
+      λ clash. clash_from (member n p ps) qs m w (subst (λ o. ClashOf o (find m qs) w) (sym same) (clash_of ps qs m w clash)),
+    ))
+
+-- ---- under the first name
+
+abbrev pub NoClashUnder : Document → Option Document → Type 0
+NoClashUnder p q = (w : Path) → ClashOf (Some p) q w → ⊥
+
+pub absent_under : (p : Document) (q : Option Document) → q ≡ None → NoClashUnder p q
+absent_under p q absent w clash = clash.1 (ap (λ o. look_of o w) absent)
+
+pub compatible_under : (p q : Document) (o : Option Document) → o ≡ Some q → Compatible p q → NoClashUnder p o
+compatible_under p q o is none w clash =
+    let there : ClashOf (Some p) (Some q) w = subst (λ x. ClashOf (Some p) x w) is clash in
+    none w (record { first = there.0; second = there.1; differ = there.2 })
+
+-- a clash under the first name is one of the members
+pub clash_under : (n : List ℕ) (p q : Document) (ps qs : Members) (w : Path) → find n qs ≡ Some q → Clash p q w → Clash (object (member n p ps)) (object qs) (n ∷ w)
+clash_under n p q ps qs w is clash =
+    let there : ClashOf (Some p) (Some q) w = (clash.first, clash.second, clash.differ) in
+    clash_from (member n p ps) qs n w (subst (λ o. ClashOf o (find n qs) w) (sym (find-here n p ps)) (subst (λ o. ClashOf (Some p) o w) (sym is) there))

@@ -1,0 +1,4 @@
+-- Elements of lists and members of maps, one by one.
+pub mod Elements
+pub mod Growth
+pub mod Members

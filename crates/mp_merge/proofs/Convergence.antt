@@ -1,0 +1,104 @@
+-- Replicas that receive the same compatible patches converge.
+use Rattle.std.proofs.Common.{◌≡◌, ◌≢◌, ◌≤◌, ℕ, List, [], ◌∷◌, Some, refl, sym, subst}
+use Rattle.std.proofs.lemmas.List.Elements.{All-contains, All-contains_itself, All-weaker}
+use Rattle.std.specs.List.{All, Contains}
+use Rattle.mp_tree.specs.Document.{Document, IsDocument, depth, depth_limit}
+use Rattle.mp_patch.specs.Operation.{Operation}
+use Rattle.mp_patch.proofs.Facts.{has_one_end, runs_unrefused}
+use Rattle.mp_merge.specs.Application.{merge_patch, in_turn}
+use Rattle.mp_merge.specs.Convergence.{Converge, LeadsTo, ReachesEnd, ReplicasConverge}
+use Rattle.mp_merge.specs.Join.{IsJoin}
+use Rattle.mp_merge.specs.Lists.{HaveSameMembers}
+use Rattle.mp_merge.specs.Lists.{PairwiseCompatible, AreWithin, IsJoinAllFault, IsReplayFault}
+use Rattle.mp_merge.specs.Outcome.{IsOutcome}
+use Rattle.mp_merge.specs.Rewriting.{IsRewriting}
+use Rattle.mp_merge.specs.declared.fault.ListFault.{ListFault}
+use Rattle.mp_merge.specs.declared.fault.ListFault.TheVariants.{NoPatches, ConflictOf, OutOfMemory}
+use Rattle.mp_merge.proofs.Rewritings.AnyOrder.{rewriting_runs}
+use Rattle.mp_merge.proofs.Application.ByName.{IsDocument-merge_patch}
+use Rattle.mp_merge.proofs.Collections.Elements.{Contains-nil, Contains-head}
+use Rattle.mp_merge.proofs.Application.InTurn.{IsDocument-in_turn, applied_in_turn}
+use Rattle.mp_merge.proofs.Joins.Laws.{join_exists, join_is_no_deeper, join_of_same, one_join}
+use Rattle.mp_merge.proofs.Outcome.{one_outcome, join_gives_outcome}
+use Rattle.mp_merge.proofs.Rewritings.Existence.{rewriting_exists, rewriting_has_documents}
+use Rattle.mp_merge.proofs.Clashes.ToldPair.{compatible_have_none}
+
+module _ (start : Document) (patches : List Document) (good : IsDocument start) (some : patches ≢ []) (all : All IsDocument patches) (free : PairwiseCompatible patches) (j : Document) (patch : IsDocument j)
+    (joined : IsJoin patches j) where
+  abbrev end : Document
+  end = merge_patch (Some start) j
+
+  end_is_document : IsDocument end
+  end_is_document = IsDocument-merge_patch (Some start) j good patch
+
+  module _ (received : List Document) (same : HaveSameMembers patches received) where
+    -- what a replica received is patches too, at least one, and pairwise compatible
+    received_documents : All IsDocument received
+    received_documents = All-weaker (Contains received) IsDocument (λ p at. All-contains IsDocument patches p all ((same p).1 at)) received (All-contains_itself received)
+
+    received_compatible : PairwiseCompatible received
+    received_compatible p q at there = free p q ((same p).1 at) ((same q).1 there)
+
+    received_some : (ps : List Document) → patches ≡ ps → received ≡ [] → ⊥
+    received_some [] is none = some is
+    received_some (p ∷ ps) is none = Contains-nil p (subst (λ (rs : List Document). Contains rs p) none ((same p).0 (subst (λ (rs : List Document). Contains rs p) (sym is) (Contains-head p ps))))
+
+    joins : (fault : ListFault) → IsJoinAllFault fault received → fault ≡ OutOfMemory
+    joins NoPatches none = absurd (received_some patches refl none)
+    joins (ConflictOf first second places) told = absurd (compatible_have_none received first second places.items told received_compatible)
+    joins OutOfMemory is = refl
+
+    replays : (fault : ListFault) → IsReplayFault fault received → fault ≡ OutOfMemory
+    replays NoPatches never = absurd never
+    replays (ConflictOf first second places) told = joins (ConflictOf first second places) told
+    replays OutOfMemory is = refl
+
+    received_join : IsJoin received j
+    received_join = join_of_same patches received j same joined
+
+    is_outcome : IsOutcome start received end
+    is_outcome = join_gives_outcome start received j good patch received_join
+
+    only_outcome : (e : Document) → IsDocument e → IsOutcome start received e → e ≡ end
+    only_outcome e document outcome = one_outcome start received e end document end_is_document outcome is_outcome
+
+    reaches : ReachesEnd start j end received
+    reaches = record {
+      joins = joins;
+      replays = replays;
+      is_join = received_join;
+      one_join = λ other document also. one_join received other j document patch also received_join;
+      is_outcome = is_outcome;
+      one_outcome = only_outcome;
+      each_in_turn = only_outcome (in_turn start received) (IsDocument-in_turn start received good received_documents) (applied_in_turn start received good received_documents received_compatible);
+    }
+
+  leads : (operations : List Operation) → IsRewriting start j operations → depth j ≤ depth_limit → LeadsTo start end operations
+  leads operations rewritten shallow =
+      let runs = rewriting_runs start j operations good patch shallow rewritten in
+      let values = rewriting_has_documents start j operations good patch rewritten in
+      record {
+        runs = runs;
+        unrefused = λ k cause. runs_unrefused start end operations k cause good values runs;
+        alone = λ e also. has_one_end start e end operations good values also runs;
+      }
+
+  converge : Converge start patches
+  converge =
+      let edits = rewriting_exists start j patch in
+      let no_deeper : (n : ℕ) → AreWithin n patches → depth j ≤ n = λ n within. join_is_no_deeper patches j n patch all joined within in
+      record {
+        joined = j;
+        is_document = patch;
+        end_is_document = end_is_document;
+        reached = reaches;
+        no_deeper = no_deeper;
+        operations = edits.0;
+        rewritten = edits.1;
+        leads = λ within. leads edits.0 edits.1 (no_deeper depth_limit within);
+      }
+
+pub replicas_converge : ReplicasConverge
+replicas_converge start patches good some all free =
+    let found = (join_exists patches some all).1 free in
+    converge start patches good some all free found.0 found.1 found.2

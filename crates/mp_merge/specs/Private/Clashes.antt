@@ -1,0 +1,21 @@
+-- What the walk over two patches adds to a list of paths. Only private clauses cite it.
+use Rattle.std.specs.Prelude.{◌≡◌, ◌≢◌, ◌⊎◌, List, [], ◌∷◌, ◌++◌, Option, None, Some}
+use Rattle.mp_tree.specs.Document.{Document, object, Members, no_members, member, find}
+use Rattle.mp_tree.specs.Look.{Path}
+
+-- at the path s: no clash where the two are equal, else that one alone
+abbrev pub IsOneClash : Path → Document → Document → List Path → Type 0
+IsOneClash s p q places = ((p ≡ q) × (places ≡ [])) ⊎ ((p ≢ q) × (places ≡ s ∷ []))
+
+-- the clashes at s and below, where the one patch has p and the other q, which may be absent
+abbrev mutual
+  pub WalksClashes : Path → Document → Option Document → List Path → Type 0
+  WalksClashes s p None places = places ≡ []
+  WalksClashes s (object ps) (Some (object qs)) places = WalksMembers s ps qs places
+  WalksClashes s p (Some q) places = IsOneClash s p q places
+
+  -- name by name, where both have maps
+  pub WalksMembers : Path → Members → Members → List Path → Type 0
+  WalksMembers s no_members qs places = places ≡ []
+  WalksMembers s (member n p ps) qs places =
+      (first : List Path) × (rest : List Path) × (places ≡ first ++ rest) × WalksClashes (s ++ n ∷ []) p (find n qs) first × WalksMembers s ps qs rest

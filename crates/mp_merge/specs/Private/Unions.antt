@@ -1,0 +1,37 @@
+-- What the walk over two compatible patches computes. Only private clauses cite it.
+use Rattle.std.specs.Prelude.{Option, None, Some}
+use Rattle.mp_tree.specs.Document.{Document, null, flag, whole, string, list, object, Members, no_members, member, find, put}
+use Rattle.mp_merge.specs.Application.{target_members}
+
+-- what was joined before stays, where there is something
+abbrev pub earlier_or : Option Document → Document → Document
+earlier_or None p = p
+earlier_or (Some j) p = j
+
+-- a map is joined name by name
+abbrev pub union_over : Option Document → Members → Members → Document
+union_over None ps both = object ps
+union_over (Some (object js)) ps both = object both
+union_over (Some null) ps both = null
+union_over (Some (flag b)) ps both = flag b
+union_over (Some (whole z)) ps both = whole z
+union_over (Some (string s)) ps both = string s
+union_over (Some (list ds)) ps both = list ds
+
+-- the patch set beside what was joined before, which may be absent: the names of both, and what both carry stays
+abbrev mutual
+  pub union_with : Document → Option Document → Document
+  union_with null j = earlier_or j null
+  union_with (flag b) j = earlier_or j (flag b)
+  union_with (whole z) j = earlier_or j (whole z)
+  union_with (string s) j = earlier_or j (string s)
+  union_with (list ds) j = earlier_or j (list ds)
+  union_with (object ps) j = union_over j ps (union_members ps (target_members j))
+
+  pub union_members : Members → Members → Members
+  union_members no_members js = js
+  union_members (member n p ps) js = put n (union_with p (find n js)) (union_members ps js)
+
+-- the join of two compatible patches
+abbrev pub union : Document → Document → Document
+union p j = union_with p (Some j)

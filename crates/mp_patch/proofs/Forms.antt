@@ -1,0 +1,151 @@
+-- Operations and the documents that are forms of them.
+use Rattle.std.proofs.Common.{◌≡◌, ◌≢◌, ◌<◌, ◌≤◌, ◌+◌, ◌⊎◌, inl, inr, ◌∷◌, ◌++◌, ℕ, List, [], length, map, get_or, take, drop, None, Some, Result, Ok, Err, MatchResult, refl, sym, ap, ap₂, ◌∙◌, subst, arith, codes}
+use Rattle.std.proofs.lemmas.List.{take_more, take-append-drop, drop_more, length-take-le, map-append}
+use Rattle.mp_tree.specs.Document.{Document, object, list, string, Members, put, depth, items_depth}
+use Rattle.mp_tree.specs.View.{document, items, members_of}
+use Rattle.mp_tree.specs.Elements.{items_of}
+use Rattle.mp_tree.specs.declared.doc.Doc.{Doc}
+use Rattle.mp_pointer.specs.Spelling.{Tokens, spell, tokens_in}
+use Rattle.mp_pointer.specs.declared.fault.PointerFault.{PointerFault}
+use Rattle.mp_pointer.proofs.Facts.{reads_spellings, count_of-items}
+use Rattle.mp_patch.specs.Form.{NamesOp, Need, path_alone, a_value, an_origin, HasOp, HasNoPointer, Carries, EachForm, IsForm, IsFormFault, IsNoPointer, deepest, needed_members, op_member, path_member, from_member, shape, shapes, text_at, value_depth, value_member}
+use Rattle.mp_patch.specs.Operation.{Operation, add, remove, replace, move, copy, test}
+use Rattle.mp_patch.specs.Private.Reading.{FindsNoPointer, IsMapFault, IsOpFault, IsOriginFault, fault_at}
+use Rattle.mp_patch.specs.View.{operation_of, operations_of}
+use Rattle.mp_patch.specs.declared.fault.FormCause.TheVariants.{NotAnObject, NoOp, UnknownOp, NoPath, NoFrom, BadPointer, NoValue}
+use Rattle.mp_patch.specs.declared.op.Op.{Op}
+use Rattle.mp_patch.specs.declared.reading.OpFault.{OpFault}
+use Rattle.mp_patch.specs.declared.reading.OpFault.TheVariants.{Form, OutOfMemory}
+use Rattle.mp_patch.proofs.Needs.{some_none, same_some, one_need, value_or_origin}
+use Rattle.mp_patch.proofs.SingleSteps.{items-append}
+
+-- ---- reading
+
+pub no_pointer : (text : List ℕ) (fault : PointerFault) → tokens_in text ≡ Err fault → IsNoPointer text
+no_pointer text fault refused t is = differ (sym ((reads_spellings text t).1 is) ∙ refused)
+  where
+    differ : Ok t ≡ Err fault → ⊥
+    differ e = cc
+
+-- what the reading found in a map is the first that is wrong with it
+module _ (ms : Members) where
+  abbrev d : Document
+  d = object ms
+
+  is_object : ¬ ((es : Members) → d ≢ object es)
+  is_object other = other ms refl
+
+  names_op : (name : List ℕ) → text_at (codes "op") d ≡ Some name → ¬ (text_at (codes "op") d ≡ None)
+  names_op name at none = some_none (text_at (codes "op") d) name at none
+
+  has_path : (path : List ℕ) → text_at (codes "path") d ≡ Some path → ¬ (text_at (codes "path") d ≡ None)
+  has_path path at none = some_none (text_at (codes "path") d) path at none
+
+  none_named : (name : List ℕ) → text_at (codes "op") d ≡ Some name → ((need : Need) → ¬ NamesOp need name) → (need : Need) → ¬ HasOp need d
+  none_named name at unknown need (other, there, names) = unknown need (subst (NamesOp need) (same_some (text_at (codes "op") d) other name there at) names)
+
+  -- with a bad pointer
+  has_from : (need : Need) (path : List ℕ) → HasOp need d → FindsNoPointer need path d → ¬ (HasOp an_origin d × (text_at (codes "from") d ≡ None))
+  has_from path_alone path has bad (origin, none) = let same : path_alone ≡ an_origin = one_need path_alone an_origin d has origin in cc
+  has_from a_value path has bad (origin, none) = value_or_origin d has origin
+  has_from an_origin path has (text, at, bad) (origin, none) = some_none (text_at (codes "from") d) text at none
+
+  bad_pointer : (need : Need) (path : List ℕ) → HasOp need d → text_at (codes "path") d ≡ Some path → FindsNoPointer need path d → HasNoPointer (codes "path") d ⊎ (HasOp an_origin d × HasNoPointer (codes "from") d)
+  bad_pointer path_alone path has at bad = inl (path, at, bad)
+  bad_pointer a_value path has at bad = inl (path, at, bad)
+  bad_pointer an_origin path has at (text, there, inl bad) = inl (path, at, bad)
+  bad_pointer an_origin path has at (text, there, inr bad) = inr (has, (text, there, bad))
+
+  -- with no value
+  good_pointers : (t : Tokens) → HasOp a_value d → text_at (codes "path") d ≡ Some (spell t) → ¬ (HasNoPointer (codes "path") d ⊎ (HasOp an_origin d × HasNoPointer (codes "from") d))
+  good_pointers t has at (inl (path, there, bad)) = bad t (same_some (text_at (codes "path") d) path (spell t) there at)
+  good_pointers t has at (inr (origin, bad)) = value_or_origin d has origin
+
+  pub map_fault : (fault : OpFault) → IsMapFault fault d → IsOpFault fault d
+  map_fault (Form NotAnObject) found = absurd found
+  map_fault (Form NoOp) none = inr (is_object, inl (refl, none))
+  map_fault (Form UnknownOp) (name, at, unknown) = inr (is_object, inr (names_op name at, inl (refl, none_named name at unknown)))
+  map_fault (Form NoPath) (need, has, none) = inr (is_object, inr (names_op has.0 has.1, inr ((λ unknown. unknown need has), inl (refl, none))))
+  map_fault (Form NoFrom) (has, path, at, none) = inr (is_object, inr (names_op has.0 has.1, inr ((λ unknown. unknown an_origin has), inr (has_path path at, inl (refl, (has, none))))))
+  map_fault (Form BadPointer) (need, has, path, at, bad) =
+      inr (is_object, inr (names_op has.0 has.1, inr ((λ unknown. unknown need has), inr (has_path path at, inr (has_from need path has bad, inl (refl, bad_pointer need path has at bad))))))
+  map_fault (Form NoValue) (has, t, at, none) =
+      inr (
+        is_object,
+        inr (
+          names_op has.0 has.1,
+          inr ((λ unknown. unknown a_value has), inr (has_path (spell t) at, inr ((λ h. value_or_origin d has h.0), inr (good_pointers t has at, inl (refl, (has, none)))))),
+        ),
+      )
+  map_fault OutOfMemory found = tt
+
+pub form_of_map : (r : Result Op OpFault) (ms : Members) (d : Document) → d ≡ object ms → MatchResult r (λ op. Carries ms (needed_members (operation_of op))) (λ fault. IsMapFault fault (object ms))
+    → MatchResult r (λ op. IsForm d (operation_of op)) (λ fault. IsOpFault fault d)
+form_of_map (Ok op) ms d is carries = (ms, is, carries)
+form_of_map (Err fault) ms d is found = subst (IsOpFault fault) (sym is) (map_fault ms fault found)
+
+pub EachForm-more : (docs : List Doc) (operations : List Operation) (d : Doc) (o : Operation) → EachForm (items docs) operations → IsForm (document d) o → EachForm (items (docs ++ d ∷ [])) (operations ++ o ∷ [])
+EachForm-more [] [] d o forms form = (form, tt)
+EachForm-more [] (p ∷ operations) d o forms form = absurd forms
+EachForm-more (x ∷ docs) [] d o forms form = absurd forms
+EachForm-more (x ∷ docs) (p ∷ operations) d o forms form = (forms.0, EachForm-more docs operations d o forms.1 form)
+
+pub form_pushed : (docs : List Doc) (old new : List Op) (k : ℕ) (d : Doc) (op : Op) → k < length docs → d ≡ get_or docs k d → EachForm (items (take k docs)) (operations_of old) → IsForm (document d) (operation_of op) → new ≡ old ++ op ∷ []
+    → EachForm (items (take (k + 1) docs)) (operations_of new)
+form_pushed docs old new k d op less here forms form pushed =
+    let longer : take (k + 1) docs ≡ take k docs ++ d ∷ [] = take_more docs k d less ∙ ap (λ x. take k docs ++ x ∷ []) (sym here) in
+    let grown : operations_of new ≡ operations_of old ++ operation_of op ∷ [] = ap operations_of pushed ∙ map-append operation_of old (op ∷ []) in
+    subst (λ xs. EachForm (items xs) (operations_of new)) (sym longer) (subst (λ os. EachForm (items (take k docs ++ d ∷ [])) os) (sym grown) (EachForm-more (take k docs) (operations_of old) d (operation_of op) forms form))
+
+pub fault_there : (fault : OpFault) (docs : List Doc) (old : List Op) (k : ℕ) (d : Doc) → k < length docs → d ≡ get_or docs k d → EachForm (items (take k docs)) (operations_of old) → IsOpFault fault (document d)
+    → IsFormFault (fault_at k fault) (list (items docs))
+fault_there OutOfMemory docs old k d less here forms faulty = tt
+fault_there (Form cause) docs old k d less here forms faulty =
+    let split : docs ≡ take k docs ++ d ∷ drop (k + 1) docs = sym (take-append-drop k docs) ∙ ap (λ r. take k docs ++ r) (drop_more docs k d less ∙ ap (λ x. x ∷ drop (k + 1) docs) (sym here)) in (
+      items (take k docs),
+      document d,
+      items (drop (k + 1) docs),
+      ap list (ap items split ∙ items-append (take k docs) (d ∷ drop (k + 1) docs)),
+      sym (count_of-items (take k docs) ∙ length-take-le k docs (omega arith)),
+      (operations_of old, forms),
+      faulty,
+    )
+
+-- ---- writing
+
+pub shape_with_value : (name : List ℕ) (t : Tokens) (v : Document) → put (codes "value") v (members_of (op_member name ∷ path_member t ∷ [])) ≡ members_of (op_member name ∷ path_member t ∷ value_member v ∷ [])
+shape_with_value name t v = refl
+
+pub shape_with_origin : (name : List ℕ) (f t : Tokens) → put (codes "from") (string (spell f)) (members_of (op_member name ∷ path_member t ∷ [])) ≡ members_of (op_member name ∷ path_member t ∷ from_member f ∷ [])
+shape_with_origin name f t = refl
+
+shape-depth : (o : Operation) → depth (shape o) ≤ value_depth o + 1
+shape-depth (add t v) = omega arith
+shape-depth (remove t) = omega arith
+shape-depth (replace t v) = omega arith
+shape-depth (move f t) = omega arith
+shape-depth (copy f t) = omega arith
+shape-depth (test t v) = omega arith
+
+each-depth : (operations : List Operation) → items_depth (items_of (map shape operations)) ≤ deepest operations + 1
+each-depth [] = omega arith
+each-depth (o ∷ operations) = omega (arith, shape-depth o, each-depth operations)
+
+pub shapes-depth : (operations : List Operation) → depth (shapes operations) ≤ 2 + deepest operations
+shapes-depth operations = omega (arith, each-depth operations)
+
+pub no_slash_is_no_memory : PointerFault.NoSlash ≢ PointerFault.OutOfMemory
+no_slash_is_no_memory e = cc
+
+pub bad_tilde_is_no_memory : (place : ℕ) → PointerFault.BadTilde place ≢ PointerFault.OutOfMemory
+bad_tilde_is_no_memory place e = cc
+
+pub origin_fault : (fault : OpFault) (name path : List ℕ) (ms : Members) → text_at (codes "op") (object ms) ≡ Some name → NamesOp an_origin name → text_at (codes "path") (object ms) ≡ Some path → IsOriginFault fault path (object ms) → IsMapFault fault (object ms)
+origin_fault (Form NoFrom) name path ms op named at faulty = ((name, op, named), path, at, faulty)
+origin_fault (Form BadPointer) name path ms op named at faulty = (an_origin, (name, op, named), path, at, faulty)
+origin_fault (Form NotAnObject) name path ms op named at faulty = absurd faulty
+origin_fault (Form NoOp) name path ms op named at faulty = absurd faulty
+origin_fault (Form UnknownOp) name path ms op named at faulty = absurd faulty
+origin_fault (Form NoPath) name path ms op named at faulty = absurd faulty
+origin_fault (Form NoValue) name path ms op named at faulty = absurd faulty
+origin_fault OutOfMemory name path ms op named at faulty = tt

@@ -1,0 +1,65 @@
+-- What the editing of one part says of the document around it.
+use Rattle.std.proofs.Common.{◌≡◌, ◌<◌, ◌+◌, ◌-◌, ℕ, suc, List, [], ◌∷◌, take, Option, None, Some, option_and_then, MatchOption, refl, sym, ap, ap₂, ◌∙◌, subst, arith}
+use Rattle.std.specs.List.{slice_get, slice_range}
+use Rattle.mp_tree.specs.Document.{Document}
+use Rattle.mp_tree.specs.View.{document}
+use Rattle.mp_tree.specs.declared.doc.Doc.{Doc}
+use Rattle.mp_pointer.specs.Editing.{EditsAt}
+use Rattle.mp_pointer.specs.Lending.{PartBecomes}
+use Rattle.mp_pointer.specs.Difference.{DifferOnlyAt}
+use Rattle.mp_pointer.specs.Part.{part, child}
+use Rattle.mp_pointer.specs.Spelling.{Tokens}
+use Rattle.mp_pointer.proofs.Parts.{part-push, DifferOnlyAt-root}
+use Rattle.mp_pointer.proofs.TokenLists.{drop_token}
+use Rattle.mp_pointer.proofs.Evaluation.{becomes_deeper, nothing_changed}
+
+-- ---- the tokens from a place on
+
+pub slice_range-none : (t : Tokens) (number end : ℕ) → number ≡ end → slice_range t number end ≡ []
+slice_range-none t number end same = let none : end - number ≡ 0 = omega arith in rw none refl
+
+pub slice_range-more : (t : Tokens) (number end : ℕ) (token : List ℕ) → slice_get t number ≡ Some token → number < end → slice_range t number end ≡ token ∷ slice_range t (number + 1) end
+slice_range-more t number end token here more =
+    let count : end - number ≡ suc (end - (number + 1)) = omega arith in
+    ap₂ take count (drop_token t number token here)
+
+-- ---- a document with one child that was edited
+
+pub edits_here : (Edited : Doc → Doc → Type 0) (t : Tokens) (d e : Doc) → t ≡ [] → Edited d e → EditsAt Edited t d e
+edits_here Edited t d e none edited = record {
+  before = d;
+  after = e;
+  edited = edited;
+  stood = ap (part (document d)) none;
+  stands = ap (part (document e)) none;
+  only = subst (λ s. DifferOnlyAt s (document d) (document e)) (sym none) (DifferOnlyAt-root (document d) (document e));
+}
+
+pub edits_deeper : (Edited : Doc → Doc → Type 0) (token : List ℕ) (t : Tokens) (d e x y : Doc) → child token (document d) ≡ Some (document x) → PartBecomes (token ∷ []) (document y) (document d) (document e) → EditsAt Edited t x y
+    → EditsAt Edited (token ∷ t) d e
+edits_deeper Edited token t d e x y here outer edits =
+    let both = becomes_deeper (token ∷ []) t (document edits.after) (document y) (document d) (document x) (document e) (part-push (document d) [] token ∙ here) outer (record { stands = edits.stands; only = edits.only }) in
+    record {
+      before = edits.before;
+      after = edits.after;
+      edited = edits.edited;
+      stood = ap (option_and_then (λ f. part f t)) here ∙ edits.stood;
+      stands = both.stands;
+      only = both.only;
+    }
+
+-- ---- what an edit that may find nothing says one level up
+
+pub part-none : (d : Document) (s t : Tokens) (token : List ℕ) → s ≡ token ∷ t → child token d ≡ None → part d s ≡ None
+part-none d s t token is none = ap (part d) is ∙ ap (option_and_then (λ f. part f t)) none
+
+pub edited_child : {R : Type 0} (Edited : R → Doc → Doc → Type 0) (r : Option R) (token : List ℕ) (s t : Tokens) (d e x y : Doc) → s ≡ token ∷ t → child token (document d) ≡ Some (document x) → PartBecomes (token ∷ []) (document y) (document d) (document e)
+    → MatchOption r ((part (document x) t ≡ None) × (document y ≡ document x)) (λ o. EditsAt (Edited o) t x y)
+    → MatchOption r ((part (document d) s ≡ None) × (document e ≡ document d)) (λ o. EditsAt (Edited o) s d e)
+edited_child Edited None token s t d e x y is here outer edits =
+    (ap (part (document d)) is ∙ ap (option_and_then (λ f. part f t)) here ∙ edits.0, nothing_changed (token ∷ []) d e x y (part-push (document d) [] token ∙ here) outer edits.1)
+edited_child Edited (Some o) token s t d e x y is here outer edits = subst (λ u. EditsAt (Edited o) u d e) (sym is) (edits_deeper (Edited o) token t d e x y here outer edits)
+
+-- from the first token on
+pub from_first : (t : Tokens) (count : ℕ) → slice_range t 0 count ≡ take count t
+from_first t count = let e : count - 0 ≡ count = omega arith in rw e refl

@@ -1,0 +1,39 @@
+-- Lists of tokens: where one begins with another.
+use Rattle.std.proofs.Common.{◌≡◌, ◌≢◌, ◌<◌, ◌+◌, ℕ, List, [], ◌∷◌, ◌++◌, length, get_or, take, drop, Some, refl, sym, ap, ◌∙◌, arith, Bool, true, false, not, true≢false}
+use Rattle.std.proofs.lemmas.List.{take_all, take-append-drop, take_more, take_more_same, drop_more, get_or_append_left}
+use Rattle.std.proofs.lemmas.Option.{slice_get_within, get_or_from_slice_get}
+use Rattle.std.proofs.lemmas.Slice.Eq.{bytes_eq-Decides}
+use Rattle.std.specs.List.{slice_get}
+use Rattle.std.specs.Str.{bytes_eq}
+use Rattle.mp_pointer.specs.Spelling.{Tokens, IsProperPrefix}
+
+-- one more token is taken, or dropped
+pub take_token : (t : Tokens) (i : ℕ) (x : List ℕ) → slice_get t i ≡ Some x → take (i + 1) t ≡ take i t ++ x ∷ []
+take_token t i x here = take_more t i [] (slice_get_within t i x here) ∙ ap (λ y. take i t ++ y ∷ []) (get_or_from_slice_get t i x [] here)
+
+pub drop_token : (t : Tokens) (i : ℕ) (x : List ℕ) → slice_get t i ≡ Some x → drop i t ≡ x ∷ drop (i + 1) t
+drop_token t i x here = drop_more t i [] (slice_get_within t i x here) ∙ ap (λ y. y ∷ drop (i + 1) t) (get_or_from_slice_get t i x [] here)
+
+pub take_step : (t u : Tokens) (i : ℕ) (x : List ℕ) → slice_get t i ≡ Some x → slice_get u i ≡ Some x → take i t ≡ take i u → take (i + 1) t ≡ take (i + 1) u
+take_step t u i x here there so_far = take_more_same t u i [] (slice_get_within t i x here) (slice_get_within u i x there) so_far (get_or_from_slice_get t i x [] here ∙ sym (get_or_from_slice_get u i x [] there))
+
+pub proper_prefix : (t u : Tokens) → length t < length u → take (length t) t ≡ take (length t) u → IsProperPrefix t u
+proper_prefix t u less same =
+    let n = length t in
+    (get_or u n [], drop (n + 1) u, sym (take-append-drop n u) ∙ ap (λ xs. xs ++ drop n u) (sym same ∙ take_all n t (omega arith)) ∙ ap (λ xs. t ++ xs) (drop_more u n [] less))
+
+pub no_prefix_of_other : (t u : Tokens) (i : ℕ) (x y : List ℕ) → slice_get t i ≡ Some x → slice_get u i ≡ Some y → x ≢ y → ¬ IsProperPrefix t u
+no_prefix_of_other t u i x y here there differ p =
+    differ (sym (get_or_from_slice_get t i x [] here) ∙ sym (get_or_append_left t (p.0 ∷ p.1) [] i (slice_get_within t i x here)) ∙ ap (λ xs. get_or xs i []) (sym p.2) ∙ get_or_from_slice_get u i y [] there)
+
+-- what `!=` of two texts answers
+pub texts_differ : (xs ys : List ℕ) (r : Bool) → r ≡ not (bytes_eq xs ys) → (r ≡ false → xs ≡ ys) × (r ≡ true → xs ≢ ys)
+texts_differ xs ys r is = (λ e. (bytes_eq-Decides xs ys).0 (equal (bytes_eq xs ys) (sym is ∙ e)), λ e same. unequal (bytes_eq xs ys) (sym is ∙ e) ((bytes_eq-Decides xs ys).1 same))
+  where
+    equal : (b : Bool) → not b ≡ false → b ≡ true
+    equal true e = refl
+    equal false e = absurd (true≢false e)
+
+    unequal : (b : Bool) → not b ≡ true → b ≡ true → ⊥
+    unequal true e f = true≢false (sym e)
+    unequal false e f = true≢false (sym f)

@@ -1,5 +1,0 @@
-use Rattle.mp_pointer.proofs.EditLemmas.{from_first}
-use Rattle.mp_pointer.proofs.edit.edit_part.Goals as goal
-
-pub returns : goal.returns
-returns g c = rw (from_first c.args.pointer.now c.args.count) at c.edit_between.ensures

@@ -1,0 +1,5 @@
+use Rattle.mp_pointer.proofs.EditedParts.{from_first}
+use Rattle.mp_pointer.proofs.editing.edit_part.Goals as goal
+
+pub returns : goal.returns
+returns g c = rw (from_first c.args.pointer.now c.args.count) at c.edit_between.ensures

@@ -1,0 +1,13 @@
+use Rattle.std.proofs.Common.{◌≡◌, [], ◌∷◌, ◌++◌, Some, sym, ap, ◌∙◌}
+use Rattle.std.specs.List.{slice_get}
+use Rattle.std.specs.Option.{option_copied}
+use Rattle.mp_pointer.proofs.TokenLists.{take_token}
+use Rattle.mp_pointer.proofs.pointer.Pointer.under.Goals as goal
+
+pub loop-number-preserved : goal.loop-number-preserved
+loop-number-preserved c =
+    let t = c.args.self in
+    let i = c.loop-number.number in
+    let token = c.unwrap.result.now in
+    let here : slice_get t i ≡ Some token = sym c.token.ensures ∙ ap option_copied c.unwrap.ensures in
+    c.in_ok-push-2.ensures.ok ∙ ap (λ xs. xs ++ token ∷ []) c.loop-number.invariant ∙ ap (λ xs. c.args.token.now ∷ xs) (sym (take_token t i token here))

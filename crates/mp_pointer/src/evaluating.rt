@@ -1,0 +1,89 @@
+ghost use Rattle.std.specs.Prelude.{◌≡◌, ◌≢◌, ◌^◌, ◌≤◌, ◌↔◌, ℕ, IsTrue, slice_index, option_map, MatchOption, string_bytes};
+ghost use Rattle.std.specs.Borrow.{sem};
+ghost use Rattle.mp_tree.specs.View.{document};
+ghost use Rattle.mp_pointer.specs.Lending.{LendsPart};
+ghost use Rattle.mp_pointer.specs.Part.{child, numeral, part};
+
+use crate::lending::child_mut;
+use crate::pointer::Pointer;
+use mp_tree::Doc;
+
+/// The index that a token spells (RFC 6901 section 4): `0`, or decimal digits that do not begin with `0`.
+/// None for any other token, `-` among them, and for an index over `usize::MAX`.
+///
+/// ```text
+/// index_of("10")  // Some(10)
+/// index_of("01")  // None
+/// ```
+pub fn index_of(token: &str) -> Option<usize>
+    ensures { MatchOption result ((i : ℕ) → token.now ≡ numeral i → 2 ^ 64 ≤ i)
+        (λ i. token.now ≡ numeral i) }
+{
+    if token == "0" {
+        return Some(0);
+    }
+    if begins_above_zero(token) {
+        token.parse::<usize>().ok()
+    } else {
+        None
+    }
+}
+
+fn begins_above_zero(token: &str) -> bool
+    ensures { IsTrue result ↔ (49 ≤ slice_index token.now 0) × (slice_index token.now 0 ≤ 57) }
+{
+    let bytes = token.as_bytes();
+    !bytes.is_empty() && bytes[0] >= b'1' && bytes[0] <= b'9'
+}
+
+/// The part of the document that the pointer names, borrowed (RFC 6901 section 4): the document itself for the
+/// empty pointer. None exactly where there is none: a name that a map lacks, a token that spells no index of a
+/// list, or any token at a scalar. Takes no memory.
+///
+/// ```text
+/// get(&doc, &pointer)  // for /foo/1 in {"foo":["bar","baz"]}: "baz"
+/// ```
+pub fn get<'a>(doc: &'a Doc, pointer: &Pointer) -> Option<&'a Doc>
+    ensures { option_map (λ d. document d.now) result ≡ part (document doc.now) pointer.now }
+{
+    let mut target = doc;
+    for number in 0..pointer.len() {
+        target = child_of(target, pointer.token(number).unwrap())?;
+    }
+    Some(target)
+}
+
+/// The part of the document that the pointer names, lent for writing (RFC 6901 section 4). None exactly where `get`
+/// answers None, and then nothing has changed. Once the borrow ends, the document differs from the old one at that
+/// place alone, and has there what was left in the borrow. Takes no memory.
+///
+/// ```text
+/// // {"a":[1,2]} becomes {"a":[1,null]}, where pointer is /a/1
+/// if let Some(part) = get_mut(&mut doc, &pointer) {
+///     *part = Doc::Null;
+/// }
+/// ```
+// proofs/evaluating/get_mut/Proof.antt follows this body statement by statement.
+pub fn get_mut<'a>(doc: &'a mut Doc, pointer: &Pointer) -> Option<&'a mut Doc>
+    ensures* writes_back { sem 𝓛 (LendsPart pointer.now doc.entry result) }
+    ensures value { option_map (λ d. document d.now) result ≡ part (document doc.old) pointer.now }
+{
+    let mut target = doc;
+    for number in 0..pointer.len() {
+        match child_mut(target, pointer, number) {
+            Some(child) => target = child,
+            None => return None,
+        }
+    }
+    Some(target)
+}
+
+fn child_of<'a>(doc: &'a Doc, token: &str) -> Option<&'a Doc>
+    ensures { option_map (λ d. document d.now) result ≡ child token.now (document doc.now) }
+{
+    match doc {
+        Doc::Items(elements) => elements.get(index_of(token)?),
+        Doc::Members(entries) => entries.get(token),
+        Doc::Null | Doc::Flag(_) | Doc::Whole(_) | Doc::Text(_) => None,
+    }
+}

@@ -1,0 +1,64 @@
+use Rattle.std.proofs.Common.{◌≡◌, ◌≤◌, [], ◌∷◌, ◌++◌, get_or, suc, sym, ap, ◌∙◌, append_assoc, append-nil, rules, arith}
+use Rattle.std.specs.BTreeMap.{values}
+use Rattle.mp_tree.specs.Document.{depth, object, items_depth, members_depth}
+use Rattle.mp_tree.specs.View.{document, items}
+use Rattle.mp_tree.specs.Private.Entries.{members}
+use Rattle.mp_tree.proofs.Depths.{items_depth_from_each, items_depth-append, members_depth-members}
+use Rattle.mp_tree.proofs.Meaning.{document-Members}
+use Rattle.mp_tree.proofs.ReadValues.{item_depth}
+use Rattle.mp_tree.proofs.measuring.+fits.Goals as goal
+
+pub are_items_within-returns-then-not-is_within : goal.are_items_within-returns-then-not-is_within
+are_items_within-returns-then-not-is_within t c =
+    let given = c.deref-element-items.result.now in
+    let i = c.loop-element.element-index in
+    let d = c.element-item.result in
+    let part : depth (document (get_or given i d)) ≤ items_depth (items given) = item_depth given i d c.loop-element-test.true in
+    let same : depth (document d) ≡ depth (document (get_or given i d)) = ap (λ e. depth (document e)) c.element-item.is in
+    let whole : items_depth (items given) ≡ items_depth (items c.args.elements.now.items) = ap (λ ds. items_depth (items ds)) c.deref-element-items.ensures.value in
+    (λ never. absurd (cc), λ shallow_document. let found = c.is_within.ensures.1 (omega arith) in absurd (cc))
+
+pub are_items_within-returns : goal.are_items_within-returns
+are_items_within-returns t c =
+    let given = c.deref-element-items.result.now in
+    let shallow_document : items_depth (items given) ≤ c.args.limit = items_depth_from_each given c.args.limit (λ k d below. c.loop-element.invariant k d (omega arith)) in
+    let whole : items_depth (items given) ≡ items_depth (items c.args.elements.now.items) = ap (λ ds. items_depth (items ds)) c.deref-element-items.ensures.value in
+    (λ yes. omega arith, λ known. search rules)
+
+pub are_members_within-returns-then-not-is_within : goal.are_members_within-returns-then-not-is_within
+are_members_within-returns-then-not-is_within t c =
+    let l = c.loop-value in
+    let d = c.in-Some.value.now in
+    let left = c.next.new.self in
+    let all : values c.args.entries.now ≡ l.invariant.0 ++ d ∷ left = l.invariant.1 ∙ ap (λ ds. l.invariant.0 ++ ds) c.in-Some.ensures.steps in
+    let deep : items_depth (items (values c.args.entries.now)) ≡ _ = ap (λ ds. items_depth (items ds)) all ∙ items_depth-append l.invariant.0 (d ∷ left) in
+    let whole = members_depth-members c.args.entries.now.entries c.values-value-items.ensures.ordered in
+    (λ never. absurd (cc), λ shallow_document. let found = c.is_within.ensures.1 (omega arith) in absurd (cc))
+
+pub are_members_within-loop-value-preserved : goal.are_members_within-loop-value-preserved
+are_members_within-loop-value-preserved t c =
+    let l = c.loop-value in
+    let done = l.invariant.0 in
+    let d = c.in-Some.value.now in
+    let left = c.next.new.self in
+    let all : values c.args.entries.now ≡ done ++ d ∷ left = l.invariant.1 ∙ ap (λ ds. done ++ ds) c.in-Some.ensures.steps in
+    let here : depth (document d) ≤ c.args.limit = c.is_within.ensures.0 (search rules) in
+    let both = items_depth-append done (d ∷ []) in
+    (done ++ d ∷ [], all ∙ sym (append_assoc done (d ∷ []) left), omega arith)
+
+pub are_members_within-returns : goal.are_members_within-returns
+are_members_within-returns t c =
+    let l = c.loop-value in
+    let all : values c.args.entries.now ≡ l.invariant.0 = l.invariant.1 ∙ ap (λ ds. l.invariant.0 ++ ds) c.in-None.ensures.steps.0 ∙ append-nil l.invariant.0 in
+    let deep : items_depth (items (values c.args.entries.now)) ≡ items_depth (items l.invariant.0) = ap (λ ds. items_depth (items ds)) all in
+    let whole = members_depth-members c.args.entries.now.entries c.values-value-items.ensures.ordered in
+    let shallow_document = l.invariant.2 in
+    (λ yes. omega arith, λ known. search rules)
+
+pub is_within-returns-then-limit-gt0-2 : goal.is_within-returns-then-limit-gt0-2
+is_within-returns-then-limit-gt0-2 t c =
+    let entries = c.in-Members.entries in
+    let is : document c.args.doc.now ≡ object (members entries.entries) = ap document c.in-Members.is ∙ document-Members entries in
+    let deep : depth (document c.args.doc.now) ≡ suc (members_depth (members entries.entries)) = ap depth is in
+    let limit = c.if-limit-gt0-2.true in
+    (λ yes. let within = c.are_members_within.ensures.0 yes in omega arith, λ shallow_document. c.are_members_within.ensures.1 (omega arith))

@@ -1,0 +1,140 @@
+// From `serde_json`'s value to a document, by value: texts and names are moved.
+ghost use Rattle.std.specs.Prelude.{◌≡◌, ◌≢◌, None, Some, Err, IfOk, option_map};
+ghost use Rattle.serde_json.specs.View.{view, items_view, members_view, number_view};
+ghost use Rattle.mp_tree.specs.View.{document, items, number_of};
+ghost use Rattle.mp_tree.specs.Private.Entries.{members};
+ghost use Rattle.mp_tree.specs.Text.{document_from, items_from, members_from, whole_number};
+
+use crate::building::{FEW, map_of};
+use crate::doc::Doc;
+use crate::whole::Whole;
+use serde_json::{Map, Number, Value};
+use std::alloc::{AllocError, AllocFailed, Global};
+use std::collections::BTreeMap;
+
+// Why bytes or a value are no document.
+#[derive(Clone, Copy, Drop, PartialEq, Eq)]
+pub(crate) enum Unread {
+    NotJson,
+    NotWhole,
+    OutOfMemory,
+}
+
+impl From<AllocError> for Unread {
+    ghost use Rattle.mp_tree.specs.declared.converting.Unread.TheVariants.{OutOfMemory};
+
+    ghost from_gives = { λ _ e. e ≡ OutOfMemory };
+
+    fn from(_refused: AllocError) -> Unread {
+        Unread::OutOfMemory
+    }
+}
+
+impl<T: Drop> From<AllocFailed<T>> for Unread {
+    ghost use Rattle.mp_tree.specs.declared.converting.Unread.TheVariants.{OutOfMemory};
+
+    ghost from_gives = { λ _ e. e ≡ OutOfMemory };
+
+    fn from(_refused: AllocFailed<T>) -> Unread {
+        Unread::OutOfMemory
+    }
+}
+
+#[cycle(doc_of)]
+#[inline(always)]
+pub(crate) fn doc_of(value: Value, alloc: Global) -> Result<Doc, Unread>
+    ensures ok { IfOk result (λ d. document_from (view value) ≡ Some (document d)) }
+    ensures not_whole { result ≡ Err Unread.NotWhole → document_from (view value) ≡ None }
+    ensures is_json { result ≢ Err Unread.NotJson }
+{
+    match value {
+        Value::Null => Ok(Doc::Null),
+        Value::Bool(flag) => Ok(Doc::Flag(flag)),
+        Value::Number(number) => match whole_of(&number) {
+            Some(whole) => Ok(Doc::Whole(whole)),
+            None => Err(Unread::NotWhole),
+        },
+        Value::String(text) => Ok(Doc::Text(text)),
+        Value::Array(values) => Ok(Doc::Items(docs_of(values, alloc)?)),
+        Value::Object(values) => Ok(Doc::Members(members_of(values, alloc)?)),
+    }
+}
+
+fn whole_of(number: &Number) -> Option<Whole>
+    ensures { option_map number_of result ≡ whole_number (number_view number.now) }
+{
+    if let Some(value) = number.as_u64() {
+        return Some(Whole::from_u64(value));
+    }
+    match number.as_i64() {
+        Some(value) => Some(Whole::from_i64(value)),
+        None => None,
+    }
+}
+
+#[cycle(doc_of)]
+fn docs_of(values: Vec<Value>, alloc: Global) -> Result<Vec<Doc>, Unread>
+    ensures ok { IfOk result (λ docs. items_from (items_view values.items)
+        ≡ Some (items docs.items)) }
+    ensures not_whole { result ≡ Err Unread.NotWhole → items_from (items_view values.items) ≡ None }
+    ensures is_json { result ≢ Err Unread.NotJson }
+{
+    let mut docs = Vec::with_capacity(alloc, values.len())?;
+    for value in values {
+        docs.push(doc_of(value, alloc)?)?;
+    }
+    Ok(docs)
+}
+
+#[cycle(doc_of)]
+#[inline(always)]
+fn members_of(values: Map<String, Value>, alloc: Global) -> Result<BTreeMap<String, Doc>, Unread>
+    ensures ok { IfOk result (λ docs. members_from (members_view values.entries)
+        ≡ Some (members docs.entries)) }
+    ensures not_whole { result ≡ Err Unread.NotWhole
+        → members_from (members_view values.entries) ≡ None }
+    ensures is_json { result ≢ Err Unread.NotJson }
+{
+    if values.len() <= FEW {
+        few_members_of(values, alloc)
+    } else {
+        many_members_of(values, alloc)
+    }
+}
+
+#[cycle(doc_of)]
+fn many_members_of(
+    values: Map<String, Value>,
+    alloc: Global,
+) -> Result<BTreeMap<String, Doc>, Unread>
+    ensures ok { IfOk result (λ docs. members_from (members_view values.entries)
+        ≡ Some (members docs.entries)) }
+    ensures not_whole { result ≡ Err Unread.NotWhole
+        → members_from (members_view values.entries) ≡ None }
+    ensures is_json { result ≢ Err Unread.NotJson }
+{
+    let mut pairs = Vec::with_capacity(alloc, values.len())?;
+    for (name, value) in values {
+        pairs.push((name, doc_of(value, alloc)?))?;
+    }
+    Ok(map_of(alloc, pairs)?)
+}
+
+// The same with an insertion each, and no list of the pairs.
+#[cycle(doc_of)]
+fn few_members_of(
+    values: Map<String, Value>,
+    alloc: Global,
+) -> Result<BTreeMap<String, Doc>, Unread>
+    ensures ok { IfOk result (λ docs. members_from (members_view values.entries)
+        ≡ Some (members docs.entries)) }
+    ensures not_whole { result ≡ Err Unread.NotWhole
+        → members_from (members_view values.entries) ≡ None }
+    ensures is_json { result ≢ Err Unread.NotJson }
+{
+    let mut docs = BTreeMap::new(alloc);
+    for (name, value) in values {
+        drop(docs.insert(name, doc_of(value, alloc)?)?);
+    }
+    Ok(docs)
+}

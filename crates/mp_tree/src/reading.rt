@@ -1,0 +1,141 @@
+//! Documents from JSON texts.
+ghost use Rattle.std.specs.Prelude.{◌≡◌, ◌≢◌, ◌≤◌, All, None, Some, IsSome, Ok, Err, IfOk, IfErr};
+ghost use Rattle.serde_json.specs.Read.{max_depth};
+ghost use Rattle.mp_tree.specs.Document.{depth, depth_limit};
+ghost use Rattle.mp_tree.specs.View.{document, items};
+ghost use Rattle.mp_tree.specs.Text.{document_in, documents_in, read, reading};
+
+use crate::converting::{Unread, doc_of};
+use crate::doc::Doc;
+use serde_json::Value;
+use std::alloc::Global;
+use thiserror::Error;
+
+/// The depth of the deepest document that is read on its own, so that it may stand in an array
+/// within `serde_json`'s nesting of 127. What a patch places is held within it too.
+pub const DEPTH_LIMIT: u32 = 126;
+
+/// Why bytes gave no document.
+#[derive(Clone, Copy, Debug, Drop, PartialEq, Eq, Error)]
+pub enum ReadFault {
+    /// no JSON text of nesting at most 127, or not UTF-8
+    #[error("not JSON")]
+    NotJson,
+    /// a number with a fraction or an exponent, or outside -2^63 to 2^64 - 1
+    #[error("number not whole")]
+    NotWhole,
+    /// the depth is 127
+    #[error("too deep")]
+    TooDeep,
+    /// memory ran out
+    #[error("out of memory")]
+    OutOfMemory,
+}
+
+/// The document that a JSON text (RFC 8259) is.
+///
+/// The first fault that holds is answered: `NotJson` where `serde_json` has no reading (the bytes are not UTF-8,
+/// nest deeper than 127, or go on after the value), `NotWhole` where a number is not whole or is outside
+/// -2^63 to 2^64 - 1, `TooDeep` where the depth is 127; `OutOfMemory` may come at any point.
+///
+/// ```text
+/// read_doc(alloc, b"{\"a\":1}")  // an object with one name
+/// read_doc(alloc, b"1.5")         // Err(ReadFault::NotWhole)
+/// ```
+pub fn read_doc(alloc: Global, bytes: &[u8]) -> Result<Doc, ReadFault>
+    ensures document { IfOk result (λ d. document_in bytes.now ≡ Ok (document d)) }
+    ensures faults { IfErr result (λ fault. fault ≢ ReadFault.OutOfMemory
+        → document_in bytes.now ≡ Err fault) }
+    ensures depth { IfOk result (λ d. depth (document d) ≤ depth_limit) }
+{
+    let doc = read_tree(alloc, bytes)?;
+    if doc.fits(DEPTH_LIMIT) {
+        Ok(doc)
+    } else {
+        Err(ReadFault::TooDeep)
+    }
+}
+
+impl From<Unread> for ReadFault {
+    ghost use Rattle.mp_tree.specs.Private.Faults.{read_fault};
+
+    ghost from_gives = { λ unread fault. fault ≡ read_fault unread };
+
+    fn from(unread: Unread) -> ReadFault {
+        match unread {
+            Unread::NotJson => ReadFault::NotJson,
+            Unread::NotWhole => ReadFault::NotWhole,
+            Unread::OutOfMemory => ReadFault::OutOfMemory,
+        }
+    }
+}
+
+/// Why bytes gave no list of documents.
+#[derive(Clone, Copy, Debug, Drop, PartialEq, Eq, Error)]
+pub enum DocsFault {
+    /// no JSON text of nesting at most 127, or not UTF-8
+    #[error("not JSON")]
+    NotJson,
+    /// a number with a fraction or an exponent, or outside -2^63 to 2^64 - 1
+    #[error("number not whole")]
+    NotWhole,
+    /// the value is no array
+    #[error("not an array")]
+    NotAnArray,
+    /// memory ran out
+    #[error("out of memory")]
+    OutOfMemory,
+}
+
+/// The documents that stand in one JSON array (RFC 8259), as `jq -s .` makes it from several texts.
+///
+/// The first fault that holds is answered: `NotJson` where `serde_json` has no reading (the bytes are not UTF-8,
+/// nest deeper than 127, or go on after the value), `NotWhole` where a number is not whole or is outside
+/// -2^63 to 2^64 - 1, `NotAnArray` where the value is something else; `OutOfMemory` may come at any point.
+///
+/// ```text
+/// read_docs(alloc, b"[1,{}]")   // two documents
+/// read_docs(alloc, b"5")        // Err(DocsFault::NotAnArray)
+/// ```
+pub fn read_docs(alloc: Global, bytes: &[u8]) -> Result<Vec<Doc>, DocsFault>
+    ensures documents { IfOk result (λ docs. documents_in bytes.now ≡ Ok (items docs.items)) }
+    ensures faults { IfErr result (λ fault. fault ≢ DocsFault.OutOfMemory
+        → documents_in bytes.now ≡ Err fault) }
+    ensures depth { IfOk result (λ docs. All (λ d. depth (document d) ≤ depth_limit) docs.items) }
+{
+    match read_tree(alloc, bytes)? {
+        Doc::Items(docs) => Ok(docs),
+        _ => Err(DocsFault::NotAnArray),
+    }
+}
+
+impl From<Unread> for DocsFault {
+    ghost use Rattle.mp_tree.specs.Private.Faults.{docs_fault};
+
+    ghost from_gives = { λ unread fault. fault ≡ docs_fault unread };
+
+    fn from(unread: Unread) -> DocsFault {
+        match unread {
+            Unread::NotJson => DocsFault::NotJson,
+            Unread::NotWhole => DocsFault::NotWhole,
+            Unread::OutOfMemory => DocsFault::OutOfMemory,
+        }
+    }
+}
+
+fn read_tree(alloc: Global, bytes: &[u8]) -> Result<Doc, Unread>
+    ensures ok { IfOk result (λ d. read bytes.now ≡ Some (document d)) }
+    ensures nests { IfOk result (λ d. depth (document d) ≤ max_depth) }
+    ensures not_json { result ≡ Err Unread.NotJson → reading bytes.now ≡ None }
+    ensures not_whole { result ≡ Err Unread.NotWhole
+        → (IsSome (reading bytes.now) × (read bytes.now ≡ None)) }
+{
+    match Value::from_slice(alloc, bytes) {
+        Ok(value) => doc_of(value, alloc),
+        Err(fault) => if fault.is_memory() {
+            Err(Unread::OutOfMemory)
+        } else {
+            Err(Unread::NotJson)
+        },
+    }
+}

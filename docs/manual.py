@@ -1,0 +1,98 @@
+#!/usr/bin/env python3
+"""Prints the man page docs/mergejoin.1: what it says of each subcommand, and of the limits, is the program's help.
+
+    docs/manual.py >docs/mergejoin.1
+
+checks/help prints it again and compares.
+"""
+
+import pathlib
+import re
+import subprocess
+
+TOP = pathlib.Path(__file__).resolve().parent.parent
+
+HEAD = """\
+.TH MERGEJOIN 1
+.nh
+.ad l
+.SH NAME
+mergejoin \\- merge, join, replay, patch and rewrite JSON documents
+.SH SYNOPSIS
+.B mergejoin
+.I SUBCOMMAND
+.br
+.B mergejoin \\-\\-help
+.SH DESCRIPTION"""
+
+RESULT = "Prints one JSON text, compact, with names in the order of their UTF\\-8 bytes."
+
+TAIL = """\
+.SH EXIT STATUS
+.TP
+.B 0
+A result is on standard output.
+.TP
+.B 1
+There is no result: missing; operation K: CAUSE; conflict: patches I and J at POINTER, ..;
+no patches.
+.TP
+.B 2
+The input or a word is at fault: input: not JSON, number not whole, wrong shape, too long;
+pointer: no slash, bad tilde at N; operation K: FORM; or how the words are to be.
+.TP
+.B 3
+read failed, write failed, or out of memory.
+.PP
+Where the status is not 0, standard error says why, in one line unless the words are at fault,
+and nothing is on standard output. Patches and operations are numbered from 0, the document not counted.
+.SH EXAMPLES
+Replicas that received the same patches in other orders show one document:
+.PP
+.nf
+printf \\(aq%s\\(aq \\(aq[{"k":0},{"a":{"x":1}},{"k":null}]\\(aq | mergejoin replay
+printf \\(aq%s\\(aq \\(aq[{"k":0},{"k":null},{"a":{"x":1}},{"k":null}]\\(aq | mergejoin replay
+.fi
+.SH SEE ALSO
+.BR jq (1)"""
+
+
+def help_of(*words):
+    done = subprocess.run([TOP / "bin/mergejoin", *words, "--help"], capture_output=True, text=True, check=True)
+    return done.stdout
+
+
+def roff(text):
+    """Spells a text so that roff shows it as it is."""
+    for plain, spelled in (("\\", "\\e"), ("-", "\\-"), ("'", "\\(aq"), ("^", "\\(ha"), ("~", "\\(ti"), ("`", "\\(ga")):
+        text = text.replace(plain, spelled)
+    return text
+
+
+def subcommand(name):
+    """Gives the lines of one subcommand: its words, what it is for, its input, an example and its statuses."""
+    text = help_of(name)
+    words = re.search(r"^Usage: mergejoin (.*)$", text, flags=re.M)[1].split()
+    yield ".TP"
+    yield " ".join([".B", words[0]]) if len(words) == 1 else f'.BI {words[0]} " {words[1].strip("<>")}"'
+    yield roff(text.splitlines()[0]) + "."
+    for label in ("Input", "Example", "Status"):
+        yield ".br"
+        yield roff(re.search(f"^{label}: .*$", text, flags=re.M)[0])
+
+
+def main():
+    text = help_of()
+    names = re.findall(r"^  (\w+) +\S", text.split("Commands:\n")[1].split("\n\n")[0], flags=re.M)
+    print(HEAD)
+    print(roff(text.splitlines()[0]) + ".")
+    print(RESULT)
+    print(".PP")
+    print(roff(re.search(r"^Limits: .*$", text, flags=re.M)[0]))
+    print(".SH SUBCOMMANDS")
+    for name in names:
+        print("\n".join(subcommand(name)))
+    print(TAIL)
+
+
+main()
