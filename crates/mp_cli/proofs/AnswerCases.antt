@@ -1,12 +1,12 @@
 -- What the commands over lists of patches answer.
-use Rattle.std.proofs.Common.{◌≡◌, ◌==◌, false, List, [], ◌∷◌, length, map, drop, get_or, Result, Ok, Err, IfOk, refl, sym, ap, ap₂, subst}
+use Rattle.std.proofs.Common.{◌≡◌, ◌≢◌, ℕ, List, [], ◌∷◌, map, Result, Ok, Err, IfOk, refl, sym, ap, subst}
 use Rattle.mp_tree.specs.Document.{Document}
 use Rattle.mp_tree.specs.View.{document, items}
 use Rattle.mp_tree.specs.declared.doc.Doc.{Doc}
 use Rattle.mp_merge.specs.Lists.{IsJoinAllFault, IsReplayFault}
 use Rattle.mp_merge.specs.declared.fault.ListFault.{ListFault}
 use Rattle.mp_merge.specs.declared.fault.ListFault.TheVariants.{NoPatches, ConflictOf, OutOfMemory}
-use Rattle.mp_cli.specs.Answered.{IsJoinAnswer, none_joined, join_refused, IsReplayAnswer, replay_refused, IsPatchAnswerTo, IsReplayAnswerTo, IsRewriteAnswerTo}
+use Rattle.mp_cli.specs.Answered.{IsJoinAnswer, none_joined, join_refused, IsReplayAnswer, replay_refused, IsPatchAnswerTo, IsReplayAnswerTo, IsRewriteAnswerTo, get_answer}
 use Rattle.mp_tree.specs.Elements.{list_of}
 use Rattle.mp_cli.specs.Lines.{Answered, wrong_shape}
 use Rattle.mp_cli.specs.Private.Answers.{list_fault}
@@ -30,19 +30,20 @@ pub if_both : {X Y : Type 0} (r : Result X Y) (P Q R : X → Type 0) → IfOk r 
 if_both (Ok x) P Q R one other both = both x one other
 if_both (Err e) P Q R one other both = tt
 
--- a list that is not empty is its first element and the rest
-pub first_and_rest : (docs ps : List Doc) (d : Doc) → false ≡ (length docs == 0) → d ≡ get_or docs 0 d → ps ≡ drop 1 docs → docs ≡ d ∷ ps
-first_and_rest [] ps d some first rest = absurd (let differ = some in cc)
-first_and_rest (e ∷ docs) ps d some first rest = ap₂ (λ x xs. x ∷ xs) (sym first) (sym rest)
-
 -- the input of `replay` is its start and the patches
 pub replay_answer : (docs ps : List Doc) (d : Doc) (a : Answered) → docs ≡ d ∷ ps → IsReplayAnswer (document d) (map document ps) a → IsReplayAnswerTo (items docs) a
 replay_answer docs ps d a split is =
     subst (λ (ds : List Doc). IsReplayAnswerTo (items ds) a) (sym split) (subst (λ (qs : List Document). IsReplayAnswer (document d) qs a) (sym (list_of-items ps)) is)
 
--- `patch` and `rewrite` take two documents
-pub not_two : (docs : List Doc) (a : Answered) → (length docs ≡ 2 → ⊥) → a ≡ wrong_shape → IsPatchAnswerTo (items docs) a × IsRewriteAnswerTo (items docs) a
-not_two [] a other is = (is, is)
-not_two (d ∷ []) a other is = (is, is)
-not_two (d ∷ e ∷ []) a other is = absurd (other refl)
-not_two (d ∷ e ∷ f ∷ docs) a other is = (is, is)
+-- `get` wants one document
+pub no_single : (pointer : List ℕ) (docs : List Doc) → ((d : Doc) → docs ≢ d ∷ []) → get_answer pointer (items docs) ≡ wrong_shape
+no_single pointer [] other = refl
+no_single pointer (d ∷ []) other = absurd (other d refl)
+no_single pointer (d ∷ e ∷ docs) other = refl
+
+-- `patch` and `rewrite` want two
+pub no_pair : (docs : List Doc) (a : Answered) → ((d e : Doc) → docs ≢ d ∷ e ∷ []) → a ≡ wrong_shape → IsPatchAnswerTo (items docs) a × IsRewriteAnswerTo (items docs) a
+no_pair [] a other is = (is, is)
+no_pair (d ∷ []) a other is = (is, is)
+no_pair (d ∷ e ∷ []) a other is = absurd (other d e refl)
+no_pair (d ∷ e ∷ f ∷ docs) a other is = (is, is)

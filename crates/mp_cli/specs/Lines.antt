@@ -10,12 +10,9 @@ use Rattle.mp_pointer.specs.Part.{numeral}
 use Rattle.mp_pointer.specs.Spelling.{spell}
 use Rattle.mp_pointer.specs.declared.fault.PointerFault.{PointerFault}
 use Rattle.mp_pointer.specs.declared.fault.PointerFault.TheVariants.{NoSlash, BadTilde, OutOfMemory as NoMemory}
+use Rattle.mp_patch.specs.Texts.{cause_text, form_text}
 use Rattle.mp_patch.specs.declared.fault.ApplyFault.{ApplyFault}
 use Rattle.mp_patch.specs.declared.fault.ApplyFault.TheVariants.{Refused, OutOfMemory as RunMemory}
-use Rattle.mp_patch.specs.declared.fault.Cause.{Cause}
-use Rattle.mp_patch.specs.declared.fault.Cause.TheVariants.{IntoItself, RemoveRoot, Missing, NoPlace, TooDeep, TestFailed}
-use Rattle.mp_patch.specs.declared.fault.FormCause.{FormCause}
-use Rattle.mp_patch.specs.declared.fault.FormCause.TheVariants.{NotAnObject, NoOp, UnknownOp, NoPath, NoFrom, BadPointer, NoValue}
 use Rattle.mp_patch.specs.declared.fault.FormFault.{FormFault}
 use Rattle.mp_patch.specs.declared.fault.FormFault.TheVariants.{NotAnArray as NoList, Form, OutOfMemory as FormMemory}
 use Rattle.mp_cli.specs.declared.running.RunFault.{RunFault}
@@ -88,32 +85,15 @@ part_line (Some d) = result_line d
 abbrev pub operation_line : ℕ → List ℕ → ℕ → Answered
 operation_line number words status = line (codes "operation " ++ numeral number ++ codes ": " ++ words) status
 
-abbrev pub form_words : FormCause → List ℕ
-form_words NotAnObject = codes "not an object"
-form_words NoOp = codes "no op"
-form_words UnknownOp = codes "unknown op"
-form_words NoPath = codes "no path"
-form_words NoFrom = codes "no from"
-form_words BadPointer = codes "bad pointer"
-form_words NoValue = codes "no value"
-
-abbrev pub cause_words : Cause → List ℕ
-cause_words IntoItself = codes "into itself"
-cause_words RemoveRoot = codes "remove of root"
-cause_words Missing = codes "missing"
-cause_words NoPlace = codes "no place"
-cause_words TooDeep = codes "too deep"
-cause_words TestFailed = codes "test failed"
-
 -- what is wrong with the form of a patch
 abbrev pub form_fault : FormFault → Answered
 form_fault NoList = wrong_shape
-form_fault (Form number cause) = operation_line number (form_words cause) status_refused
+form_fault (Form number cause) = operation_line number (form_text cause) status_refused
 form_fault FormMemory = memory_line
 
 -- why a patch has no result
 abbrev pub run_fault : ApplyFault → Answered
-run_fault (Refused number cause) = operation_line number (cause_words cause) status_no_result
+run_fault (Refused number cause) = operation_line number (cause_text cause) status_no_result
 run_fault RunMemory = memory_line
 
 -- a pointer as a JSON string

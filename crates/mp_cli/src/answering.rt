@@ -7,6 +7,7 @@ ghost use Rattle.mp_cli.specs.Private.Answers.{Gives};
 
 use crate::answers::Answer;
 use crate::command::Command;
+use crate::inputs::{first_and_rest, pair, single};
 use crate::lines::{
     fault_answer, fault_in_form, fault_in_list, fault_in_run, fault_in_spelling, part, result_line,
     wrong_shape,
@@ -37,38 +38,35 @@ pub fn answer(alloc: Global, command: &Command, input: &[u8]) -> Result<Answer, 
 {
     match read_docs(alloc, input) {
         Ok(docs) => match command {
-            Command::Get(pointer) => get(alloc, pointer.as_str(), docs.as_slice()),
+            Command::Get(pointer) => get(alloc, pointer.as_str(), docs),
             Command::Patch => patch(alloc, docs),
             Command::Merge => merge(alloc, docs),
             Command::Join => join(alloc, docs.as_slice()),
             Command::Replay => replay(alloc, docs),
-            Command::Rewrite => rewrite(alloc, docs.as_slice()),
+            Command::Rewrite => rewrite(alloc, docs),
         },
         Err(fault) => fault_answer(alloc, fault),
     }
 }
 
-fn get(alloc: Global, pointer: &str, docs: &[Doc]) -> Result<Answer, AllocError>
-    ensures { Gives result (get_answer pointer.now (items docs.now)) }
+fn get(alloc: Global, pointer: &str, docs: Vec<Doc>) -> Result<Answer, AllocError>
+    ensures { Gives result (get_answer pointer.now (items docs.items)) }
 {
-    if docs.len() != 1 {
+    let Some(doc) = single(docs) else {
         return wrong_shape(alloc);
-    }
-    let doc = &docs[0];
+    };
     match Pointer::parse(alloc, pointer) {
-        Ok(pointer) => part(alloc, part_at(doc, &pointer)),
+        Ok(pointer) => part(alloc, part_at(&doc, &pointer)),
         Err(fault) => fault_in_spelling(alloc, fault),
     }
 }
 
-fn patch(alloc: Global, mut docs: Vec<Doc>) -> Result<Answer, AllocError>
+fn patch(alloc: Global, docs: Vec<Doc>) -> Result<Answer, AllocError>
     ensures { IfOk result (λ a. IsPatchAnswerTo (items docs.items) (answered_by a)) }
 {
-    if docs.len() != 2 {
+    let Some((doc, patch)) = pair(docs) else {
         return wrong_shape(alloc);
-    }
-    let patch = docs.remove(1);
-    let doc = docs.remove(0);
+    };
     read_and_apply(alloc, doc, &patch)
 }
 
@@ -94,11 +92,10 @@ fn apply_patch(alloc: Global, doc: Doc, patch: &JsonPatch) -> Result<Answer, All
 fn merge(alloc: Global, docs: Vec<Doc>) -> Result<Answer, AllocError>
     ensures { Gives result (merge_answer (items docs.items)) }
 {
-    let mut inputs = docs.into_iter();
-    let Some(mut doc) = inputs.next() else {
+    let Some((mut doc, patches)) = first_and_rest(docs) else {
         return wrong_shape(alloc);
     };
-    for patch in inputs {
+    for patch in patches {
         doc = merge_owned(alloc, Some(doc), patch)?;
     }
     result_line(write_doc(alloc, &doc)?)
@@ -113,26 +110,25 @@ fn join(alloc: Global, patches: &[Doc]) -> Result<Answer, AllocError>
     }
 }
 
-fn replay(alloc: Global, mut docs: Vec<Doc>) -> Result<Answer, AllocError>
+fn replay(alloc: Global, docs: Vec<Doc>) -> Result<Answer, AllocError>
     ensures { IfOk result (λ a. IsReplayAnswerTo (items docs.items) (answered_by a)) }
 {
-    if docs.is_empty() {
+    let Some((start, patches)) = first_and_rest(docs) else {
         return wrong_shape(alloc);
-    }
-    let start = docs.remove(0);
-    match replay_owned(alloc, start, docs.as_slice()) {
+    };
+    match replay_owned(alloc, start, patches.as_slice()) {
         Ok(doc) => result_line(write_doc(alloc, &doc)?),
         Err(fault) => fault_in_list(alloc, fault),
     }
 }
 
-fn rewrite(alloc: Global, docs: &[Doc]) -> Result<Answer, AllocError>
-    ensures { IfOk result (λ a. IsRewriteAnswerTo (items docs.now) (answered_by a)) }
+fn rewrite(alloc: Global, docs: Vec<Doc>) -> Result<Answer, AllocError>
+    ensures { IfOk result (λ a. IsRewriteAnswerTo (items docs.items) (answered_by a)) }
 {
-    if docs.len() != 2 {
+    let Some((doc, patch)) = pair(docs) else {
         return wrong_shape(alloc);
-    }
-    rewrite_patch(alloc, &docs[0], &docs[1])
+    };
+    rewrite_patch(alloc, &doc, &patch)
 }
 
 fn rewrite_patch(alloc: Global, doc: &Doc, patch: &Doc) -> Result<Answer, AllocError>

@@ -7,6 +7,7 @@ pub mod answers;
 mod command;
 mod counted;
 mod help;
+mod inputs;
 pub mod laws;
 mod lines;
 mod running;

@@ -2,14 +2,14 @@
 ghost use Rattle.std.specs.Prelude.{◌≡◌, ◌≢◌, ◌++◌, IfOk, option_map, string_bytes};
 ghost use Rattle.mp_tree.specs.View.{document};
 ghost use Rattle.mp_pointer.specs.Part.{numeral};
-ghost use Rattle.mp_cli.specs.Lines.{bad_tilde_line, cause_words, conflict_line, form_fault, form_words, input_fault, line as line_with, operation_line, part_line, pointer_text, pointers_text, run_fault, spelling_fault, wrong_shape as shape_fault};
+ghost use Rattle.mp_cli.specs.Lines.{bad_tilde_line, conflict_line, form_fault, input_fault, line as line_with, operation_line, part_line, pointer_text, pointers_text, run_fault, spelling_fault, wrong_shape as shape_fault};
 ghost use Rattle.mp_cli.specs.Private.Answers.{Gives, list_fault};
 ghost use Rattle.mp_cli.specs.Lines.{line_of, status_of};
 
 use crate::answers::Answer;
 use crate::running::RunFault;
 use mp_merge::ListFault;
-use mp_patch::{ApplyFault, Cause, FormCause, FormFault};
+use mp_patch::{ApplyFault, FormFault};
 use mp_pointer::{Pointer, PointerFault};
 use mp_tree::{Doc, DocsFault, write_doc, write_text};
 use std::alloc::{AllocError, Global};
@@ -88,22 +88,8 @@ pub(crate) fn fault_in_form(alloc: Global, fault: FormFault) -> Result<Answer, A
 {
     match fault {
         FormFault::NotAnArray => wrong_shape(alloc),
-        FormFault::Form { op, cause } => operation(alloc, op, words_of_form(cause), REFUSED),
+        FormFault::Form { op, cause } => operation(alloc, op, cause.as_str(), REFUSED),
         FormFault::OutOfMemory => Err(AllocError),
-    }
-}
-
-fn words_of_form(cause: FormCause) -> &'static str
-    ensures { result.now ≡ form_words cause }
-{
-    match cause {
-        FormCause::NotAnObject => "not an object",
-        FormCause::NoOp => "no op",
-        FormCause::UnknownOp => "unknown op",
-        FormCause::NoPath => "no path",
-        FormCause::NoFrom => "no from",
-        FormCause::BadPointer => "bad pointer",
-        FormCause::NoValue => "no value",
     }
 }
 
@@ -112,21 +98,8 @@ pub(crate) fn fault_in_run(alloc: Global, fault: ApplyFault) -> Result<Answer, A
     ensures fault { IfOk result (λ a. fault ≢ ApplyFault.OutOfMemory) }
 {
     match fault {
-        ApplyFault::Refused { op, cause } => operation(alloc, op, words_of_cause(cause), NO_RESULT),
+        ApplyFault::Refused { op, cause } => operation(alloc, op, cause.as_str(), NO_RESULT),
         ApplyFault::OutOfMemory => Err(AllocError),
-    }
-}
-
-fn words_of_cause(cause: Cause) -> &'static str
-    ensures { result.now ≡ cause_words cause }
-{
-    match cause {
-        Cause::IntoItself => "into itself",
-        Cause::RemoveRoot => "remove of root",
-        Cause::Missing => "missing",
-        Cause::NoPlace => "no place",
-        Cause::TooDeep => "too deep",
-        Cause::TestFailed => "test failed",
     }
 }
 

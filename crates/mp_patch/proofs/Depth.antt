@@ -1,9 +1,8 @@
 -- How deep a document is, by the kinds of its parts, and that no operation takes it past the limit.
-use Rattle.std.proofs.Common.{◌≡◌, ◌≢◌, ◌<◌, ◌≤◌, ◌+◌, ◌⊎◌, inl, inr, ℕ, zero, suc, max, List, [], ◌∷◌, length, Bool, true, false, cond, Ordering, Less, Equal, Greater, Option, None, Some, option_and_then, refl, sym, ap, ◌∙◌, subst, arith, length-append}
-use Rattle.std.specs.Ordering.{match_ordering}
+use Rattle.std.proofs.Common.{◌≡◌, ◌≢◌, ◌<◌, ◌≤◌, ◌+◌, ◌⊎◌, inl, inr, ℕ, zero, suc, max, List, [], ◌∷◌, length, Bool, true, false, cond, Option, None, Some, option_and_then, refl, sym, ap, ◌∙◌, subst, arith, length-append}
 use Rattle.std.specs.Prelude.{⊤}
 use Rattle.std.specs.Str.{bytes_eq}
-use Rattle.mp_tree.specs.Document.{Document, null, flag, whole, string, list, object, Items, no_items, item, Members, no_members, member, name_cmp, is_name, find, put, without, IsDocument, AreDocuments, IsMap, depth, items_depth, members_depth, depth_limit}
+use Rattle.mp_tree.specs.Document.{Document, null, flag, whole, string, list, object, Items, no_items, item, Members, no_members, member, is_name, find, IsDocument, AreDocuments, IsMap, depth, items_depth, members_depth, depth_limit}
 use Rattle.mp_tree.proofs.Facts.{cases_same, is_name-self, find-below, members_depth-put, members_depth-without}
 use Rattle.mp_pointer.specs.Difference.{DifferOnlyAt}
 use Rattle.mp_pointer.specs.Part.{Kind, absent, scalar, names, elements, part, child, element_from, numeral, kind, kind_here, kind_of}

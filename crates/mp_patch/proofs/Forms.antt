@@ -1,5 +1,5 @@
 -- Operations and the documents that are forms of them.
-use Rattle.std.proofs.Common.{◌≡◌, ◌≢◌, ◌<◌, ◌≤◌, ◌+◌, ◌⊎◌, inl, inr, ◌∷◌, ◌++◌, ℕ, List, [], length, map, get_or, take, drop, None, Some, Result, Ok, Err, MatchResult, refl, sym, ap, ap₂, ◌∙◌, subst, arith, codes}
+use Rattle.std.proofs.Common.{◌≡◌, ◌≢◌, ◌<◌, ◌≤◌, ◌+◌, ◌⊎◌, inl, inr, ◌∷◌, ◌++◌, ℕ, List, [], length, map, get_or, take, drop, None, Some, Result, Ok, Err, MatchResult, refl, sym, ap, ◌∙◌, subst, arith, codes}
 use Rattle.std.proofs.lemmas.List.{take_more, take-append-drop, drop_more, length-take-le, map-append}
 use Rattle.mp_tree.specs.Document.{Document, object, list, string, Members, put, depth, items_depth}
 use Rattle.mp_tree.specs.View.{document, items, members_of}
@@ -10,12 +10,14 @@ use Rattle.mp_pointer.specs.declared.fault.PointerFault.{PointerFault}
 use Rattle.mp_pointer.proofs.Facts.{reads_spellings, count_of-items}
 use Rattle.mp_patch.specs.Form.{NamesOp, Need, path_alone, a_value, an_origin, HasOp, HasNoPointer, Carries, EachForm, IsForm, IsFormFault, IsNoPointer, deepest, needed_members, op_member, path_member, from_member, shape, shapes, text_at, value_depth, value_member}
 use Rattle.mp_patch.specs.Operation.{Operation, add, remove, replace, move, copy, test}
-use Rattle.mp_patch.specs.Private.Reading.{FindsNoPointer, IsMapFault, IsOpFault, IsOriginFault, fault_at}
+use Rattle.mp_patch.specs.Private.Faults.{fault_of_element}
+use Rattle.mp_patch.specs.Private.Reading.{FindsNoPointer, IsMapFault, IsOpFault, IsOriginFault}
 use Rattle.mp_patch.specs.View.{operation_of, operations_of}
+use Rattle.mp_patch.specs.declared.fault.FormCause.{FormCause}
 use Rattle.mp_patch.specs.declared.fault.FormCause.TheVariants.{NotAnObject, NoOp, UnknownOp, NoPath, NoFrom, BadPointer, NoValue}
 use Rattle.mp_patch.specs.declared.op.Op.{Op}
-use Rattle.mp_patch.specs.declared.reading.OpFault.{OpFault}
-use Rattle.mp_patch.specs.declared.reading.OpFault.TheVariants.{Form, OutOfMemory}
+use Rattle.mp_patch.specs.declared.fault.Refusal.{Refusal}
+use Rattle.mp_patch.specs.declared.fault.Refusal.TheVariants.{By, OutOfMemory}
 use Rattle.mp_patch.proofs.Needs.{some_none, same_some, one_need, value_or_origin}
 use Rattle.mp_patch.proofs.SingleSteps.{items-append}
 
@@ -61,15 +63,15 @@ module _ (ms : Members) where
   good_pointers t has at (inl (path, there, bad)) = bad t (same_some (text_at (codes "path") d) path (spell t) there at)
   good_pointers t has at (inr (origin, bad)) = value_or_origin d has origin
 
-  pub map_fault : (fault : OpFault) → IsMapFault fault d → IsOpFault fault d
-  map_fault (Form NotAnObject) found = absurd found
-  map_fault (Form NoOp) none = inr (is_object, inl (refl, none))
-  map_fault (Form UnknownOp) (name, at, unknown) = inr (is_object, inr (names_op name at, inl (refl, none_named name at unknown)))
-  map_fault (Form NoPath) (need, has, none) = inr (is_object, inr (names_op has.0 has.1, inr ((λ unknown. unknown need has), inl (refl, none))))
-  map_fault (Form NoFrom) (has, path, at, none) = inr (is_object, inr (names_op has.0 has.1, inr ((λ unknown. unknown an_origin has), inr (has_path path at, inl (refl, (has, none))))))
-  map_fault (Form BadPointer) (need, has, path, at, bad) =
+  pub map_fault : (fault : Refusal FormCause) → IsMapFault fault d → IsOpFault fault d
+  map_fault (By NotAnObject) found = absurd found
+  map_fault (By NoOp) none = inr (is_object, inl (refl, none))
+  map_fault (By UnknownOp) (name, at, unknown) = inr (is_object, inr (names_op name at, inl (refl, none_named name at unknown)))
+  map_fault (By NoPath) (need, has, none) = inr (is_object, inr (names_op has.0 has.1, inr ((λ unknown. unknown need has), inl (refl, none))))
+  map_fault (By NoFrom) (has, path, at, none) = inr (is_object, inr (names_op has.0 has.1, inr ((λ unknown. unknown an_origin has), inr (has_path path at, inl (refl, (has, none))))))
+  map_fault (By BadPointer) (need, has, path, at, bad) =
       inr (is_object, inr (names_op has.0 has.1, inr ((λ unknown. unknown need has), inr (has_path path at, inr (has_from need path has bad, inl (refl, bad_pointer need path has at bad))))))
-  map_fault (Form NoValue) (has, t, at, none) =
+  map_fault (By NoValue) (has, t, at, none) =
       inr (
         is_object,
         inr (
@@ -79,7 +81,7 @@ module _ (ms : Members) where
       )
   map_fault OutOfMemory found = tt
 
-pub form_of_map : (r : Result Op OpFault) (ms : Members) (d : Document) → d ≡ object ms → MatchResult r (λ op. Carries ms (needed_members (operation_of op))) (λ fault. IsMapFault fault (object ms))
+pub form_of_map : (r : Result Op (Refusal FormCause)) (ms : Members) (d : Document) → d ≡ object ms → MatchResult r (λ op. Carries ms (needed_members (operation_of op))) (λ fault. IsMapFault fault (object ms))
     → MatchResult r (λ op. IsForm d (operation_of op)) (λ fault. IsOpFault fault d)
 form_of_map (Ok op) ms d is carries = (ms, is, carries)
 form_of_map (Err fault) ms d is found = subst (IsOpFault fault) (sym is) (map_fault ms fault found)
@@ -97,10 +99,10 @@ form_pushed docs old new k d op less here forms form pushed =
     let grown : operations_of new ≡ operations_of old ++ operation_of op ∷ [] = ap operations_of pushed ∙ map-append operation_of old (op ∷ []) in
     subst (λ xs. EachForm (items xs) (operations_of new)) (sym longer) (subst (λ os. EachForm (items (take k docs ++ d ∷ [])) os) (sym grown) (EachForm-more (take k docs) (operations_of old) d (operation_of op) forms form))
 
-pub fault_there : (fault : OpFault) (docs : List Doc) (old : List Op) (k : ℕ) (d : Doc) → k < length docs → d ≡ get_or docs k d → EachForm (items (take k docs)) (operations_of old) → IsOpFault fault (document d)
-    → IsFormFault (fault_at k fault) (list (items docs))
+pub fault_there : (fault : Refusal FormCause) (docs : List Doc) (old : List Op) (k : ℕ) (d : Doc) → k < length docs → d ≡ get_or docs k d → EachForm (items (take k docs)) (operations_of old) → IsOpFault fault (document d)
+    → IsFormFault (fault_of_element k fault) (list (items docs))
 fault_there OutOfMemory docs old k d less here forms faulty = tt
-fault_there (Form cause) docs old k d less here forms faulty =
+fault_there (By cause) docs old k d less here forms faulty =
     let split : docs ≡ take k docs ++ d ∷ drop (k + 1) docs = sym (take-append-drop k docs) ∙ ap (λ r. take k docs ++ r) (drop_more docs k d less ∙ ap (λ x. x ∷ drop (k + 1) docs) (sym here)) in (
       items (take k docs),
       document d,
@@ -140,12 +142,12 @@ no_slash_is_no_memory e = cc
 pub bad_tilde_is_no_memory : (place : ℕ) → PointerFault.BadTilde place ≢ PointerFault.OutOfMemory
 bad_tilde_is_no_memory place e = cc
 
-pub origin_fault : (fault : OpFault) (name path : List ℕ) (ms : Members) → text_at (codes "op") (object ms) ≡ Some name → NamesOp an_origin name → text_at (codes "path") (object ms) ≡ Some path → IsOriginFault fault path (object ms) → IsMapFault fault (object ms)
-origin_fault (Form NoFrom) name path ms op named at faulty = ((name, op, named), path, at, faulty)
-origin_fault (Form BadPointer) name path ms op named at faulty = (an_origin, (name, op, named), path, at, faulty)
-origin_fault (Form NotAnObject) name path ms op named at faulty = absurd faulty
-origin_fault (Form NoOp) name path ms op named at faulty = absurd faulty
-origin_fault (Form UnknownOp) name path ms op named at faulty = absurd faulty
-origin_fault (Form NoPath) name path ms op named at faulty = absurd faulty
-origin_fault (Form NoValue) name path ms op named at faulty = absurd faulty
+pub origin_fault : (fault : Refusal FormCause) (name path : List ℕ) (ms : Members) → text_at (codes "op") (object ms) ≡ Some name → NamesOp an_origin name → text_at (codes "path") (object ms) ≡ Some path → IsOriginFault fault path (object ms) → IsMapFault fault (object ms)
+origin_fault (By NoFrom) name path ms op named at faulty = ((name, op, named), path, at, faulty)
+origin_fault (By BadPointer) name path ms op named at faulty = (an_origin, (name, op, named), path, at, faulty)
+origin_fault (By NotAnObject) name path ms op named at faulty = absurd faulty
+origin_fault (By NoOp) name path ms op named at faulty = absurd faulty
+origin_fault (By UnknownOp) name path ms op named at faulty = absurd faulty
+origin_fault (By NoPath) name path ms op named at faulty = absurd faulty
+origin_fault (By NoValue) name path ms op named at faulty = absurd faulty
 origin_fault OutOfMemory name path ms op named at faulty = tt

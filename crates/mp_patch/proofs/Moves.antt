@@ -7,8 +7,8 @@ use Rattle.mp_patch.specs.Operation.{add, move, copy, remove, Removes}
 use Rattle.mp_patch.specs.Refusal.{HasNoPlace, IsTooDeep, LeavesNoPlace, PartIsTooDeep, RefusedBy, causes}
 use Rattle.mp_patch.specs.Private.Steps.{Answers}
 use Rattle.mp_patch.specs.declared.fault.Cause.{Cause}
-use Rattle.mp_patch.specs.declared.steps.StepFault.{StepFault}
-use Rattle.mp_patch.specs.declared.steps.StepFault.TheVariants.{Refused, OutOfMemory}
+use Rattle.mp_patch.specs.declared.fault.Refusal.{Refusal}
+use Rattle.mp_patch.specs.declared.fault.Refusal.TheVariants.{By, OutOfMemory}
 use Rattle.mp_patch.proofs.Documents.{Removes-once}
 use Rattle.mp_patch.proofs.FirstCause.{NoneHolds, unrefused, free_of}
 use Rattle.mp_patch.proofs.Needs.{same_some}
@@ -35,9 +35,9 @@ module _ (f t : Tokens) (x d left : Document) (good : IsDocument d) (apart : ¬ 
   not_added cause (inr (place, inl (is, deep))) = inr (apart, inr (some_missing d x f stood, inr (placed place, inl (is, (other, (x, stood, deep))))))
   not_added cause (inr (place, inr h)) = absurd h.1
 
-  pub moved : (r : Result (Unit {0}) StepFault) (e : Document) → Answers r left (add t x) e → Answers r d (move f t) e
+  pub moved : (r : Result (Unit {0}) (Refusal Cause)) (e : Document) → Answers r left (add t x) e → Answers r d (move f t) e
   moved (Ok done) e answers = (unrefused d (move f t) (moves_freely (free_of left (add t x) answers.0)), (x, stood, inr (other, left, removes, answers.1)))
-  moved (Err (Refused cause)) e refused = not_added cause refused
+  moved (Err (By cause)) e refused = not_added cause refused
   moved (Err OutOfMemory) e answers = tt
 
 pub root_is_prefix : (f t : Tokens) → f ≡ [] → f ≢ t → IsProperPrefix f t
@@ -45,18 +45,18 @@ root_is_prefix f [] root other = absurd (other root)
 root_is_prefix f (n ∷ t) root other = (n, t, ap (λ s. s ++ n ∷ t) (sym root))
 
 -- where nothing was removed
-pub not_moved : (fault : StepFault) (f t : Tokens) (d e e' : Document) → ¬ IsProperPrefix f t → f ≢ t → Answers (Err fault) d (remove f) e → Answers (Err fault) d (move f t) e'
-not_moved (Refused cause) f t d e e' apart other (inl (is, root)) = absurd (apart (root_is_prefix f t root other))
-not_moved (Refused cause) f t d e e' apart other (inr (deeper, inl (is, missing))) = inr (apart, inl (is, missing))
-not_moved (Refused cause) f t d e e' apart other (inr (deeper, inr h)) = absurd h.1
+pub not_moved : (fault : Refusal Cause) (f t : Tokens) (d e e' : Document) → ¬ IsProperPrefix f t → f ≢ t → Answers (Err fault) d (remove f) e → Answers (Err fault) d (move f t) e'
+not_moved (By cause) f t d e e' apart other (inl (is, root)) = absurd (apart (root_is_prefix f t root other))
+not_moved (By cause) f t d e e' apart other (inr (deeper, inl (is, missing))) = inr (apart, inl (is, missing))
+not_moved (By cause) f t d e e' apart other (inr (deeper, inr h)) = absurd h.1
 not_moved OutOfMemory f t d e e' apart other refused = tt
 
 module _ (f t : Tokens) (x d : Document) (stood : part d f ≡ Some x) where
-  pub copied : (r : Result (Unit {0}) StepFault) (e : Document) → Answers r d (add t x) e → Answers r d (copy f t) e
+  pub copied : (r : Result (Unit {0}) (Refusal Cause)) (e : Document) → Answers r d (add t x) e → Answers r d (copy f t) e
   copied (Ok done) e answers =
       let none = free_of d (add t x) answers.0 in
       (unrefused d (copy f t) (some_missing d x f stood, (none.0, (fits_as_part f t x d stood none.1.0, tt))), (x, stood, answers.1))
-  copied (Err (Refused cause)) e (inl (is, lacks)) = inr (some_missing d x f stood, inl (is, lacks))
-  copied (Err (Refused cause)) e (inr (place, inl (is, deep))) = inr (some_missing d x f stood, inr (place, inl (is, (x, stood, deep))))
-  copied (Err (Refused cause)) e (inr (place, inr h)) = absurd h.1
+  copied (Err (By cause)) e (inl (is, lacks)) = inr (some_missing d x f stood, inl (is, lacks))
+  copied (Err (By cause)) e (inr (place, inl (is, deep))) = inr (some_missing d x f stood, inr (place, inl (is, (x, stood, deep))))
+  copied (Err (By cause)) e (inr (place, inr h)) = absurd h.1
   copied (Err OutOfMemory) e answers = tt

@@ -39,14 +39,6 @@ value_or_origin d one two = let same : a_value ≡ an_origin = one_need a_value 
 
 -- ---- what a form carries
 
-abbrev pub name_of : Operation → List ℕ
-name_of (add t v) = codes "add"
-name_of (remove t) = codes "remove"
-name_of (replace t v) = codes "replace"
-name_of (move f t) = codes "move"
-name_of (copy f t) = codes "copy"
-name_of (test t v) = codes "test"
-
 abbrev pub need_of : Operation → Need
 need_of (add t v) = a_value
 need_of (remove t) = path_alone
@@ -63,24 +55,13 @@ place_of (move f t) = t
 place_of (copy f t) = t
 place_of (test t v) = t
 
-named : (o : Operation) → NamesOp (need_of o) (name_of o)
-named (add t v) = inl refl
-named (remove t) = refl
-named (replace t v) = inr (inl refl)
-named (move f t) = inl refl
-named (copy f t) = inr refl
-named (test t v) = inr (inr refl)
-
-op_text : (ms : Members) (o : Operation) → Carries ms (needed_members o) → text_at (codes "op") (object ms) ≡ Some (name_of o)
-op_text ms (add t v) a = ap (option_and_then text_of) a.0
-op_text ms (remove t) a = ap (option_and_then text_of) a.0
-op_text ms (replace t v) a = ap (option_and_then text_of) a.0
-op_text ms (move f t) a = ap (option_and_then text_of) a.0
-op_text ms (copy f t) a = ap (option_and_then text_of) a.0
-op_text ms (test t v) a = ap (option_and_then text_of) a.0
-
 pub has_op : (ms : Members) (o : Operation) → Carries ms (needed_members o) → HasOp (need_of o) (object ms)
-has_op ms o a = (name_of o, op_text ms o a, named o)
+has_op ms (add t v) a = (_, ap (option_and_then text_of) a.0, inl refl)
+has_op ms (remove t) a = (_, ap (option_and_then text_of) a.0, refl)
+has_op ms (replace t v) a = (_, ap (option_and_then text_of) a.0, inr (inl refl))
+has_op ms (move f t) a = (_, ap (option_and_then text_of) a.0, inl refl)
+has_op ms (copy f t) a = (_, ap (option_and_then text_of) a.0, inr refl)
+has_op ms (test t v) a = (_, ap (option_and_then text_of) a.0, inr (inr refl))
 
 pub path_text : (ms : Members) (o : Operation) → Carries ms (needed_members o) → text_at (codes "path") (object ms) ≡ Some (spell (place_of o))
 path_text ms (add t v) a = ap (option_and_then text_of) a.1.0

@@ -8,16 +8,18 @@ use Rattle.mp_patch.specs.Operation.{Operation, Step}
 use Rattle.mp_patch.specs.Run.{IsRefused, Runs, IsFaultOf}
 use Rattle.mp_patch.specs.View.{operation_of, operations_of}
 use Rattle.mp_patch.specs.declared.op.Op.{Op}
-use Rattle.mp_patch.specs.Private.Steps.{Answers, fault_at}
-use Rattle.mp_patch.specs.declared.steps.StepFault.{StepFault}
-use Rattle.mp_patch.specs.declared.steps.StepFault.TheVariants.{Refused, OutOfMemory}
+use Rattle.mp_patch.specs.Private.Faults.{fault_of_operation}
+use Rattle.mp_patch.specs.Private.Steps.{Answers}
+use Rattle.mp_patch.specs.declared.fault.Cause.{Cause}
+use Rattle.mp_patch.specs.declared.fault.Refusal.{Refusal}
+use Rattle.mp_patch.specs.declared.fault.Refusal.TheVariants.{By, OutOfMemory}
 
 pub Runs-more : (operations : List Operation) (d m e : Document) (o : Operation) → Runs d operations m → ¬ IsRefused m o → Step m o e → Runs d (operations ++ o ∷ []) e
 Runs-more [] d m e o run free step = (subst (λ x. ¬ IsRefused x o) run free, e, subst (λ x. Step x o e) run step, refl)
 Runs-more (p ∷ operations) d m e o run free step = (run.0, run.1, run.2, Runs-more operations run.1 m e o run.3 free step)
 
-pub fault_there : (fault : StepFault) (k : ℕ) (d m e : Document) (operations : List Operation) (o : Operation) → Runs d (take k operations) m → slice_get operations k ≡ Some o → Answers (Err fault) m o e → IsFaultOf (fault_at k fault) d operations
-fault_there (Refused cause) k d m e operations o run there refused = (m, run, o, there, refused)
+pub fault_there : (fault : Refusal Cause) (k : ℕ) (d m e : Document) (operations : List Operation) (o : Operation) → Runs d (take k operations) m → slice_get operations k ≡ Some o → Answers (Err fault) m o e → IsFaultOf (fault_of_operation k fault) d operations
+fault_there (By cause) k d m e operations o run there refused = (m, run, o, there, refused)
 fault_there OutOfMemory k d m e operations o run there refused = tt
 
 -- the operation that is read at a place

@@ -21,9 +21,10 @@ use Rattle.mp_patch.specs.Operation.{add, remove, replace, ChangesContainer, Add
 use Rattle.mp_patch.specs.Refusal.{LacksPlace, HasNoPlace, IsTooDeep, IsMissing, RefusedBy}
 use Rattle.mp_patch.specs.Run.{IsRefused}
 use Rattle.mp_patch.specs.Private.Steps.{Answers, Inserts}
+use Rattle.mp_patch.specs.declared.fault.Cause.{Cause}
 use Rattle.mp_patch.specs.declared.fault.Cause.TheVariants.{IntoItself, RemoveRoot, Missing, NoPlace, TooDeep, TestFailed}
-use Rattle.mp_patch.specs.declared.steps.StepFault.{StepFault}
-use Rattle.mp_patch.specs.declared.steps.StepFault.TheVariants.{Refused, OutOfMemory}
+use Rattle.mp_patch.specs.declared.fault.Refusal.{Refusal}
+use Rattle.mp_patch.specs.declared.fault.Refusal.TheVariants.{By, OutOfMemory}
 
 -- ---- the last of the tokens
 
@@ -131,16 +132,16 @@ root_place d t root (u, n, ends, lacks) = not_empty u n (sym ends ∙ root)
 adds_freely : (d : Document) (t : Tokens) (v : Document) → ¬ HasNoPlace d t → length t + depth v ≤ depth_limit → ¬ IsRefused d (add t v)
 adds_freely d t v place fits = unrefused d (add t v) (place, ((λ deep. omega (arith, deep, fits)), tt))
 
-pub added : (r : Result (Unit {0}) StepFault) (fits : Bool) (t s : Tokens) (last : List ℕ) (v d e x y : Document) → (IsTrue fits → length t + depth v ≤ depth_limit) → (length t + depth v ≤ depth_limit → IsTrue fits)
+pub added : (r : Result (Unit {0}) (Refusal Cause)) (fits : Bool) (t s : Tokens) (last : List ℕ) (v d e x y : Document) → (IsTrue fits → length t + depth v ≤ depth_limit) → (length t + depth v ≤ depth_limit → IsTrue fits)
     → t ≡ s ++ last ∷ [] → part d s ≡ Some x → part e s ≡ Some y → DifferOnlyAt s d e → Inserts r fits last v x y → Answers r d (add t v) e
 added (Ok done) fits t s last v d e x y to_fit from_fit is stood stands only inserts =
     (adds_freely d t v (has_place d x t s last is stood inserts.1) (to_fit inserts.0), inr (record { container = s; last = last; is = is; before = x; after = y; stood = stood; stands = stands; changed = inserts.2; only = only }))
-added (Err (Refused NoPlace)) fits t s last v d e x y to_fit from_fit is stood stands only inserts = inl (refl, (s, last, is, subst (λ o. LacksPlace last o) (sym stood) inserts))
-added (Err (Refused TooDeep)) fits t s last v d e x y to_fit from_fit is stood stands only inserts = inr (has_place d x t s last is stood inserts.0, inl (refl, over_limit fits t v from_fit inserts.1))
-added (Err (Refused RemoveRoot)) fits t s last v d e x y to_fit from_fit is stood stands only inserts = absurd inserts
-added (Err (Refused IntoItself)) fits t s last v d e x y to_fit from_fit is stood stands only inserts = absurd inserts
-added (Err (Refused Missing)) fits t s last v d e x y to_fit from_fit is stood stands only inserts = absurd inserts
-added (Err (Refused TestFailed)) fits t s last v d e x y to_fit from_fit is stood stands only inserts = absurd inserts
+added (Err (By NoPlace)) fits t s last v d e x y to_fit from_fit is stood stands only inserts = inl (refl, (s, last, is, subst (λ o. LacksPlace last o) (sym stood) inserts))
+added (Err (By TooDeep)) fits t s last v d e x y to_fit from_fit is stood stands only inserts = inr (has_place d x t s last is stood inserts.0, inl (refl, over_limit fits t v from_fit inserts.1))
+added (Err (By RemoveRoot)) fits t s last v d e x y to_fit from_fit is stood stands only inserts = absurd inserts
+added (Err (By IntoItself)) fits t s last v d e x y to_fit from_fit is stood stands only inserts = absurd inserts
+added (Err (By Missing)) fits t s last v d e x y to_fit from_fit is stood stands only inserts = absurd inserts
+added (Err (By TestFailed)) fits t s last v d e x y to_fit from_fit is stood stands only inserts = absurd inserts
 added (Err OutOfMemory) fits t s last v d e x y to_fit from_fit is stood stands only inserts = tt
 
 pub removed : (t s : Tokens) (last : List ℕ) (v d e x y : Document) → t ≡ s ++ last ∷ [] → part d s ≡ Some x → part e s ≡ Some y → DifferOnlyAt s d e → child last x ≡ Some v → RemovesFrom last x y
@@ -163,8 +164,8 @@ some_missing d x t stood missing = differ (sym stood ∙ missing)
 replaces_freely : (d x : Document) (t : Tokens) (v : Document) → part d t ≡ Some x → length t + depth v ≤ depth_limit → ¬ IsRefused d (replace t v)
 replaces_freely d x t v stood fits = unrefused d (replace t v) (some_missing d x t stood, ((λ deep. omega (arith, deep, fits)), tt))
 
-pub replaced : (r : Result (Unit {0}) StepFault) (fits : Bool) (t : Tokens) (v d e x y : Document) → (IsTrue fits → length t + depth v ≤ depth_limit) → (length t + depth v ≤ depth_limit → IsTrue fits)
-    → part d t ≡ Some x → part e t ≡ Some y → DifferOnlyAt t d e → MatchResult r (λ _. IsTrue fits × (y ≡ v)) (λ fault. IsFalse fits × (fault ≡ Refused TooDeep)) → Answers r d (replace t v) e
+pub replaced : (r : Result (Unit {0}) (Refusal Cause)) (fits : Bool) (t : Tokens) (v d e x y : Document) → (IsTrue fits → length t + depth v ≤ depth_limit) → (length t + depth v ≤ depth_limit → IsTrue fits)
+    → part d t ≡ Some x → part e t ≡ Some y → DifferOnlyAt t d e → MatchResult r (λ _. IsTrue fits × (y ≡ v)) (λ fault. IsFalse fits × (fault ≡ By TooDeep)) → Answers r d (replace t v) e
 replaced (Ok done) fits t v d e x y to_fit from_fit stood stands only set = (replaces_freely d x t v stood (to_fit set.0), ((x, stood), stands ∙ ap Some set.1, only))
 replaced (Err fault) fits t v d e x y to_fit from_fit stood stands only set =
     subst (λ f. Answers (Err f) d (replace t v) e) (sym set.1) (inr (some_missing d x t stood, inl (refl, over_limit fits t v from_fit set.0)))
@@ -190,7 +191,7 @@ pub in_list : (token : List ℕ) (i n m : ℕ) → n ≡ m → (token ≡ numera
 in_list token i n m same (inl e) = inl e
 in_list token i n m same (inr e) = inr (e.0, e.1 ∙ same)
 
-pub set_means : (r : Result (Unit {0}) StepFault) (fits : Bool) (y v : Doc) → MatchResult r (λ _. IsTrue fits × (y ≡ v)) (λ fault. IsFalse fits × (fault ≡ Refused TooDeep))
-    → MatchResult r (λ _. IsTrue fits × (document y ≡ document v)) (λ fault. IsFalse fits × (fault ≡ Refused TooDeep))
+pub set_means : (r : Result (Unit {0}) (Refusal Cause)) (fits : Bool) (y v : Doc) → MatchResult r (λ _. IsTrue fits × (y ≡ v)) (λ fault. IsFalse fits × (fault ≡ By TooDeep))
+    → MatchResult r (λ _. IsTrue fits × (document y ≡ document v)) (λ fault. IsFalse fits × (fault ≡ By TooDeep))
 set_means (Ok done) fits y v set = (set.0, ap document set.1)
 set_means (Err fault) fits y v set = set

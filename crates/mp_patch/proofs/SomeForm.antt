@@ -12,7 +12,7 @@ use Rattle.mp_patch.specs.Private.Reading.{IsMapFault}
 use Rattle.mp_patch.specs.declared.fault.FormCause.{FormCause}
 use Rattle.mp_patch.specs.declared.fault.FormCause.TheVariants.{NotAnObject, NoOp, UnknownOp, NoPath, NoFrom, BadPointer, NoValue}
 use Rattle.mp_patch.specs.declared.fault.FormFault.TheVariants as form_fault
-use Rattle.mp_patch.specs.declared.reading.OpFault.TheVariants.{Form}
+use Rattle.mp_patch.specs.declared.fault.Refusal.TheVariants.{By}
 use Rattle.mp_tree.proofs.Facts.{decide_name}
 use Rattle.mp_patch.proofs.Forms.{map_fault, no_pointer}
 
@@ -26,29 +26,32 @@ spelled text = by (tokens_in text) refl
 
 -- ---- the operation that a name names
 
+either : {A B : Type 0} → Dec A → Dec B → Dec (A ⊎ B)
+either (yes a) d = yes (inl a)
+either (no never) (yes b) = yes (inr b)
+either (no never) (no other) = no (λ h. elim h [ inl a ↦ never a | inr b ↦ other b ])
+
+decide_names : (need : Need) (name : List ℕ) → Dec (NamesOp need name)
+decide_names path_alone name = decide_name name _
+decide_names a_value name = either (decide_name name _) (either (decide_name name _) (decide_name name _))
+decide_names an_origin name = either (decide_name name _) (decide_name name _)
+
 abbrev Known : List ℕ → Type 0
-Known name = ((name ≡ codes "remove") ⊎ ((name ≡ codes "move") ⊎ (name ≡ codes "copy"))) ⊎ ((name ≡ codes "add") ⊎ ((name ≡ codes "replace") ⊎ (name ≡ codes "test")))
+Known name = (need : Need) × NamesOp need name
 
 known : (name : List ℕ) → Known name ⊎ ((need : Need) → ¬ NamesOp need name)
-known name =
-    by (decide_name name (codes "remove")) (decide_name name (codes "move")) (decide_name name (codes "copy")) (decide_name name (codes "add")) (decide_name name (codes "replace")) (decide_name name (codes "test"))
+known name = by (decide_names path_alone name) (decide_names a_value name) (decide_names an_origin name)
   where
-    by : Dec (name ≡ codes "remove") → Dec (name ≡ codes "move") → Dec (name ≡ codes "copy") → Dec (name ≡ codes "add") → Dec (name ≡ codes "replace") → Dec (name ≡ codes "test") → Known name ⊎ ((need : Need) → ¬ NamesOp need name)
-    by (yes e) _ _ _ _ _ = inl (inl (inl e))
-    by (no r) (yes e) _ _ _ _ = inl (inl (inr (inl e)))
-    by (no r) (no m) (yes e) _ _ _ = inl (inl (inr (inr e)))
-    by (no r) (no m) (no c) (yes e) _ _ = inl (inr (inl e))
-    by (no r) (no m) (no c) (no a) (yes e) _ = inl (inr (inr (inl e)))
-    by (no r) (no m) (no c) (no a) (no p) (yes e) = inl (inr (inr (inr e)))
-    by (no r) (no m) (no c) (no a) (no p) (no t) = inr none
+    by : Dec (NamesOp path_alone name) → Dec (NamesOp a_value name) → Dec (NamesOp an_origin name) → Known name ⊎ ((need : Need) → ¬ NamesOp need name)
+    by (yes e) _ _ = inl (path_alone, e)
+    by (no p) (yes e) _ = inl (a_value, e)
+    by (no p) (no v) (yes e) = inl (an_origin, e)
+    by (no p) (no v) (no o) = inr none
       where
         none : (need : Need) → ¬ NamesOp need name
-        none path_alone e = r e
-        none a_value (inl e) = a e
-        none a_value (inr (inl e)) = p e
-        none a_value (inr (inr e)) = t e
-        none an_origin (inl e) = m e
-        none an_origin (inr e) = c e
+        none path_alone = p
+        none a_value = v
+        none an_origin = o
 
 -- ---- a map
 
@@ -62,7 +65,7 @@ module _ (ms : Members) where
   d = object ms
 
   abbrev Read : Type 0
-  Read = ((o : Operation) × Carries ms (needed_members o)) ⊎ ((cause : FormCause) × IsMapFault (Form cause) d)
+  Read = ((o : Operation) × Carries ms (needed_members o)) ⊎ ((cause : FormCause) × IsMapFault (By cause) d)
 
   stands : (n text other : List ℕ) → text_at n d ≡ Some text → text ≡ other → find n ms ≡ Some (string other)
   stands n text other at is = text_found (find n ms) text at ∙ ap (λ t. Some (string t)) is
@@ -99,21 +102,16 @@ module _ (ms : Members) where
         by (Some from) here (inr bad) = inr (BadPointer, (an_origin, (name, at, names), path, there, (from, here, inl bad)))
 
     read_known : Known name → Read
-    read_known (inl (inl e)) = alone e
-    read_known (inl (inr (inl e))) = with_origin move (codes "move") (λ f t. refl) e (inl e)
-    read_known (inl (inr (inr e))) = with_origin copy (codes "copy") (λ f t. refl) e (inr e)
-    read_known (inr (inl e)) = with_value add (codes "add") (λ t v. refl) e (inl e)
-    read_known (inr (inr (inl e))) = with_value replace (codes "replace") (λ t v. refl) e (inr (inl e))
-    read_known (inr (inr (inr e))) = with_value test (codes "test") (λ t v. refl) e (inr (inr e))
-
-  need_of_known : (name : List ℕ) → Known name → (need : Need) × NamesOp need name
-  need_of_known name (inl (inl e)) = (path_alone, e)
-  need_of_known name (inl (inr e)) = (an_origin, e)
-  need_of_known name (inr e) = (a_value, e)
+    read_known (path_alone, e) = alone e
+    read_known (an_origin, inl e) = with_origin move _ (λ f t. refl) e (inl e)
+    read_known (an_origin, inr e) = with_origin copy _ (λ f t. refl) e (inr e)
+    read_known (a_value, inl e) = with_value add _ (λ t v. refl) e (inl e)
+    read_known (a_value, inr (inl e)) = with_value replace _ (λ t v. refl) e (inr (inl e))
+    read_known (a_value, inr (inr e)) = with_value test _ (λ t v. refl) e (inr (inr e))
 
   read_named : (name : List ℕ) → text_at (codes "op") d ≡ Some name → Known name ⊎ ((need : Need) → ¬ NamesOp need name) → (o : Option (List ℕ)) → text_at (codes "path") d ≡ o → Read
   read_named name at (inr unknown) o there = inr (UnknownOp, (name, at, unknown))
-  read_named name at (inl is) None none = let need = need_of_known name is in inr (NoPath, (need.0, (name, at, need.1), none))
+  read_named name at (inl (need, names)) None none = inr (NoPath, (need, (name, at, names), none))
   read_named name at (inl is) (Some path) there = read_known name path at there is
 
   read_map : (o : Option (List ℕ)) → text_at (codes "op") d ≡ o → Read
@@ -121,7 +119,7 @@ module _ (ms : Members) where
   read_map (Some name) at = read_named name at (known name) (text_at (codes "path") d) refl
 
   read_object : ((o : Operation) × IsForm d o) ⊎ ((cause : FormCause) × IsFaulty cause d)
-  read_object = elim (read_map (text_at (codes "op") d) refl) [ inl form ↦ inl (form.0, (ms, refl, form.1)) | inr fault ↦ inr (fault.0, map_fault ms (Form fault.0) fault.1) ]
+  read_object = elim (read_map (text_at (codes "op") d) refl) [ inl form ↦ inl (form.0, (ms, refl, form.1)) | inr fault ↦ inr (fault.0, map_fault ms (By fault.0) fault.1) ]
 
 -- ---- elements and documents
 

@@ -10,7 +10,7 @@ use Rattle.mp_patch.specs.Operation.{Operation, add, remove, replace, move, copy
 use Rattle.mp_patch.specs.Refusal.{IsTooDeep}
 use Rattle.mp_patch.specs.Run.{IsRefused}
 use Rattle.mp_patch.specs.declared.fault.Cause.TheVariants.{IntoItself, RemoveRoot, Missing, NoPlace, TooDeep, TestFailed}
-use Rattle.mp_patch.specs.declared.steps.StepFault.TheVariants.{Refused}
+use Rattle.mp_patch.specs.declared.fault.Refusal.TheVariants.{By}
 use Rattle.mp_tree.proofs.Facts.{decide_name, decide_path, decide_document}
 use Rattle.mp_patch.proofs.Documents.{Removes-document, some_same}
 use Rattle.mp_patch.proofs.FirstCause.{unrefused}
@@ -82,7 +82,7 @@ judge_moved d x f t good apart other there =
     let carry = moved f t x d left.0 good apart other there left.1 in
     elim (judge_add left.0 (Removes-document f d left.0 good left.1) t x) [
       | inl leads ↦ let answers = carry (Ok tt) leads.0 (leads.1, leads.2) in inl (leads.0, answers.0, answers.1)
-      | inr refused ↦ inr (refused.0, carry (Err (Refused refused.0)) d refused.1)
+      | inr refused ↦ inr (refused.0, carry (Err (By refused.0)) d refused.1)
     ]
 
 judge_move : (d : Document) (f t : Tokens) (o : Option Document) → IsDocument d → part d f ≡ o → Dec (IsProperPrefix f t) → Dec (f ≡ t) → Judged d (move f t)
@@ -97,7 +97,7 @@ judge_copy d f t (Some x) good there =
     let carry = copied f t x d there in
     elim (judge_add d good t x) [
       | inl leads ↦ let answers = carry (Ok tt) leads.0 (leads.1, leads.2) in inl (leads.0, answers.0, answers.1)
-      | inr refused ↦ inr (refused.0, carry (Err (Refused refused.0)) d refused.1)
+      | inr refused ↦ inr (refused.0, carry (Err (By refused.0)) d refused.1)
     ]
 
 judge : (d : Document) (o : Operation) → IsDocument d → Judged d o

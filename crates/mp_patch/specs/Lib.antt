@@ -5,4 +5,5 @@ pub mod Operation
 pub mod Private
 pub mod Refusal
 pub mod Run
+pub mod Texts
 pub mod View

@@ -40,8 +40,8 @@ pub fn apply_owned(alloc: Global, doc: Doc, patch: &JsonPatch) -> Result<Doc, Ap
 {
     let mut result = doc;
     for (number, op) in patch.ops().iter().enumerate() {
-        if let Err(fault) = step(op, &mut result, alloc) {
-            return Err(fault.at(number));
+        if let Err(refusal) = step(op, &mut result, alloc) {
+            return Err(refusal.of_operation(number));
         }
     }
     Ok(result)

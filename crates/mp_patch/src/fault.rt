@@ -1,31 +1,44 @@
 //! Why a patch is refused.
 ghost use Rattle.std.specs.Prelude.{◌≡◌};
+ghost use Rattle.mp_patch.specs.Texts.{cause_text, form_text};
+ghost use Rattle.mp_patch.specs.Private.Faults.{fault_of_element, fault_of_operation};
 
 use std::alloc::{AllocError, AllocFailed};
 use thiserror::Error;
 
 /// Why an operation is refused (RFC 6902 sections 4 and 5). Where several hold, the first in this order is answered.
 #[derive(Clone, Copy, Debug, Drop, PartialEq, Eq, Error)]
+#[error("{text}", text = self.as_str())]
 pub enum Cause {
     /// A `move` into a place inside of what is moved, whether or not there is anything.
-    #[error("into itself")]
     IntoItself,
     /// `remove` at the empty path. What removing the whole document leaves, the standard does not say.
-    #[error("remove of root")]
     RemoveRoot,
     /// There is nothing where a value is to be removed, replaced, tested, moved or copied.
-    #[error("missing")]
     Missing,
     /// The path is not empty, and what its tokens but the last name is absent, a scalar, or an array in which the
     /// last token is neither `-` nor an index at most the length.
-    #[error("no place")]
     NoPlace,
     /// The number of tokens of the path and the depth of the value are together over 126.
-    #[error("too deep")]
     TooDeep,
     /// What is tested is another value.
-    #[error("test failed")]
     TestFailed,
+}
+
+impl Cause {
+    /// The cause in words, as `Display` and the command `mergejoin` show it: `no place` for `NoPlace`.
+    pub fn as_str(&self) -> &'static str
+        ensures { result.now ≡ cause_text self.now }
+    {
+        match self {
+            Cause::IntoItself => "into itself",
+            Cause::RemoveRoot => "remove of root",
+            Cause::Missing => "missing",
+            Cause::NoPlace => "no place",
+            Cause::TooDeep => "too deep",
+            Cause::TestFailed => "test failed",
+        }
+    }
 }
 
 /// Why a patch has no result.
@@ -51,28 +64,39 @@ impl From<AllocError> for ApplyFault {
 /// Why an element of a document is no operation (RFC 6902 sections 3 and 4). Where several hold, the first in this
 /// order is answered.
 #[derive(Clone, Copy, Debug, Drop, PartialEq, Eq, Error)]
+#[error("{text}", text = self.as_str())]
 pub enum FormCause {
     /// The element is no object.
-    #[error("not an object")]
     NotAnObject,
     /// `op` is absent or no text.
-    #[error("no op")]
     NoOp,
     /// `op` names no operation.
-    #[error("unknown op")]
     UnknownOp,
     /// `path` is absent or no text.
-    #[error("no path")]
     NoPath,
     /// `from` is absent from a `move` or a `copy`, or no text.
-    #[error("no from")]
     NoFrom,
     /// `path` spells no pointer, or the `from` of a `move` or a `copy` does not.
-    #[error("bad pointer")]
     BadPointer,
     /// `value` is absent from an `add`, a `replace` or a `test`. A null is a value.
-    #[error("no value")]
     NoValue,
+}
+
+impl FormCause {
+    /// The cause in words, as `Display` and the command `mergejoin` show it: `no path` for `NoPath`.
+    pub fn as_str(&self) -> &'static str
+        ensures { result.now ≡ form_text self.now }
+    {
+        match self {
+            FormCause::NotAnObject => "not an object",
+            FormCause::NoOp => "no op",
+            FormCause::UnknownOp => "unknown op",
+            FormCause::NoPath => "no path",
+            FormCause::NoFrom => "no from",
+            FormCause::BadPointer => "bad pointer",
+            FormCause::NoValue => "no value",
+        }
+    }
 }
 
 /// Why a document is no patch.
@@ -105,5 +129,66 @@ impl<T: Drop> From<AllocFailed<T>> for FormFault {
 
     fn from(_refused: AllocFailed<T>) -> FormFault {
         FormFault::OutOfMemory
+    }
+}
+
+// Why one operation, or one element, is not taken: by a cause, or since memory ran out.
+#[derive(Clone, Copy, Drop)]
+pub(crate) enum Refusal<C> {
+    By(C),
+    OutOfMemory,
+}
+
+impl Refusal<Cause> {
+    // As the fault of the operation with that number.
+    pub(crate) fn of_operation(self, number: usize) -> ApplyFault
+        ensures { result ≡ fault_of_operation number self }
+    {
+        match self {
+            Refusal::By(cause) => ApplyFault::Refused { op: number, cause },
+            Refusal::OutOfMemory => ApplyFault::OutOfMemory,
+        }
+    }
+}
+
+impl Refusal<FormCause> {
+    // As the fault of the element with that number.
+    pub(crate) fn of_element(self, number: usize) -> FormFault
+        ensures { result ≡ fault_of_element number self }
+    {
+        match self {
+            Refusal::By(cause) => FormFault::Form { op: number, cause },
+            Refusal::OutOfMemory => FormFault::OutOfMemory,
+        }
+    }
+}
+
+impl From<FormCause> for Refusal<FormCause> {
+    ghost use Rattle.mp_patch.specs.declared.fault.Refusal.TheVariants.{By};
+
+    ghost from_gives = { λ cause refusal. refusal ≡ By cause };
+
+    fn from(cause: FormCause) -> Refusal<FormCause> {
+        Refusal::By(cause)
+    }
+}
+
+impl<C: Drop> From<AllocError> for Refusal<C> {
+    ghost use Rattle.mp_patch.specs.declared.fault.Refusal.TheVariants.{OutOfMemory};
+
+    ghost from_gives = { λ _ refusal. refusal ≡ OutOfMemory };
+
+    fn from(_refused: AllocError) -> Refusal<C> {
+        Refusal::OutOfMemory
+    }
+}
+
+impl<C: Drop, T: Drop> From<AllocFailed<T>> for Refusal<C> {
+    ghost use Rattle.mp_patch.specs.declared.fault.Refusal.TheVariants.{OutOfMemory};
+
+    ghost from_gives = { λ _ refusal. refusal ≡ OutOfMemory };
+
+    fn from(_refused: AllocFailed<T>) -> Refusal<C> {
+        Refusal::OutOfMemory
     }
 }

@@ -2,8 +2,10 @@
 #![tactic(auto)]
 
 pub mod applying;
+mod containers;
 pub mod fault;
 pub mod laws;
+mod name;
 pub mod op;
 pub mod patch;
 mod reading;

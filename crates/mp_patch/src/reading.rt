@@ -5,66 +5,18 @@ ghost use Rattle.mp_tree.specs.Document.{find, list, object};
 ghost use Rattle.mp_tree.specs.View.{document, items};
 ghost use Rattle.mp_tree.specs.Private.Entries.{members};
 ghost use Rattle.mp_pointer.specs.Spelling.{spell};
-ghost use Rattle.mp_patch.specs.Form.{Carries, EachForm, IsFaulty, IsFormFault, IsForm, NamesOp, IsNoPointer, needed_members, text_at as text_under};
-ghost use Rattle.mp_patch.specs.Private.Reading.{IsOpFault, IsMapFault, IsOriginFault, IsTextFault, IsValueFault, fault_at, name_of};
+ghost use Rattle.mp_patch.specs.Form.{Carries, EachForm, IsFormFault, IsForm, needed_members, text_at as text_under};
+ghost use Rattle.mp_patch.specs.Private.Reading.{IsOpFault, IsMapFault, IsOriginFault, IsTextFault, IsValueFault};
 ghost use Rattle.mp_patch.specs.View.{operation_of, operations_of};
 
-use crate::fault::{FormCause, FormFault};
+use crate::fault::{FormCause, FormFault, Refusal};
+use crate::name::{OpName, op_named};
 use crate::op::Op;
 use crate::patch::JsonPatch;
 use mp_pointer::{Pointer, PointerFault};
 use mp_tree::Doc;
 use std::alloc::{AllocError, Global};
 use std::collections::BTreeMap;
-
-// Why an element is no operation.
-#[derive(Clone, Copy, Drop)]
-pub(crate) enum OpFault {
-    Form(FormCause),
-    OutOfMemory,
-}
-
-impl OpFault {
-    // As the fault of the element with that number.
-    pub(crate) fn at(self, number: usize) -> FormFault
-        ensures { result ≡ fault_at number self }
-    {
-        match self {
-            OpFault::Form(cause) => FormFault::Form { op: number, cause },
-            OpFault::OutOfMemory => FormFault::OutOfMemory,
-        }
-    }
-}
-
-impl From<FormCause> for OpFault {
-    ghost use Rattle.mp_patch.specs.declared.reading.OpFault.TheVariants.{Form};
-
-    ghost from_gives = { λ cause fault. fault ≡ Form cause };
-
-    fn from(cause: FormCause) -> OpFault {
-        OpFault::Form(cause)
-    }
-}
-
-impl From<AllocError> for OpFault {
-    ghost use Rattle.mp_patch.specs.declared.reading.OpFault.TheVariants.{OutOfMemory};
-
-    ghost from_gives = { λ _ fault. fault ≡ OutOfMemory };
-
-    fn from(_refused: AllocError) -> OpFault {
-        OpFault::OutOfMemory
-    }
-}
-
-#[derive(Clone, Copy, Drop)]
-pub(crate) enum OpName {
-    Add,
-    Remove,
-    Replace,
-    Move,
-    Copy,
-    Test,
-}
 
 // Where a part is, and where it goes.
 #[derive(Drop)]
@@ -81,23 +33,23 @@ pub(crate) fn read_ops(elements: &[Doc], alloc: Global) -> Result<JsonPatch, For
     for (number, element) in elements.iter().enumerate() {
         match read_op(element, alloc) {
             Ok(op) => patch.push(op)?,
-            Err(fault) => return Err(fault.at(number)),
+            Err(refusal) => return Err(refusal.of_element(number)),
         }
     }
     Ok(patch)
 }
 
-fn read_op(element: &Doc, alloc: Global) -> Result<Op, OpFault>
+fn read_op(element: &Doc, alloc: Global) -> Result<Op, Refusal<FormCause>>
     ensures { MatchResult result (λ op. IsForm (document element.now) (operation_of op))
         (λ fault. IsOpFault fault (document element.now)) }
 {
     match element {
         Doc::Members(entries) => read_members(entries, alloc),
-        _ => Err(OpFault::Form(FormCause::NotAnObject)),
+        _ => Err(Refusal::By(FormCause::NotAnObject)),
     }
 }
 
-fn read_members(entries: &BTreeMap<String, Doc>, alloc: Global) -> Result<Op, OpFault>
+fn read_members(entries: &BTreeMap<String, Doc>, alloc: Global) -> Result<Op, Refusal<FormCause>>
     ensures { MatchResult result
         (λ op. Carries (members entries.now.entries) (needed_members (operation_of op)))
         (λ fault. IsMapFault fault (object (members entries.now.entries))) }
@@ -134,7 +86,7 @@ fn pointers_in(
     spelling: &str,
     entries: &BTreeMap<String, Doc>,
     alloc: Global,
-) -> Result<Pointers, OpFault>
+) -> Result<Pointers, Refusal<FormCause>>
     ensures { MatchResult result
         (λ p. (spelling.now ≡ spell p.path)
         × (text_under (codes "from") (object (members entries.now.entries))
@@ -147,21 +99,6 @@ fn pointers_in(
     Ok(Pointers { origin, path })
 }
 
-fn op_named(name: &str) -> Option<OpName>
-    ensures { MatchOption result ((need : _) → ¬ NamesOp need name.now)
-        (λ op. name.now ≡ name_of op) }
-{
-    match name {
-        "add" => Some(OpName::Add),
-        "remove" => Some(OpName::Remove),
-        "replace" => Some(OpName::Replace),
-        "move" => Some(OpName::Move),
-        "copy" => Some(OpName::Copy),
-        "test" => Some(OpName::Test),
-        _ => None,
-    }
-}
-
 // The text at a name; None where there is none, or no text.
 fn text_at<'a>(entries: &'a BTreeMap<String, Doc>, name: &str) -> Option<&'a str>
     ensures { option_copied result ≡ text_under name.now (object (members entries.now.entries)) }
@@ -172,27 +109,27 @@ fn text_at<'a>(entries: &'a BTreeMap<String, Doc>, name: &str) -> Option<&'a str
     }
 }
 
-fn pointer_of(spelling: &str, alloc: Global) -> Result<Pointer, OpFault>
+fn pointer_of(spelling: &str, alloc: Global) -> Result<Pointer, Refusal<FormCause>>
     ensures { MatchResult result (λ p. spelling.now ≡ spell p)
         (λ fault. IsTextFault fault spelling.now) }
 {
     match Pointer::parse(alloc, spelling) {
         Ok(pointer) => Ok(pointer),
         Err(fault) => match fault {
-            PointerFault::NoSlash => Err(OpFault::Form(FormCause::BadPointer)),
-            PointerFault::BadTilde(_) => Err(OpFault::Form(FormCause::BadPointer)),
-            PointerFault::OutOfMemory => Err(OpFault::OutOfMemory),
+            PointerFault::NoSlash => Err(Refusal::By(FormCause::BadPointer)),
+            PointerFault::BadTilde(_) => Err(Refusal::By(FormCause::BadPointer)),
+            PointerFault::OutOfMemory => Err(Refusal::OutOfMemory),
         },
     }
 }
 
-fn value_in(entries: &BTreeMap<String, Doc>, alloc: Global) -> Result<Doc, OpFault>
+fn value_in(entries: &BTreeMap<String, Doc>, alloc: Global) -> Result<Doc, Refusal<FormCause>>
     ensures { MatchResult result
         (λ v. find (codes "value") (members entries.now.entries) ≡ Some (document v))
         (λ fault. IsValueFault fault (object (members entries.now.entries))) }
 {
     match entries.get("value") {
         Some(value) => Ok(value.copy(alloc)?),
-        None => Err(OpFault::Form(FormCause::NoValue)),
+        None => Err(Refusal::By(FormCause::NoValue)),
     }
 }

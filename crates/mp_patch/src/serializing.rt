@@ -6,8 +6,10 @@ ghost use Rattle.mp_tree.specs.Text.{data_of};
 ghost use Rattle.mp_tree.specs.View.{document, members_of};
 ghost use Rattle.mp_pointer.specs.Spelling.{spell};
 ghost use Rattle.mp_patch.specs.Form.{from_member, op_member, path_member, shape, shapes, value_member};
+ghost use Rattle.mp_patch.specs.Private.Names.{name_of};
 ghost use Rattle.mp_patch.specs.View.{operation_of, operations_of};
 
+use crate::name::OpName;
 use crate::op::Op;
 use crate::patch::JsonPatch;
 use mp_pointer::Pointer;
@@ -41,29 +43,29 @@ fn send_operation<S: Serializer>(op: &Op, alloc: Global, out: &mut S) -> Result<
         (S.written out.old) (S.written out.new)) }
 {
     match op {
-        Op::Add(path, value) => send_with_value("add", path, value, alloc, out),
-        Op::Remove(path) => send_without_value("remove", path, alloc, out),
-        Op::Replace(path, value) => send_with_value("replace", path, value, alloc, out),
-        Op::Move { origin, path } => send_with_origin("move", origin, path, alloc, out),
-        Op::Copy { origin, path } => send_with_origin("copy", origin, path, alloc, out),
-        Op::Test(path, value) => send_with_value("test", path, value, alloc, out),
+        Op::Add(path, value) => send_with_value(OpName::Add, path, value, alloc, out),
+        Op::Remove(path) => send_without_value(OpName::Remove, path, alloc, out),
+        Op::Replace(path, value) => send_with_value(OpName::Replace, path, value, alloc, out),
+        Op::Move { origin, path } => send_with_origin(OpName::Move, origin, path, alloc, out),
+        Op::Copy { origin, path } => send_with_origin(OpName::Copy, origin, path, alloc, out),
+        Op::Test(path, value) => send_with_value(OpName::Test, path, value, alloc, out),
     }
 }
 
 fn send_with_value<S: Serializer>(
-    name: &str,
+    name: OpName,
     path: &Pointer,
     value: &Doc,
     alloc: Global,
     out: &mut S,
 ) -> Result<(), S::Error>
     ensures { OnOk result (SendsValue (data_of (object (members_of
-        (op_member name.now ∷ path_member path.now ∷ value_member (document value.now) ∷ []))))
+        (op_member (name_of name) ∷ path_member path.now ∷ value_member (document value.now) ∷ []))))
         (S.written out.old) (S.written out.new)) }
 {
     out.begin_map(Some(3))?;
     out.key("op")?;
-    out.str(name)?;
+    out.str(name.as_str())?;
     out.key("path")?;
     send_pointer(path, alloc, out)?;
     out.key("value")?;
@@ -72,18 +74,18 @@ fn send_with_value<S: Serializer>(
 }
 
 fn send_without_value<S: Serializer>(
-    name: &str,
+    name: OpName,
     path: &Pointer,
     alloc: Global,
     out: &mut S,
 ) -> Result<(), S::Error>
     ensures { OnOk result (SendsValue (data_of (object (members_of
-        (op_member name.now ∷ path_member path.now ∷ []))))
+        (op_member (name_of name) ∷ path_member path.now ∷ []))))
         (S.written out.old) (S.written out.new)) }
 {
     out.begin_map(Some(2))?;
     out.key("op")?;
-    out.str(name)?;
+    out.str(name.as_str())?;
     out.key("path")?;
     send_pointer(path, alloc, out)?;
     out.end_map()
@@ -91,21 +93,21 @@ fn send_without_value<S: Serializer>(
 
 // Names are sent in the order of their bytes, as a document has them.
 fn send_with_origin<S: Serializer>(
-    name: &str,
+    name: OpName,
     origin: &Pointer,
     path: &Pointer,
     alloc: Global,
     out: &mut S,
 ) -> Result<(), S::Error>
     ensures { OnOk result (SendsValue (data_of (object (members_of
-        (op_member name.now ∷ path_member path.now ∷ from_member origin.now ∷ []))))
+        (op_member (name_of name) ∷ path_member path.now ∷ from_member origin.now ∷ []))))
         (S.written out.old) (S.written out.new)) }
 {
     out.begin_map(Some(3))?;
     out.key("from")?;
     send_pointer(origin, alloc, out)?;
     out.key("op")?;
-    out.str(name)?;
+    out.str(name.as_str())?;
     out.key("path")?;
     send_pointer(path, alloc, out)?;
     out.end_map()

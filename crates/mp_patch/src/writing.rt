@@ -5,8 +5,10 @@ ghost use Rattle.mp_tree.specs.View.{document, items, members_of};
 ghost use Rattle.mp_tree.specs.Elements.{items_of};
 ghost use Rattle.mp_tree.specs.Private.Entries.{members};
 ghost use Rattle.mp_patch.specs.Form.{op_member, path_member, from_member, shape, value_member};
+ghost use Rattle.mp_patch.specs.Private.Names.{name_of};
 ghost use Rattle.mp_patch.specs.View.{operation_of, operations_of};
 
+use crate::name::OpName;
 use crate::op::Op;
 use mp_pointer::Pointer;
 use mp_tree::Doc;
@@ -28,18 +30,18 @@ fn shape_of(op: &Op, alloc: Global) -> Result<Doc, AllocError>
     ensures { IfOk result (λ d. document d ≡ shape (operation_of op.now)) }
 {
     match op {
-        Op::Add(path, value) => with_value(alloc, "add", path, value.copy(alloc)?),
-        Op::Remove(path) => without_value(alloc, "remove", path),
-        Op::Replace(path, value) => with_value(alloc, "replace", path, value.copy(alloc)?),
-        Op::Move { origin, path } => with_origin(alloc, "move", origin, path),
-        Op::Copy { origin, path } => with_origin(alloc, "copy", origin, path),
-        Op::Test(path, value) => with_value(alloc, "test", path, value.copy(alloc)?),
+        Op::Add(path, value) => with_value(alloc, OpName::Add, path, value.copy(alloc)?),
+        Op::Remove(path) => without_value(alloc, OpName::Remove, path),
+        Op::Replace(path, value) => with_value(alloc, OpName::Replace, path, value.copy(alloc)?),
+        Op::Move { origin, path } => with_origin(alloc, OpName::Move, origin, path),
+        Op::Copy { origin, path } => with_origin(alloc, OpName::Copy, origin, path),
+        Op::Test(path, value) => with_value(alloc, OpName::Test, path, value.copy(alloc)?),
     }
 }
 
-fn with_value(alloc: Global, name: &str, path: &Pointer, value: Doc) -> Result<Doc, AllocError>
+fn with_value(alloc: Global, name: OpName, path: &Pointer, value: Doc) -> Result<Doc, AllocError>
     ensures { IfOk result (λ d. document d ≡ object (members_of
-        (op_member name.now ∷ path_member path.now
+        (op_member (name_of name) ∷ path_member path.now
         ∷ value_member (document value) ∷ []))) }
 {
     let mut entries = common_members(alloc, name, path)?;
@@ -47,21 +49,21 @@ fn with_value(alloc: Global, name: &str, path: &Pointer, value: Doc) -> Result<D
     Ok(Doc::Members(entries))
 }
 
-fn without_value(alloc: Global, name: &str, path: &Pointer) -> Result<Doc, AllocError>
+fn without_value(alloc: Global, name: OpName, path: &Pointer) -> Result<Doc, AllocError>
     ensures { IfOk result (λ d. document d ≡ object (members_of
-        (op_member name.now ∷ path_member path.now ∷ []))) }
+        (op_member (name_of name) ∷ path_member path.now ∷ []))) }
 {
     Ok(Doc::Members(common_members(alloc, name, path)?))
 }
 
 fn with_origin(
     alloc: Global,
-    name: &str,
+    name: OpName,
     origin: &Pointer,
     path: &Pointer,
 ) -> Result<Doc, AllocError>
     ensures { IfOk result (λ d. document d ≡ object (members_of
-        (op_member name.now ∷ path_member path.now ∷ from_member origin.now ∷ []))) }
+        (op_member (name_of name) ∷ path_member path.now ∷ from_member origin.now ∷ []))) }
 {
     let mut entries = common_members(alloc, name, path)?;
     set(&mut entries, "from", Doc::Text(origin.print(alloc)?), alloc)?;
@@ -71,17 +73,17 @@ fn with_origin(
 // The members that each operation has.
 fn common_members(
     alloc: Global,
-    name: &str,
+    name: OpName,
     path: &Pointer,
 ) -> Result<BTreeMap<String, Doc>, AllocError>
     ensures { IfOk result (λ m. members m.entries
-        ≡ members_of (op_member name.now ∷ path_member path.now ∷ [])) }
+        ≡ members_of (op_member (name_of name) ∷ path_member path.now ∷ [])) }
 {
     let mut entries = BTreeMap::new(alloc);
     set(
         &mut entries,
         "op",
-        Doc::Text(String::from_str(alloc, name)?),
+        Doc::Text(String::from_str(alloc, name.as_str())?),
         alloc,
     )?;
     set(&mut entries, "path", Doc::Text(path.print(alloc)?), alloc)?;

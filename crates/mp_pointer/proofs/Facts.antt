@@ -6,4 +6,4 @@ pub use Rattle.mp_pointer.proofs.LentParts.{nth-here, no_child, no_index_here, p
 pub use Rattle.mp_pointer.proofs.Parts.{child-object, child-list, part-append, part-push, kind-append, DifferOnlyAt-sym, DifferOnlyAt-trans, DifferOnlyAt-root, DifferOnlyAt-child}
 pub use Rattle.mp_tree.specs.Elements.{nth}
 pub use Rattle.mp_pointer.proofs.Spellings.{has_one_spelling, reads_spellings}
-pub use Rattle.mp_pointer.proofs.TokenLists.{take_step, texts_differ}
+pub use Rattle.mp_pointer.proofs.TokenLists.{are_same_tokens-Decides}

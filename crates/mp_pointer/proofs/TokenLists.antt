@@ -1,11 +1,13 @@
 -- Lists of tokens: where one begins with another.
-use Rattle.std.proofs.Common.{◌≡◌, ◌≢◌, ◌<◌, ◌+◌, ℕ, List, [], ◌∷◌, ◌++◌, length, get_or, take, drop, Some, refl, sym, ap, ◌∙◌, arith, Bool, true, false, not, true≢false}
+use Rattle.std.proofs.Common.{◌≡◌, ◌≢◌, ◌<◌, ◌+◌, ℕ, List, [], ◌∷◌, ◌++◌, length, get_or, take, drop, Some, refl, sym, ap, ◌∙◌, arith, Bool, true, false, not, true≢false, append-nil, length-append}
 use Rattle.std.proofs.lemmas.List.{take_all, take-append-drop, take_more, take_more_same, drop_more, get_or_append_left}
 use Rattle.std.proofs.lemmas.Option.{slice_get_within, get_or_from_slice_get}
 use Rattle.std.proofs.lemmas.Slice.Eq.{bytes_eq-Decides}
+use Rattle.std.specs.Bool.{Decides}
+use Rattle.std.specs.Cmp.Lexicographic.{pointwise_decides}
 use Rattle.std.specs.List.{slice_get}
 use Rattle.std.specs.Str.{bytes_eq}
-use Rattle.mp_pointer.specs.Spelling.{Tokens, IsProperPrefix}
+use Rattle.mp_pointer.specs.Spelling.{Tokens, BeginsWith, IsProperPrefix, are_same_tokens}
 
 -- one more token is taken, or dropped
 pub take_token : (t : Tokens) (i : ℕ) (x : List ℕ) → slice_get t i ≡ Some x → take (i + 1) t ≡ take i t ++ x ∷ []
@@ -17,14 +19,33 @@ drop_token t i x here = drop_more t i [] (slice_get_within t i x here) ∙ ap (�
 pub take_step : (t u : Tokens) (i : ℕ) (x : List ℕ) → slice_get t i ≡ Some x → slice_get u i ≡ Some x → take i t ≡ take i u → take (i + 1) t ≡ take (i + 1) u
 take_step t u i x here there so_far = take_more_same t u i [] (slice_get_within t i x here) (slice_get_within u i x there) so_far (get_or_from_slice_get t i x [] here ∙ sym (get_or_from_slice_get u i x [] there))
 
-pub proper_prefix : (t u : Tokens) → length t < length u → take (length t) t ≡ take (length t) u → IsProperPrefix t u
-proper_prefix t u less same =
-    let n = length t in
-    (get_or u n [], drop (n + 1) u, sym (take-append-drop n u) ∙ ap (λ xs. xs ++ drop n u) (sym same ∙ take_all n t (omega arith)) ∙ ap (λ xs. t ++ xs) (drop_more u n [] less))
+-- ---- where one begins with another
 
-pub no_prefix_of_other : (t u : Tokens) (i : ℕ) (x y : List ℕ) → slice_get t i ≡ Some x → slice_get u i ≡ Some y → x ≢ y → ¬ IsProperPrefix t u
-no_prefix_of_other t u i x y here there differ p =
-    differ (sym (get_or_from_slice_get t i x [] here) ∙ sym (get_or_append_left t (p.0 ∷ p.1) [] i (slice_get_within t i x here)) ∙ ap (λ xs. get_or xs i []) (sym p.2) ∙ get_or_from_slice_get u i y [] there)
+pub begins_with : (t u : Tokens) → take (length t) t ≡ take (length t) u → BeginsWith u t
+begins_with t u same =
+    let n = length t in
+    (drop n u, sym (take-append-drop n u) ∙ ap (λ xs. xs ++ drop n u) (sym same ∙ take_all n t (omega arith)))
+
+pub no_front_of_other : (t u : Tokens) (i : ℕ) (x y : List ℕ) → slice_get t i ≡ Some x → slice_get u i ≡ Some y → x ≢ y → ¬ BeginsWith u t
+no_front_of_other t u i x y here there differ (rest, is) =
+    differ (sym (get_or_from_slice_get t i x [] here) ∙ sym (get_or_append_left t rest [] i (slice_get_within t i x here)) ∙ ap (λ xs. get_or xs i []) (sym is) ∙ get_or_from_slice_get u i y [] there)
+
+pub proper_prefix : (t u : Tokens) → length t < length u → BeginsWith u t → IsProperPrefix t u
+proper_prefix t u less ([], is) = absurd (omega (arith, less, ap length (is ∙ append-nil t)))
+proper_prefix t u less (next ∷ rest, is) = (next, rest, is)
+
+pub prefix_begins : (t u : Tokens) → IsProperPrefix t u → (length t < length u) × BeginsWith u t
+prefix_begins t u (next, rest, is) = (omega (arith, ap length is, length-append t (next ∷ rest)), (next ∷ rest, is))
+
+pub same_from_front : (t u : Tokens) → length t ≡ length u → BeginsWith u t → t ≡ u
+same_from_front t u long ([], is) = sym (is ∙ append-nil t)
+same_from_front t u long (next ∷ rest, is) = absurd (omega (arith, long, ap length is, length-append t (next ∷ rest)))
+
+pub front_of_same : (t u : Tokens) → t ≡ u → BeginsWith u t
+front_of_same t u same = ([], sym same ∙ sym (append-nil t))
+
+pub are_same_tokens-Decides : (t u : Tokens) → Decides (are_same_tokens t u) (t ≡ u)
+are_same_tokens-Decides = pointwise_decides bytes_eq-Decides
 
 -- what `!=` of two texts answers
 pub texts_differ : (xs ys : List ℕ) (r : Bool) → r ≡ not (bytes_eq xs ys) → (r ≡ false → xs ≡ ys) × (r ≡ true → xs ≢ ys)

@@ -1,5 +1,6 @@
 -- How a pointer is spelled, and what a text spells (RFC 6901 sections 3 and 4).
 use Rattle.std.specs.Prelude.{◌≡◌, ◌≢◌, ◌+◌, ◌<◌, ◌==◌, ◌&&◌, ◌||◌, ℕ, suc, codes, List, [], ◌∷◌, ◌++◌, map, slice_index, Bool, false, not, if◌then◌else◌, Option, None, Some, option_map, Result, Ok, Err, ⊤}
+use Rattle.std.specs.Cmp.Lexicographic.{pointwise}
 use Rattle.std.specs.List.{flat_map}
 use Rattle.mp_pointer.specs.declared.fault.PointerFault.{PointerFault}
 use Rattle.mp_pointer.specs.declared.fault.PointerFault.TheVariants.{NoSlash, BadTilde, OutOfMemory}
@@ -7,6 +8,10 @@ use Rattle.mp_pointer.specs.declared.fault.PointerFault.TheVariants.{NoSlash, Ba
 -- a pointer is its list of tokens, each the UTF-8 bytes of a name or an index with nothing escaped
 abbrev pub Tokens : Type 0
 Tokens = List (List ℕ)
+
+-- as many tokens, and each equal byte by byte
+abbrev pub are_same_tokens : Tokens → Tokens → Bool
+are_same_tokens = pointwise (pointwise ◌==◌)
 
 -- u is t with further tokens, or t itself
 abbrev pub BeginsWith : Tokens → Tokens → Type 0

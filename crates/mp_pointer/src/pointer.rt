@@ -1,6 +1,6 @@
 ghost use Rattle.std.specs.Prelude.{◌≡◌, ◌≢◌, ◌≤◌, ◌-◌, ◌↔◌, ◌++◌, ◌∷◌, [], length, map, take, get_or, slice_get, IsTrue, IfOk, IfErr, OnOk, OnErr, MatchResult, Ok, Err, string_bytes};
 ghost use Rattle.std.specs.Option.{option_copied};
-ghost use Rattle.mp_pointer.specs.Spelling.{spell, tokens_in, IsFaultOf, IsProperPrefix};
+ghost use Rattle.mp_pointer.specs.Spelling.{BeginsWith, spell, tokens_in, IsFaultOf, IsProperPrefix};
 
 use crate::fault::PointerFault;
 use crate::spelling::{bad_tilde, is_plain, pointer_after, push_escaped};
@@ -236,6 +236,13 @@ impl Pointer {
         }
     }
 
+    /// Whether there is no token: the pointer then names the whole document. Takes no memory.
+    pub fn is_empty(&self) -> bool
+        ensures { IsTrue result ↔ (self.now ≡ []) }
+    {
+        self.len() == 0
+    }
+
     /// Whether `other` begins with all tokens of this pointer and has at least one more, so that it leads further
     /// into the part that this pointer names. Takes no memory.
     ///
@@ -245,9 +252,14 @@ impl Pointer {
     pub fn is_proper_prefix_of(&self, other: &Pointer) -> bool
         ensures { IsTrue result ↔ IsProperPrefix self.now other.now }
     {
-        if other.len() <= self.len() {
-            return false;
-        }
+        self.len() < other.len() && self.is_front_of(other)
+    }
+
+    // Whether `other` begins with all tokens of this pointer, and is no shorter.
+    fn is_front_of(&self, other: &Pointer) -> bool
+        requires { length self.now ≤ length other.now }
+        ensures { IsTrue result ↔ BeginsWith other.now self.now }
+    {
         for number in 0..self.len() {
             if self.token(number).unwrap() != other.token(number).unwrap() {
                 return false;
@@ -255,6 +267,28 @@ impl Pointer {
         }
         true
     }
+}
+
+/// Pointers are equal where they have the same tokens in the same order. Takes no memory.
+impl PartialEq for Pointer {
+    ghost use Rattle.mp_pointer.specs.Spelling.{are_same_tokens};
+    ghost use Rattle.std.proofs.Common.{rules};
+    ghost use Rattle.std.specs.Cmp.Rules.{comparing};
+
+    ghost eq = { are_same_tokens };
+
+    ghost laws = { Prim.search (comparing, rules) };
+
+    fn eq(&self, other: &Pointer) -> bool {
+        self.len() == other.len() && self.is_front_of(other)
+    }
+}
+
+impl Eq for Pointer {
+    ghost use Rattle.std.proofs.Common.{rules};
+    ghost use Rattle.std.specs.Cmp.Rules.{comparing};
+
+    ghost laws = { Prim.search (comparing, rules) };
 }
 
 // Where the first `count` tokens end.

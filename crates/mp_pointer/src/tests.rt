@@ -223,6 +223,21 @@ fn a_proper_prefix_is_shorter(rt: HostRuntime) -> Result<(), Fail> {
 }
 
 #[test]
+fn pointers_are_equal_by_their_tokens(rt: HostRuntime) -> Result<(), Fail> {
+    let pointer = Pointer::parse(rt.alloc(), "/a~1b/0")?;
+    let mut other = Pointer::empty(rt.alloc());
+    assert!(rt; other.is_empty() && pointer != other);
+    other.push("a/b")?;
+    assert!(rt; !other.is_empty() && pointer != other && other != pointer);
+    other.push("0")?;
+    assert!(rt; pointer == other);
+    other.push("x~")?;
+    other.pop();
+    assert!(rt; pointer == other && pointer != Pointer::parse(rt.alloc(), "/a/b/0")?);
+    Ok(())
+}
+
+#[test]
 fn tokens_spell_indices(rt: HostRuntime) {
     for (token, wanted) in INDICES {
         assert_eq!(rt; index_of(token), *wanted, "of {token:?}");

@@ -65,7 +65,7 @@ fn under(rt: HostRuntime) -> Result<(), Fail> {
 
 fn watch_front(alloc: Global) -> Option<Seen> {
     let pointer = pointer_of(alloc, TEXT)?;
-    if pointer.len() == 0 {
+    if pointer.is_empty() {
         return None;
     }
     let given = pointer.front(alloc, 1);

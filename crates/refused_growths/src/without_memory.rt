@@ -69,11 +69,11 @@ fn members_mut(rt: HostRuntime) -> Result<(), Fail> {
 
 #[test]
 fn empty(rt: HostRuntime) -> Result<(), Fail> {
-    let seen = Seen::answer_if(Pointer::empty(rt.alloc()).len() == 0);
+    let seen = Seen::answer_if(Pointer::empty(rt.alloc()).is_empty());
     tell(&rt, Some(seen))
 }
 
-/// `len`, `token` and `is_proper_prefix_of`.
+/// `len`, `token`, `is_proper_prefix_of` and `==`.
 fn watch_tokens(alloc: Global) -> Option<Seen> {
     let short = pointer_of(alloc, "/a")?;
     let long = pointer_of(alloc, "/a/b")?;
@@ -81,7 +81,8 @@ fn watch_tokens(alloc: Global) -> Option<Seen> {
     let prefix = short.is_proper_prefix_of(&long);
     let others = short.is_proper_prefix_of(&short) || short.is_proper_prefix_of(&beside);
     let tokens = has_tokens(&long, &["a", "b"]) && long.token(2).is_none();
-    Some(Seen::answer_if(prefix && !others && tokens))
+    let equal = short == short && short != long && short != beside;
+    Some(Seen::answer_if(prefix && !others && tokens && equal))
 }
 
 #[test]

@@ -7,29 +7,23 @@ use Rattle.mp_pointer.specs.Part.{child}
 use Rattle.mp_patch.specs.Operation.{Operation, Step, AddsTo, RemovesFrom}
 use Rattle.mp_patch.specs.Refusal.{RefusedBy, LacksPlace}
 use Rattle.mp_patch.specs.Run.{IsRefused}
-use Rattle.mp_patch.specs.declared.fault.ApplyFault.{ApplyFault}
-use Rattle.mp_patch.specs.declared.fault.ApplyFault.TheVariants as apply_fault
+use Rattle.mp_patch.specs.declared.fault.Cause.{Cause}
 use Rattle.mp_patch.specs.declared.fault.Cause.TheVariants.{NoPlace, TooDeep}
-use Rattle.mp_patch.specs.declared.steps.StepFault.{StepFault}
-use Rattle.mp_patch.specs.declared.steps.StepFault.TheVariants.{Refused, OutOfMemory}
-
--- the fault of operation number `number`
-abbrev pub fault_at : ℕ → StepFault → ApplyFault
-fault_at number (Refused cause) = apply_fault.Refused number cause
-fault_at number OutOfMemory = apply_fault.OutOfMemory
+use Rattle.mp_patch.specs.declared.fault.Refusal.{Refusal}
+use Rattle.mp_patch.specs.declared.fault.Refusal.TheVariants.{By, OutOfMemory}
 
 -- the operation was taken from d to e, or is refused; want of memory says nothing
-abbrev pub Answers : Result (Unit {0}) StepFault → Document → Operation → Document → Type 0
+abbrev pub Answers : Result (Unit {0}) (Refusal Cause) → Document → Operation → Document → Type 0
 Answers (Ok done) d o e = ¬ IsRefused d o × Step d o e
-Answers (Err (Refused cause)) d o e = RefusedBy d o cause
+Answers (Err (By cause)) d o e = RefusedBy d o cause
 Answers (Err OutOfMemory) d o e = ⊤
 
 -- v was added to the container before, or it lacks the place, or v does not fit
-abbrev pub Inserts : Result (Unit {0}) StepFault → Bool → List ℕ → Document → Document → Document → Type 0
+abbrev pub Inserts : Result (Unit {0}) (Refusal Cause) → Bool → List ℕ → Document → Document → Document → Type 0
 Inserts (Ok done) fits token v before after = IsTrue fits × (¬ LacksPlace token (Some before)) × AddsTo v token before after
-Inserts (Err (Refused NoPlace)) fits token v before after = LacksPlace token (Some before)
-Inserts (Err (Refused TooDeep)) fits token v before after = (¬ LacksPlace token (Some before)) × IsFalse fits
-Inserts (Err (Refused cause)) fits token v before after = ⊥
+Inserts (Err (By NoPlace)) fits token v before after = LacksPlace token (Some before)
+Inserts (Err (By TooDeep)) fits token v before after = (¬ LacksPlace token (Some before)) × IsFalse fits
+Inserts (Err (By cause)) fits token v before after = ⊥
 Inserts (Err OutOfMemory) fits token v before after = ⊤
 
 -- the part that the token named was taken out of the container, or there was none

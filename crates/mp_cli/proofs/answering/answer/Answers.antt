@@ -11,4 +11,4 @@ unfolding IsAnswered
 returns-in-Join c =
     let docs = c.in-Ok.docs.items in
     let listed_docs = list_of-items docs in
-    IfOk-weaker c.join.result _ _ (λ a is. rw (c.in-Join.is, c.in-Ok.ensures.documents) (subst (λ (ps : List Document). IsJoinAnswer ps (answered_by a)) (ap (map document) c.as_slice-in-Join.ensures.value ∙ sym listed_docs) is)) c.join.ensures
+    IfOk-weaker c.join.result _ _ (λ a is. rw (c.in-Join.is, c.in-Ok.ensures.documents) (subst (λ (ps : List Document). IsJoinAnswer ps (answered_by a)) (ap (map document) c.as_slice.ensures.value ∙ sym listed_docs) is)) c.join.ensures

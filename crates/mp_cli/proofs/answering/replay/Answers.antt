@@ -1,27 +1,27 @@
-use Rattle.std.proofs.Common.{◌≡◌, ◌==◌, ◌∷◌, ◌∙◌, map, ap}
+use Rattle.std.proofs.Common.{◌≡◌, ◌∷◌, ◌∙◌, map, ap, sym}
 use Rattle.std.proofs.lemmas.Result.{IfOk-weaker}
 use Rattle.mp_tree.specs.View.{document}
 use Rattle.mp_tree.proofs.Facts.{IsDocument-document}
 use Rattle.mp_cli.specs.Answered.{replayed}
 use Rattle.mp_cli.specs.Lines.{line}
-use Rattle.mp_cli.proofs.AnswerCases.{first_and_rest, no_replay, if_both, replay_answer}
+use Rattle.mp_cli.proofs.AnswerCases.{no_replay, if_both, replay_answer}
 use Rattle.mp_cli.proofs.answering.replay.Goals as goal
 
 pub returns-in-Ok : goal.returns-in-Ok
 returns-in-Ok c =
     let docs = c.args.docs.items in
-    let d = c.remove-start.result in
+    let d = c.in-Some.start in
     let ps = c.as_slice.result.now in
     let e = c.in-Ok.doc in
-    let split : docs ≡ d ∷ ps = first_and_rest docs ps d (c.if-is_empty.ensures ∙ ap (λ n. n == 0) c.args.docs.ok.0) c.remove-start.ensures.value (c.as_slice.ensures.value ∙ c.remove-start.ensures.items) in
+    let split : docs ≡ d ∷ ps = c.in-Some.ensures ∙ ap (λ rest. d ∷ rest) (sym c.as_slice.ensures.value) in
     let text = c.in_ok-write_doc-in-Ok.ensures.text in
     IfOk-weaker c.result_line.result _ _ (λ a is. replay_answer docs ps d _ split (replayed (document e) (IsDocument-document e) c.in-Ok.ensures.outcome (is ∙ ap (λ t. line t 0) text))) c.result_line.ensures
 
 pub returns : goal.returns
 returns c =
     let docs = c.args.docs.items in
-    let d = c.remove-start.result in
+    let d = c.in-Some.start in
     let ps = c.as_slice.result.now in
-    let split : docs ≡ d ∷ ps = first_and_rest docs ps d (c.if-is_empty.ensures ∙ ap (λ n. n == 0) c.args.docs.ok.0) c.remove-start.ensures.value (c.as_slice.ensures.value ∙ c.remove-start.ensures.items) in
+    let split : docs ≡ d ∷ ps = c.in-Some.ensures ∙ ap (λ rest. d ∷ rest) (sym c.as_slice.ensures.value) in
     if_both c.fault_in_list.result _ _ _ c.fault_in_list.ensures.line c.fault_in_list.ensures.fault
     (λ a is memory. replay_answer docs ps d _ split (no_replay c.in-Err.fault (document d) (map document ps) _ memory c.in-Err.ensures.outcome is))

@@ -30,5 +30,5 @@ returns-in-Err-clause-runs c =
     let operations = operations_of c.args.patch.now in
     let o = operation_of c.op-item.result in
     let there = operation_there c.args.patch.now c.ops-op-items.result.now l.number c.op-item.result c.ops-op-items.ensures c.loop-number-test.true c.op-item.is in
-    subst (λ (fault : ApplyFault). IsFaultOf fault (document c.args.doc) operations) (sym c.at.ensures)
-    (fault_there c.in-Err.fault l.number (document c.args.doc) (document l.result) (document c.step.new.doc) operations o l.invariant.run there c.in-Err.ensures)
+    subst (λ (fault : ApplyFault). IsFaultOf fault (document c.args.doc) operations) (sym c.of_operation.ensures)
+    (fault_there c.in-Err.refusal l.number (document c.args.doc) (document l.result) (document c.step.new.doc) operations o l.invariant.run there c.in-Err.ensures)

@@ -4,7 +4,7 @@ use Rattle.std.specs.Option.{option_copied}
 use Rattle.mp_tree.specs.Document.{object}
 use Rattle.mp_tree.specs.Private.Entries.{members}
 use Rattle.mp_patch.specs.Form.{text_at}
-use Rattle.mp_patch.specs.Private.Reading.{name_of}
+use Rattle.mp_patch.specs.Private.Names.{name_of}
 use Rattle.mp_patch.proofs.Forms.{origin_fault}
 use Rattle.mp_patch.proofs.reading.read_members.Goals as goal
 

@@ -10,8 +10,8 @@ pub returns-in-Err : goal.returns-in-Err
 returns-in-Err c =
     let l = c.loop-number in
     let docs = c.args.elements.now in
-    subst (λ (fault : FormFault). IsFormFault fault (list (items docs))) (sym c.at.ensures)
-    (fault_there c.in-Err.fault docs l.patch l.number c.index-elements-number.result c.loop-number-test.true c.index-elements-number.is l.invariant c.in-Err.ensures)
+    subst (λ (fault : FormFault). IsFormFault fault (list (items docs))) (sym c.of_element.ensures)
+    (fault_there c.in-Err.refusal docs l.patch l.number c.index-elements-number.result c.loop-number-test.true c.index-elements-number.is l.invariant c.in-Err.ensures)
 
 pub loop-number-preserved : goal.loop-number-preserved
 loop-number-preserved c =

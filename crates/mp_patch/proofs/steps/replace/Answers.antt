@@ -4,7 +4,7 @@ use Rattle.mp_pointer.specs.Difference.{DifferOnlyAt}
 use Rattle.mp_pointer.specs.Part.{part}
 use Rattle.mp_pointer.specs.Spelling.{Tokens}
 use Rattle.mp_patch.specs.declared.fault.Cause.TheVariants.{TooDeep}
-use Rattle.mp_patch.specs.declared.steps.StepFault.TheVariants.{Refused}
+use Rattle.mp_patch.specs.declared.fault.Refusal.TheVariants.{By}
 use Rattle.mp_patch.proofs.SingleSteps.{to_end, replaced, set_means}
 use Rattle.mp_patch.proofs.steps.replace.Goals as goal
 
@@ -15,7 +15,7 @@ returns-in-Some c =
     let fits = c.fits_below-fits.result in
     let all : take c.len-2.result path ≡ path = ap (λ n. take n path) c.len-2.ensures ∙ to_end path in
     let edits = c.in-Some.ensures in
-    let set : MatchResult r (λ _. IsTrue fits × (edits.edited.left.now ≡ c.args.value)) (λ fault. IsFalse fits × (fault ≡ Refused TooDeep)) = search rules in
+    let set : MatchResult r (λ _. IsTrue fits × (edits.edited.left.now ≡ c.args.value)) (λ fault. IsFalse fits × (fault ≡ By TooDeep)) = search rules in
     let will : document edits.after ≡ document edits.edited.left.now = ap document (sym edits.edited.leaves) in
     replaced r fits path (document c.args.value) (document c.args.doc.now) (document c.edit_part.new.doc) (document edits.before) (document edits.edited.left.now)
     (λ h. omega (arith, c.fits_below-fits.ensures.0 h, c.len.ensures)) (λ h. c.fits_below-fits.ensures.1 (omega (arith, h, c.len.ensures)))

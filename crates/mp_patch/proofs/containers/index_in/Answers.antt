@@ -1,7 +1,7 @@
 use Rattle.std.proofs.Common.{◌≡◌, arith, sym, ◌∙◌}
 use Rattle.mp_pointer.proofs.Facts.{same_numeral, bytes_differ}
 use Rattle.mp_patch.specs.Operation.{dash}
-use Rattle.mp_patch.proofs.steps.index_in.Goals as goal
+use Rattle.mp_patch.proofs.containers.index_in.Goals as goal
 
 pub returns-else-index-len : goal.returns-else-index-len
 returns-else-index-len c = (

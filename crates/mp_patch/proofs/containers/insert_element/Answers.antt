@@ -1,6 +1,6 @@
 use Rattle.std.proofs.Common.{◌≡◌, ◌≤◌, length, arith}
 use Rattle.mp_patch.proofs.SingleSteps.{element_inserted, element_place, no_element_place, in_list}
-use Rattle.mp_patch.proofs.steps.insert_element.Goals as goal
+use Rattle.mp_patch.proofs.containers.insert_element.Goals as goal
 
 pub returns-in_default : goal.returns-in_default
 returns-in_default c =

@@ -1,0 +1,18 @@
+-- A refusal as the fault of a patch. Only private clauses cite it.
+use Rattle.std.specs.Prelude.{ℕ}
+use Rattle.mp_patch.specs.declared.fault.ApplyFault.{ApplyFault}
+use Rattle.mp_patch.specs.declared.fault.ApplyFault.TheVariants as apply_fault
+use Rattle.mp_patch.specs.declared.fault.Cause.{Cause}
+use Rattle.mp_patch.specs.declared.fault.FormCause.{FormCause}
+use Rattle.mp_patch.specs.declared.fault.FormFault.{FormFault}
+use Rattle.mp_patch.specs.declared.fault.FormFault.TheVariants as form_fault
+use Rattle.mp_patch.specs.declared.fault.Refusal.{Refusal}
+use Rattle.mp_patch.specs.declared.fault.Refusal.TheVariants.{By, OutOfMemory}
+
+abbrev pub fault_of_operation : ℕ → Refusal Cause → ApplyFault
+fault_of_operation number (By cause) = apply_fault.Refused number cause
+fault_of_operation number OutOfMemory = apply_fault.OutOfMemory
+
+abbrev pub fault_of_element : ℕ → Refusal FormCause → FormFault
+fault_of_element number (By cause) = form_fault.Form number cause
+fault_of_element number OutOfMemory = form_fault.OutOfMemory
