@@ -115,11 +115,9 @@ fn pointer_of(spelling: &str, alloc: Global) -> Result<Pointer, Refusal<FormCaus
 {
     match Pointer::parse(alloc, spelling) {
         Ok(pointer) => Ok(pointer),
-        Err(fault) => match fault {
-            PointerFault::NoSlash => Err(Refusal::By(FormCause::BadPointer)),
-            PointerFault::BadTilde(_) => Err(Refusal::By(FormCause::BadPointer)),
-            PointerFault::OutOfMemory => Err(Refusal::OutOfMemory),
-        },
+        Err(PointerFault::NoSlash) => Err(Refusal::By(FormCause::BadPointer)),
+        Err(PointerFault::BadTilde(_)) => Err(Refusal::By(FormCause::BadPointer)),
+        Err(PointerFault::OutOfMemory) => Err(Refusal::OutOfMemory),
     }
 }
 
