@@ -1,11 +1,8 @@
 -- What each arm of the walk over a patch and a document adds.
-use Rattle.std.proofs.Common.{◌≡◌, ◌≢◌, inr, ℕ, List, [], ◌∷◌, ◌++◌, Option, Some, None, option_map, Bor, refl, sym, ap, ap₂, ◌∙◌}
+use Rattle.std.proofs.Common.{◌≡◌, ◌≢◌, inr, ℕ, List, [], ◌∷◌, ◌++◌, Option, Some, None, refl, sym, ap, ap₂, ◌∙◌}
 use Rattle.std.proofs.lemmas.List.{map-append}
-use Rattle.std.specs.Option.{option_copied}
 use Rattle.mp_tree.specs.Document.{Document, null, flag, whole, string, list, object, Members, member, find}
 use Rattle.mp_tree.specs.Look.{Path, nothing, look, look_here}
-use Rattle.mp_tree.specs.View.{document}
-use Rattle.mp_tree.specs.declared.doc.Doc.{Doc}
 use Rattle.mp_patch.specs.Operation.{add, remove, replace, test}
 use Rattle.mp_merge.specs.Application.{merge_patch, unless_null}
 use Rattle.mp_merge.specs.Private.Edits.{GuardedEdit, IsOneEdit, NotBothMaps, AreEdits, AreMemberEdits, all_edits, guarded_edit_of}

@@ -1,4 +1,5 @@
-use Rattle.std.proofs.Common.{◌≡◌, ◌≢◌, [], ◌∷◌, ◌++◌, Some, None, option_map, Bor, sym, ap, ◌∙◌, subst, true≢false}
+use Rattle.std.proofs.Common.{◌≡◌, ◌≢◌, [], ◌∷◌, ◌++◌, Some, None, option_map, Bor, sym, ap, ◌∙◌, subst}
+use Rattle.std.proofs.lemmas.Bool.{iff_false}
 use Rattle.mp_tree.specs.Document.{null}
 use Rattle.mp_tree.specs.View.{document}
 use Rattle.mp_tree.specs.declared.doc.Doc.{Doc}
@@ -25,8 +26,8 @@ returns-in_ok-push-in-Some-2 c =
     let p = document c.args.change.now in
     let v = document c.in-Some.there.now in
     let target : option_map (λ (x : Bor Doc). document x.now) c.args.value ≡ Some v = ap (option_map (λ (x : Bor Doc). document x.now)) c.in-Some.is in
-    let real : p ≢ null = λ none. true≢false (sym (c.is_null.ensures.1 none) ∙ c.if-is_null.false) in
-    let differ : p ≢ v = λ same. true≢false (sym (c.same.ensures.same.1 same) ∙ c.if-same.false) in
+    let real : p ≢ null = iff_false c.is_null.ensures c.if-is_null.false in
+    let differ : p ≢ v = iff_false c.same.ensures.same c.if-same.false in
     let s = c.args.path.now ++ c.args.name.now ∷ [] in
     let there = c.in_ok-place-in-Some-2.ensures in
     let e = c.in_ok-guarded_edit-in-Some-2.field-0 in
@@ -39,7 +40,7 @@ pub returns-in_ok-push-in-None : goal.returns-in_ok-push-in-None
 returns-in_ok-push-in-None c =
     let p = document c.args.change.now in
     let target : option_map (λ (x : Bor Doc). document x.now) c.args.value ≡ None = ap (option_map (λ (x : Bor Doc). document x.now)) c.in-None.is in
-    let real : p ≢ null = λ none. true≢false (sym (c.is_null-in-None.ensures.1 none) ∙ c.if-is_null-2.false) in
+    let real : p ≢ null = iff_false c.is_null-in-None.ensures c.if-is_null-2.false in
     let s = c.args.path.now ++ c.args.name.now ∷ [] in
     subst (λ o. NotBothMaps p o → Grew (all_edits c.args.edits.now.items) (all_edits c.push-in-None.new.self.items) (IsOneEdit s p o)) (sym target)
     (λ other. grew_by_one (IsOneEdit s p None) c.args.edits.now.items c.push-in-None.new.self.items _ c.in_ok-push-in-None.ensures.items
