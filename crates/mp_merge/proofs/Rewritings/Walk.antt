@@ -13,8 +13,8 @@ use Rattle.mp_merge.proofs.Collections.Growth.{IsRestOf, rest_after_one}
 
 -- ---- a list that has grown
 
-pub grew_by_one : (Holds : List GuardedEdit → Type 0) (old new : List Edit) (e : Edit) → new ≡ old ++ e ∷ [] → Holds (guarded_edit_of e ∷ []) → Grew (all_edits old) (all_edits new) Holds
-grew_by_one Holds old new e is here = (guarded_edit_of e ∷ [], ap all_edits is ∙ map-append guarded_edit_of old (e ∷ []), here)
+pub grew_by_one : {g : GuardedEdit} (Holds : List GuardedEdit → Type 0) (old new : List Edit) (e : Edit) → new ≡ old ++ e ∷ [] → guarded_edit_of e ≡ g → Holds (g ∷ []) → Grew (all_edits old) (all_edits new) Holds
+grew_by_one Holds old new e is means here = (guarded_edit_of e ∷ [], ap all_edits is ∙ map-append guarded_edit_of old (e ∷ []), rw means here)
 
 -- ---- one operation
 
