@@ -1,8 +1,6 @@
 -- A merged document is no deeper than the deeper of target and patch.
-use Rattle.std.proofs.Common.{◌≤◌, ℕ, List, Bool, true, false, cond, max, Option, Some, None, Ordering, arith}
-use Rattle.std.specs.Ordering.{match_ordering}
-use Rattle.std.specs.declared.cmp.Ordering.TheVariants.{Less, Equal, Greater}
-use Rattle.mp_tree.specs.Document.{Document, null, flag, whole, string, list, object, Members, no_members, member, name_cmp, is_name, find, put, without, depth, members_depth}
+use Rattle.std.proofs.Common.{◌≤◌, ℕ, List, Bool, true, false, cond, max, Option, Some, None, arith}
+use Rattle.mp_tree.specs.Document.{Document, null, flag, whole, string, list, object, Members, no_members, member, is_name, find, depth, members_depth}
 use Rattle.mp_merge.specs.Application.{target_members, set_or_remove, depth_of, merge_patch, merge_patch_members}
 use Rattle.mp_tree.proofs.Facts.{members_depth-put, members_depth-without}
 

@@ -11,7 +11,7 @@ use Rattle.mp_merge.specs.Lists.{HaveSameMembers}
 use Rattle.mp_merge.specs.Lists.{PairwiseCompatible}
 use Rattle.mp_merge.specs.Private.Merging.{NeedsNoneAt, NeedsNoneIn, ResumesAt}
 use Rattle.mp_merge.specs.Resumption.{NeedsNoMemory}
-use Rattle.mp_merge.proofs.Application.ByName.{IsDocument-merge_patch, IsMap-merge_patch_members, find-set_or_remove, find-merge_patch_members}
+use Rattle.mp_merge.proofs.Application.ByName.{IsDocument-merge_patch, IsMap-merge_patch_members, find-set_or_remove, find-merge_patch_members, merge_patch_members-step}
 use Rattle.mp_merge.proofs.Clashes.ByName.{compatible-self}
 use Rattle.mp_merge.proofs.Collections.Elements.{Contains-head, Contains-tail, Contains-cases, Contains-one}
 use Rattle.mp_merge.proofs.Application.InTurn.{applied_in_turn}
@@ -60,7 +60,7 @@ tries_resume d p (e ∷ rest) tries = tries_resume e p rest tries.1 ∙ tries.0
 
 -- ---- one name
 
-pub changed_resumes : (n : List ℕ) (p : Document) (ts : Members) → IsMap ts → IsDocument p → ResumesAt n p ts (set_or_remove n p (merge_patch (find n ts) p) ts)
+changed_resumes : (n : List ℕ) (p : Document) (ts : Members) → IsMap ts → IsDocument p → ResumesAt n p ts (set_or_remove n p (merge_patch (find n ts) p) ts)
 changed_resumes n p ts map good = record {
   others = λ m other. find-set_or_remove m n p (merge_patch (find n ts) p) ts map ∙ ap (λ b. cond b (unless_null p (merge_patch (find n ts) p)) (find m ts)) other;
   here = ap (λ t. merge_patch t p) (find-set_or_remove n n p (merge_patch (find n ts) p) ts map ∙ ap (λ b. cond b (unless_null p (merge_patch (find n ts) p)) (find n ts)) (is_name-self n)) ∙ changed_once (find n ts) p (IsDocument-find n ts map) good;
@@ -74,7 +74,7 @@ set_resumes n p d ts us is same = record {
 }
 
 -- so applying all of the patch gives the same as before
-pub resumes_all : (ts us ps : Members) (n : List ℕ) (p : Document) → IsMap ts → IsMap us → IsMap ps → find n ps ≡ Some p → ResumesAt n p ts us → merge_patch_members us ps ≡ merge_patch_members ts ps
+resumes_all : (ts us ps : Members) (n : List ℕ) (p : Document) → IsMap ts → IsMap us → IsMap ps → find n ps ≡ Some p → ResumesAt n p ts us → merge_patch_members us ps ≡ merge_patch_members ts ps
 resumes_all ts us ps n p map now good carried resumes = members_same (merge_patch_members us ps) (merge_patch_members ts ps) (IsMap-merge_patch_members us ps now good) (IsMap-merge_patch_members ts ps map good) at_name
   where
     here : after_patch (find n us) (find n ps) ≡ after_patch (find n ts) (find n ps)
@@ -91,11 +91,11 @@ resumes_all ts us ps n p map now good carried resumes = members_same (merge_patc
 -- ---- the names that are left
 
 -- what is left of the patch is some of it
-abbrev pub IsAmong : Members → Members → Type 0
+abbrev IsAmong : Members → Members → Type 0
 IsAmong left all = (q : List ℕ) (x : Document) → find q left ≡ Some x → find q all ≡ Some x
 
 -- at the names that are left nothing has changed
-abbrev pub IsUntouched : Members → Members → Members → Type 0
+abbrev IsUntouched : Members → Members → Members → Type 0
 IsUntouched left before now = (q : List ℕ) (x : Document) → find q left ≡ Some x → find q now ≡ find q before
 
 -- a name that is left behind the first is another one
@@ -105,29 +105,44 @@ left_is_other n q p x left below found =
     (λ same. absurd (let none : find q left ≡ None = ap (λ k. find k left) same ∙ find-below n left below in let never = sym found ∙ none in cc))
     (λ other. (other, ap (λ b. cond b (Some p) (find q left)) other ∙ found))
 
-pub first_among : (n : List ℕ) (p : Document) (left all : Members) → IsAmong (member n p left) all → find n all ≡ Some p
-first_among n p left all among = among n p (find-here n p left)
+-- the changes that are left, made to what there is now, give what all give, and so do all of them, made again
+pub record MergesOn (before all now left : Members) : Type 0 where
+  pub result : merge_patch_members now left ≡ merge_patch_members before all
+  pub again : merge_patch_members now all ≡ merge_patch_members before all
+  pub among : IsAmong left all
+  pub untouched : IsUntouched left before now
 
-pub rest_among : (n : List ℕ) (p : Document) (left all : Members) → IsBelow n left → IsAmong (member n p left) all → IsAmong left all
-rest_among n p left all below among q x found = among q x (left_is_other n q p x left below found).1
+module _ {before all now left : Members} {n : List ℕ} {p : Document} (map : IsMap now) (good : IsMap all) (on : MergesOn before all now (member n p left)) where
+  carried : find n all ≡ Some p
+  carried = on.among n p (find-here n p left)
 
-pub first_untouched : (n : List ℕ) (p : Document) (left before now : Members) → IsUntouched (member n p left) before now → find n now ≡ find n before
-first_untouched n p left before now same = same n p (find-here n p left)
+  pub merges_again : {later : Members} → IsMap later → ResumesAt n p now later → merge_patch_members later all ≡ merge_patch_members before all
+  merges_again {later = later} later_map resumes = resumes_all now later all n p map later_map good carried resumes ∙ on.again
 
-pub rest_untouched : (n : List ℕ) (p : Document) (left before now later : Members) → IsBelow n left → IsUntouched (member n p left) before now → ResumesAt n p now later → IsUntouched left before later
-rest_untouched n p left before now later below same resumes q x found =
-    let other = left_is_other n q p x left below found in
-    resumes.others q other.0 ∙ same q x other.1
+  pub merges_on : {later : Members} → IsMap later → IsMap (member n p left) → later ≡ set_or_remove n p (merge_patch (find n now) p) now → MergesOn before all later left
+  merges_on {later = later} later_map rest made =
+      let resumes : ResumesAt n p now later = subst (ResumesAt n p now) (sym made) (changed_resumes n p now map rest.0) in
+      let other = λ (q : List ℕ) (x : Document). left_is_other n q p x left rest.1 in
+      record {
+        result = ap (λ ms. merge_patch_members ms left) made ∙ sym (merge_patch_members-step now n p left map rest) ∙ on.result;
+        again = merges_again later_map resumes;
+        among = λ q x found. on.among q x (other q x found).1;
+        untouched = λ q x found. resumes.others q (other q x found).0 ∙ on.untouched q x (other q x found).1;
+      }
+
+  -- where no value of the patch takes memory, the next one takes none
+  pub needs_none_next : NeedsNoneIn all before → NeedsNoneAt p (find n now)
+  needs_none_next needs = subst (NeedsNoneAt p) (sym (on.untouched n p (find-here n p left))) (needs n p carried)
 
 -- ---- no memory
 
-pub absent_needs : (p : Document) (t : Option Document) → (p ≡ null → ⊥) → t ≡ None → NeedsNoneAt p t → ⊥
-absent_needs p t other absent (inl is) = other is
-absent_needs p t other absent (inr there) = let never : Some there.0 ≡ None = sym there.1 ∙ absent in absurd (cc)
+pub absent_needs : {p : Document} {t : Option Document} → (p ≡ null → ⊥) → t ≡ None → NeedsNoneAt p t → ⊥
+absent_needs other absent (inl is) = other is
+absent_needs other absent (inr there) = let never : Some there.0 ≡ None = sym there.1 ∙ absent in absurd (cc)
 
-pub present_needs : (p d : Document) (t : Option Document) → (p ≡ null → ⊥) → t ≡ Some d → NeedsNoneAt p t → NeedsNoMemory d p
-present_needs p d t other here (inl is) = absurd (other is)
-present_needs p d t other here (inr there) = let same : there.0 ≡ d = (let both : Some there.0 ≡ Some d = sym there.1 ∙ here in cc) in subst (λ (e : Document). NeedsNoMemory e p) same there.2
+pub present_needs : {p d : Document} {t : Option Document} → (p ≡ null → ⊥) → t ≡ Some d → NeedsNoneAt p t → NeedsNoMemory d p
+present_needs other here (inl is) = absurd (other is)
+present_needs {p = p} {d = d} other here (inr there) = let same : there.0 ≡ d = (let both : Some there.0 ≡ Some d = sym there.1 ∙ here in cc) in subst (λ (e : Document). NeedsNoMemory e p) same there.2
 
 -- an object there, and what the patch has below it
 needs_at : (n : List ℕ) (ts ps : Members) (p : Document) → find n ps ≡ Some p → NeedsNoMemory (object ts) (object ps) → NeedsNoneAt p (find n ts)

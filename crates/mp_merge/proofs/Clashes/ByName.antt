@@ -1,11 +1,11 @@
 -- Clashes name by name.
 use Rattle.std.proofs.Common.{◌≡◌, ◌↔◌, ℕ, List, [], ◌∷◌, Bool, true, false, Option, Some, None, String, BTreeMap, Global, refl, sym, ap, ◌∙◌, subst, rules, true≢false}
-use Rattle.mp_tree.specs.Document.{Document, null, flag, whole, string, list, object, Members, no_members, member, find, IsMap}
+use Rattle.mp_tree.specs.Document.{Document, object, Members, member, find, IsMap}
 use Rattle.mp_tree.specs.Look.{Path, nothing, an_object, plain, look, look_of, look_here}
 use Rattle.mp_tree.specs.View.{document, document_step}
 use Rattle.mp_tree.specs.declared.doc.Doc.{Doc, Members as Map, ind-Doc, roll-Doc, fold-roll-Doc, the_lemmas}
 use Rattle.mp_tree.specs.declared.doc.Doc.TheOpen.{Doc-F}
-use Rattle.mp_tree.proofs.Facts.{is_here, find-below, cases_same, is_name-self, find-here, same_plain}
+use Rattle.mp_tree.proofs.Facts.{is_here, find-below, cases_same, find-here, same_plain}
 use Rattle.mp_merge.specs.Clash.{Clash, Compatible}
 
 -- ---- at the root
@@ -99,3 +99,9 @@ pub clash_under : (n : List ℕ) (p q : Document) (ps qs : Members) (w : Path) �
 clash_under n p q ps qs w is clash =
     let there : ClashOf (Some p) (Some q) w = (clash.first, clash.second, clash.differ) in
     clash_from (member n p ps) qs n w (subst (λ o. ClashOf o (find n qs) w) (sym (find-here n p ps)) (subst (λ o. ClashOf (Some p) o w) (sym is) there))
+
+-- where nothing clashes under the first name, the clashes with all the members are those with the members behind it
+pub same_behind : {n : List ℕ} {p : Document} {ps left qs : Members} → NoClashUnder p (find n qs) → IsMap (member n p left) → SameClashes ps (member n p left) qs → SameClashes ps left qs
+same_behind {n = n} {p = p} {left = left} {qs = qs} none map same w =
+    let later = pass_first n p left qs map none w in
+    (λ clash. later.0 ((same w).0 clash), λ clash. (same w).1 (later.1 clash))

@@ -1,5 +1,5 @@
 -- A list that a walk adds to, part by part.
-use Rattle.std.proofs.Common.{◌≡◌, List, [], ◌∷◌, ◌++◌, sym, ap, ◌∙◌, append-nil, append_assoc}
+use Rattle.std.proofs.Common.{◌≡◌, List, [], ◌++◌, refl, sym, ap, ◌∙◌, append-nil, append_assoc}
 use Rattle.mp_merge.specs.Private.Growth.{Grew}
 
 module _ {X : Type 0} where
@@ -16,5 +16,6 @@ module _ {X : Type 0} where
       let added = whole_rest (grew.0 ++ rest) (both grew.0 rest grew.2 others) in
       (added.0, ap (λ xs. xs ++ rest) grew.1 ∙ append_assoc now grew.0 rest ∙ added.1, added.2)
 
-  pub grew_by_all : (before now : List X) (Left Whole : List X → Type 0) → IsRestOf before now Left Whole → Left [] → Grew before now Whole
-  grew_by_all before now Left Whole rest none = let added = rest [] none in (added.0, sym (append-nil now) ∙ added.1, added.2)
+  -- where nothing is still to be added
+  pub grew_by_all : (before now : List X) (Whole : List X → Type 0) → IsRestOf before now (λ rest. rest ≡ []) Whole → Grew before now Whole
+  grew_by_all before now Whole rest = let added = rest [] refl in (added.0, sym (append-nil now) ∙ added.1, added.2)

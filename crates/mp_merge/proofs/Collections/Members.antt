@@ -1,33 +1,52 @@
--- One step of a walk over the members of two patches.
-use Rattle.std.proofs.Common.{◌≡◌, ℕ, List, ◌∷◌, Option, option_map, String, Global, string_bytes, string_cmp, sym, ap, ◌∙◌, subst}
-use Rattle.std.specs.BTreeMap.{is_at}
+-- The entries of a map: the document that they are, what stands at a name, and the loop over those of a merge patch.
+use Rattle.std.proofs.Common.{◌≡◌, ℕ, List, [], ◌∷◌, Option, Some, option_map, String, BTreeMap, Global, string_bytes, string_cmp, sym, ap, ◌∙◌, subst}
+use Rattle.std.specs.BTreeMap.{UpdatesBy, is_at}
 use Rattle.std.specs.List.Sorted.{IsStrictlySortedBy}
 use Rattle.std.specs.Map.{keys_of, lookup}
-use Rattle.mp_tree.specs.Document.{Members, member, name_cmp, find, IsMap}
+use Rattle.mp_tree.specs.Document.{Document, Members, object, no_members, member, name_cmp, find, put, IsMap}
 use Rattle.mp_tree.specs.View.{document}
 use Rattle.mp_tree.specs.Private.Entries.{members}
-use Rattle.mp_tree.specs.declared.doc.Doc.{Doc}
-use Rattle.mp_tree.proofs.Facts.{find-members, IsMap-members, members-cons}
-use Rattle.mp_merge.proofs.Clashes.ByName.{SameClashes, NoClashUnder, pass_first}
+use Rattle.mp_tree.specs.declared.doc.Doc.{Doc, Members as Map}
+use Rattle.mp_tree.proofs.Facts.{document-Members, find-members, IsMap-members, members-cons, members-inserted}
 
--- the entry that comes next is the first member
-pub next_member : (es left : List (String Global × Doc)) (e : String Global × Doc) → es ≡ e ∷ left → IsStrictlySortedBy string_cmp (keys_of es) → members es ≡ member (string_bytes e.0) (document e.1) (members left)
-next_member es left e steps ascending = ap members steps ∙ members-cons e left (subst (λ xs. IsStrictlySortedBy string_cmp (keys_of xs)) steps ascending)
-
-pub rest_ascends : (es left : List (String Global × Doc)) (e : String Global × Doc) → es ≡ e ∷ left → IsStrictlySortedBy string_cmp (keys_of es) → IsStrictlySortedBy string_cmp (keys_of left)
-unfolding IsStrictlySortedBy
-rest_ascends es left e steps ascending =
-    let whole : IsStrictlySortedBy string_cmp (keys_of (e ∷ left)) = subst (λ xs. IsStrictlySortedBy string_cmp (keys_of xs)) steps ascending in whole.1
-
-pub pass : (ps : Members) (es left : List (String Global × Doc)) (e : String Global × Doc) (qs : Members) → es ≡ e ∷ left → IsStrictlySortedBy string_cmp (keys_of es)
-    → SameClashes ps (members es) qs → NoClashUnder (document e.1) (find (string_bytes e.0) qs) → SameClashes ps (members left) qs
-pass ps es left e qs steps ascending same none w =
-    let first = next_member es left e steps ascending in
-    let map : IsMap (member (string_bytes e.0) (document e.1) (members left)) = subst IsMap first (IsMap-members es) in
-    let later = pass_first (string_bytes e.0) (document e.1) (members left) qs map none w in
-    let now : SameClashes ps (member (string_bytes e.0) (document e.1) (members left)) qs = subst (λ ms. SameClashes ps ms qs) first same in
-    (λ clash. later.0 ((now w).0 clash), λ clash. (now w).1 (later.1 clash))
+pub document_of_map : {d : Doc} (m : BTreeMap (String Global) Doc) → d ≡ Map m → document d ≡ object (members m.entries)
+document_of_map m is = ap document is ∙ document-Members m
 
 -- a look-up by the bytes of a name
-pub looked_up : (k n : List ℕ) (es : List (String Global × Doc)) (o : Option Doc) → k ≡ n → o ≡ lookup (is_at (λ l. name_cmp k (string_bytes l))) es → find n (members es) ≡ option_map document o
-looked_up k n es o named value = ap (λ l. find l (members es)) (sym named) ∙ find-members k es ∙ ap (option_map document) (sym value)
+pub looked_up : {k n : List ℕ} {o : Option Doc} (es : List (String Global × Doc)) → k ≡ n → o ≡ lookup (is_at (λ l. name_cmp k (string_bytes l))) es → find n (members es) ≡ option_map document o
+looked_up {k = k} es named value = ap (λ l. find l (members es)) (sym named) ∙ find-members k es ∙ ap (option_map document) (sym value)
+
+-- a value put at a name into a map as it was before
+pub members-put : {k n : List ℕ} {x : Document} {kept : BTreeMap (String Global) Doc} (old now : BTreeMap (String Global) Doc) (d : Doc) → kept ≡ old → k ≡ n → document d ≡ x
+    → UpdatesBy string_cmp (λ l. name_cmp k (string_bytes l)) kept now (Some d) → members now.entries ≡ put n x (members old.entries)
+members-put {k = k} {kept = kept} old now d same named is updates = rw (← same, ← named, ← is) (members-inserted k kept now d updates)
+
+-- ---- the changes that are left
+
+-- the names of the changes that are left ascend, and so holds of those changes
+pub record ChangesLeft (es : List (String Global × Doc)) (Holds : Members → Type 0) : Type 0 where
+  pub ascends : IsStrictlySortedBy string_cmp (keys_of es)
+  pub holds : Holds (members es)
+
+-- the change p to n comes next, before those that are left
+pub record NextChange (n : List ℕ) (p : Document) (left : List (String Global × Doc)) (Holds : Members → Type 0) : Type 0 where
+  pub ascends : IsStrictlySortedBy string_cmp (keys_of left)
+  pub map : IsMap (member n p (members left))
+  pub holds : Holds (member n p (members left))
+
+module _ {es left : List (String Global × Doc)} {name : String Global} {change : Doc} {Holds : Members → Type 0} where
+  pub next_change : ChangesLeft es Holds → es ≡ (name, change) ∷ left → NextChange (string_bytes name) (document change) left Holds
+  unfolding IsStrictlySortedBy
+  next_change there steps =
+      let whole : IsStrictlySortedBy string_cmp (keys_of ((name, change) ∷ left)) = subst (λ xs. IsStrictlySortedBy string_cmp (keys_of xs)) steps there.ascends in
+      let first : members es ≡ member (string_bytes name) (document change) (members left) = ap members steps ∙ members-cons (name, change) left whole in
+      record { ascends = whole.1; map = subst IsMap first (IsMap-members es); holds = subst Holds first there.holds }
+
+  -- what held of the change with those behind it gives what holds of those
+  pub pass_change : {Later : Members → Type 0} → ChangesLeft es Holds → es ≡ (name, change) ∷ left
+      → (IsMap (member (string_bytes name) (document change) (members left)) → Holds (member (string_bytes name) (document change) (members left)) → Later (members left)) → ChangesLeft left Later
+  pass_change there steps gives = let next = next_change there steps in record { ascends = next.ascends; holds = gives next.map next.holds }
+
+-- so holds of none
+pub no_changes : {es : List (String Global × Doc)} {Holds : Members → Type 0} → ChangesLeft es Holds → es ≡ [] → Holds no_members
+no_changes {Holds = Holds} there none = subst (λ xs. Holds (members xs)) none there.holds

@@ -1,11 +1,8 @@
 -- What each arm of the walk over a patch and a document adds.
-use Rattle.std.proofs.Common.{◌≡◌, ◌≢◌, inr, ℕ, List, [], ◌∷◌, ◌++◌, Option, Some, None, option_map, Bor, refl, sym, ap, ap₂, ◌∙◌}
+use Rattle.std.proofs.Common.{◌≡◌, ◌≢◌, inr, ℕ, List, [], ◌∷◌, ◌++◌, Option, Some, None, refl, sym, ap, ap₂, ◌∙◌}
 use Rattle.std.proofs.lemmas.List.{map-append}
-use Rattle.std.specs.Option.{option_copied}
 use Rattle.mp_tree.specs.Document.{Document, null, flag, whole, string, list, object, Members, member, find}
 use Rattle.mp_tree.specs.Look.{Path, nothing, look, look_here}
-use Rattle.mp_tree.specs.View.{document}
-use Rattle.mp_tree.specs.declared.doc.Doc.{Doc}
 use Rattle.mp_patch.specs.Operation.{add, remove, replace, test}
 use Rattle.mp_merge.specs.Application.{merge_patch, unless_null}
 use Rattle.mp_merge.specs.Private.Edits.{GuardedEdit, IsOneEdit, NotBothMaps, AreEdits, AreMemberEdits, all_edits, guarded_edit_of}
@@ -16,8 +13,8 @@ use Rattle.mp_merge.proofs.Collections.Growth.{IsRestOf, rest_after_one}
 
 -- ---- a list that has grown
 
-pub grew_by_one : (Holds : List GuardedEdit → Type 0) (old new : List Edit) (e : Edit) → new ≡ old ++ e ∷ [] → Holds (guarded_edit_of e ∷ []) → Grew (all_edits old) (all_edits new) Holds
-grew_by_one Holds old new e is here = (guarded_edit_of e ∷ [], ap all_edits is ∙ map-append guarded_edit_of old (e ∷ []), here)
+pub grew_by_one : {g : GuardedEdit} (Holds : List GuardedEdit → Type 0) (old new : List Edit) (e : Edit) → new ≡ old ++ e ∷ [] → guarded_edit_of e ≡ g → Holds (g ∷ []) → Grew (all_edits old) (all_edits new) Holds
+grew_by_one Holds old new e is means here = (guarded_edit_of e ∷ [], ap all_edits is ∙ map-append guarded_edit_of old (e ∷ []), rw means here)
 
 -- ---- one operation
 
