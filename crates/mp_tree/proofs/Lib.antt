@@ -12,6 +12,7 @@ pub mod MapLaws
 pub mod Maps
 pub mod Meaning
 pub mod Names
+pub mod Passed
 pub mod ReadDocuments
 pub mod ReadValues
 pub mod RoundTrip
