@@ -110,10 +110,11 @@ insert-last (e ∷ es) k v left ascending =
     rw above (ap (λ fs. e ∷ fs) (insert-last es k v left ascending.1))
 
 -- the same where the entries that are there are those that a loop has passed, of a list that ascends
-pub insert-last-passed : {V : Type 0} {ps left more : List (String Global × V)} (es : List (String Global × V)) (k : String Global) (v : V) (p : Passed ps left (λ passed. es ≡ passed)) → left ≡ (k, v) ∷ more
-    → IsStrictlySortedBy string_cmp (keys_of ps) → insert_entry string_cmp es k v ≡ p.passed ++ (k, v) ∷ []
-insert-last-passed {more = more} es k v p next ascending =
-    ap (λ fs. insert_entry string_cmp fs k v) p.holds ∙ insert-last p.passed k v more (subst (λ fs. IsStrictlySortedBy string_cmp (keys_of fs)) (Passed-next p next) ascending)
+pub insert-last-passed : {V : Type 0} {ps left more : List (String Global × V)} (es new : List (String Global × V)) (k : String Global) (v : V) (p : Passed ps left (λ passed. es ≡ passed)) → left ≡ (k, v) ∷ more
+    → IsStrictlySortedBy string_cmp (keys_of ps) → new ≡ insert_entry string_cmp es k v → new ≡ p.passed ++ (k, v) ∷ []
+insert-last-passed {more = more} es new k v p next ascending inserted =
+    let all_ascend = subst (λ fs. IsStrictlySortedBy string_cmp (keys_of fs)) (Passed-next p next) ascending in
+    inserted ∙ ap (λ fs. insert_entry string_cmp fs k v) p.holds ∙ insert-last p.passed k v more all_ascend
 
 all_up_to : {V : Type 0} (k l : String Global) (es : List (String Global × V)) (v : V) (left : List (String Global × V)) → AllByRecursion (λ y. string_cmp k y ≡ Less) (keys_of (es ++ (l, v) ∷ left)) → AllByRecursion (λ y. string_cmp k y ≡ Less) (keys_of (es ++ (l, v) ∷ []))
 all_up_to k l [] v left h = (h.0, tt)
@@ -125,9 +126,10 @@ ascend_up_to [] k v left ascending = (tt, tt)
 ascend_up_to (e ∷ es) k v left ascending = (all_up_to e.0 k es v left ascending.0, ascend_up_to es k v left ascending.1)
 
 -- the same where they are seen as those that it has passed
-pub insert-last-seen : {V W C : Type 0} (f : V → C) (g : W → C) {es left more : List (String Global × W)} (fs : List (String Global × V)) (k : String Global) (v : V) (w : W)
-    → Passed es left (λ passed. map (seen f) fs ≡ map (seen g) passed) → left ≡ (k, w) ∷ more → f v ≡ g w → IsStrictlySortedBy string_cmp (keys_of es) → insert_entry string_cmp fs k v ≡ fs ++ (k, v) ∷ []
-insert-last-seen f g {more = more} fs k v w p next same ascending =
+pub insert-last-seen : {V W C : Type 0} (f : V → C) (g : W → C) {es left more : List (String Global × W)} (fs new : List (String Global × V)) (k : String Global) (v : V) (w : W)
+    → Passed es left (λ passed. map (seen f) fs ≡ map (seen g) passed) → left ≡ (k, w) ∷ more → f v ≡ g w → IsStrictlySortedBy string_cmp (keys_of es) → new ≡ insert_entry string_cmp fs k v
+    → new ≡ fs ++ (k, v) ∷ []
+insert-last-seen f g {more = more} fs new k v w p next same ascending inserted =
     let grown = map-push (seen f) (seen g) fs p.passed (k, v) (k, w) p.holds (ap (λ c. (string_bytes k, c)) same) in
     let ascending_so_far = ascend_up_to p.passed k w more (subst (λ ps. IsStrictlySortedBy string_cmp (keys_of ps)) (Passed-next p next) ascending) in
-    insert-last fs k v [] (ascend_from_seen f g (fs ++ (k, v) ∷ []) (p.passed ++ (k, w) ∷ []) grown ascending_so_far)
+    inserted ∙ insert-last fs k v [] (ascend_from_seen f g (fs ++ (k, v) ∷ []) (p.passed ++ (k, w) ∷ []) grown ascending_so_far)

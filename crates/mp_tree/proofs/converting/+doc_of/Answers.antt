@@ -1,13 +1,11 @@
 use Rattle.std.proofs.Common.{Some, option_map, sym, ap, ◌∙◌, arith}
-use Rattle.std.specs.Vec.Iter.{into_iter_items}
 use Rattle.serde_json.specs.View.{items_view}
 use Rattle.serde_json.proofs.Views.{view-Object}
 use Rattle.mp_tree.specs.Document.{object}
 use Rattle.mp_tree.specs.Text.{document_from, items_from}
 use Rattle.mp_tree.proofs.MapBuilding.{seen-same, ascend_from_seen, insert-last-seen}
 use Rattle.mp_tree.proofs.FromData.{from_value, read_as, items_from-all, items_from-none, members_from-all, read_one_more, none_if_refused}
-use Rattle.mp_tree.proofs.Passed.{Passed-next, Passed-push, Passed-end}
-use Rattle.mp_tree.proofs.Lists.{empty_from_length}
+use Rattle.mp_tree.proofs.Passed.{Passed-next, Passed-push, Passed-end, over-into_iter}
 use Rattle.mp_tree.proofs.Meaning.{document-Members}
 use Rattle.mp_tree.proofs.converting.+doc_of.Goals as goal
 
@@ -35,8 +33,7 @@ docs_of-loop-value-preserved t c =
 pub docs_of-returns-clause-ok : goal.docs_of-returns-clause-ok
 docs_of-returns-clause-ok t c =
     let l = c.loop-value in
-    let over = empty_from_length (into_iter_items l.value-iterator) (sym l.value-iterator.rest.ok.0 ∙ c.in-None.ensures.steps.0) in
-    items_from-all c.args.values.items l.docs.items (Passed-end l.invariant.elements over)
+    items_from-all c.args.values.items l.docs.items (Passed-end l.invariant.elements (over-into_iter l.value-iterator c.in-None.ensures.steps.0))
 
 pub many_members_of-returns-in_err-doc_of-clause-not_whole : goal.many_members_of-returns-in_err-doc_of-clause-not_whole
 many_members_of-returns-in_err-doc_of-clause-not_whole t c refused =
@@ -73,12 +70,9 @@ few_members_of-loop-name-preserved t c =
     let next = c.in-Some.ensures.steps in
     let doc = c.in_ok-doc_of.field-0 in
     let is = c.in_ok-doc_of.ensures.ok in
-    let last = insert-last-seen read_as from_value l.docs.entries c.in-Some.name doc c.in-Some.value entries next (sym is) c.into_iter-name-iterator.ensures.into_iter_gives.5 in
-    record {
-      entries = read_one_more l.docs.entries _ _ _ doc entries next (c.in_ok-insert.ensures.entries ∙ last) is;
-      can_next = tt;
-      is_finite = tt;
-    }
+    let ascending = c.into_iter-name-iterator.ensures.into_iter_gives.5 in
+    let last = insert-last-seen read_as from_value l.docs.entries _ c.in-Some.name doc c.in-Some.value entries next (sym is) ascending c.in_ok-insert.ensures.entries in
+    record { entries = read_one_more l.docs.entries _ _ _ doc entries next last is; can_next = tt; is_finite = tt }
 
 pub few_members_of-returns-clause-ok : goal.few_members_of-returns-clause-ok
 few_members_of-returns-clause-ok t c =
