@@ -102,27 +102,6 @@ const MALFORMED: &[(&str, FormFault)] = &[
             cause: FormCause::NotAnObject,
         },
     ),
-    (
-        r#"[{"op":"move","path":"x"}]"#,
-        FormFault::Form {
-            op: 0,
-            cause: FormCause::NoFrom,
-        },
-    ),
-    (
-        r#"[{"op":"copy","path":"","from":"~"}]"#,
-        FormFault::Form {
-            op: 0,
-            cause: FormCause::BadPointer,
-        },
-    ),
-    (
-        r#"[{"op":"add","path":""}]"#,
-        FormFault::Form {
-            op: 0,
-            cause: FormCause::NoValue,
-        },
-    ),
 ];
 
 const CAUSES: &[(Cause, &str)] = &[

@@ -1,42 +1,26 @@
-//! Worked values: spellings, indices, and the example document of RFC 6901 section 5.
+//! Worked values: parts that are read and written, tokens, spellings and indices.
 use crate::{Pointer, PointerFault, edit_part, get, get_mut, index_of};
 use mp_tree::{read_doc, read_docs, write_doc};
 use std::mem;
 use std::process::Abort;
 use std::test::Fail;
 
-/// The example document, in an array.
-const EXAMPLE: &str =
-    r#"[{"":0," ":7,"a/b":1,"c%d":2,"e^f":3,"foo":["bar","baz"],"g|h":4,"i\\j":5,"k\"l":6,"m~n":8}]"#;
+/// Lists and maps within one another, with names that are empty or need escapes.
+const NESTED: &str = r#"{"a/b":{"":[1,{"~":2}]}}"#;
 
-/// Documents in an array, pointers into them, and the parts that are there.
-const PARTS: &[(&str, &str, Option<&str>)] = &[
-    (
-        EXAMPLE,
-        "",
-        Some(
-            r#"{"":0," ":7,"a/b":1,"c%d":2,"e^f":3,"foo":["bar","baz"],"g|h":4,"i\\j":5,"k\"l":6,"m~n":8}"#,
-        ),
-    ),
-    (EXAMPLE, "/foo", Some(r#"["bar","baz"]"#)),
-    (EXAMPLE, "/foo/0", Some(r#""bar""#)),
-    (EXAMPLE, "/", Some("0")),
-    (EXAMPLE, "/a~1b", Some("1")),
-    (EXAMPLE, "/c%d", Some("2")),
-    (EXAMPLE, "/e^f", Some("3")),
-    (EXAMPLE, "/g|h", Some("4")),
-    (EXAMPLE, r"/i\j", Some("5")),
-    (EXAMPLE, r#"/k"l"#, Some("6")),
-    (EXAMPLE, "/ ", Some("7")),
-    (EXAMPLE, "/m~0n", Some("8")),
-    (r#"[{"~1":3}]"#, "/~01", Some("3")),
-    ("[5]", "", Some("5")),
-    (r#"[{"":1}]"#, "/", Some("1")),
-    ("[5]", "/a", None),
-    (r#"[{"foo":["bar","baz"]}]"#, "/foo/1", Some(r#""baz""#)),
-    (r#"[{"foo":["bar","baz"]}]"#, "/foo/2", None),
-    (r#"[{"foo":["bar","baz"]}]"#, "/foo/01", None),
-    (r#"[{"foo":["bar","baz"]}]"#, "/foo/-", None),
+/// Pointers into that document, and the parts that are there.
+const PARTS: &[(&str, Option<&str>)] = &[
+    ("", Some(NESTED)),
+    ("/a~1b", Some(r#"{"":[1,{"~":2}]}"#)),
+    ("/a~1b/", Some(r#"[1,{"~":2}]"#)),
+    ("/a~1b//0", Some("1")),
+    ("/a~1b//1/~0", Some("2")),
+    ("/a~1b//0/x", None),
+    ("/a~1b//1/~1", None),
+    ("/a~1b//2", None),
+    ("/a~1b//01", None),
+    ("/a~1b//-", None),
+    ("/a/b", None),
 ];
 
 /// A document and a value in an array, a pointer, and what the document is once the value was written there, where
@@ -60,15 +44,6 @@ const WRITES: &[(&str, &str, Option<&str>)] = &[
     ),
     (r#"[{"a":[1,2]},[3]]"#, "", Some("[3]")),
     ("[5,6]", "", Some("6")),
-];
-
-/// Texts that are no pointer.
-const REFUSED: &[(&str, PointerFault)] = &[
-    ("foo", PointerFault::NoSlash),
-    ("foo~", PointerFault::NoSlash),
-    ("/a~2", PointerFault::BadTilde(2)),
-    ("/~", PointerFault::BadTilde(1)),
-    ("/~0/é~/~2", PointerFault::BadTilde(6)),
 ];
 
 const INDICES: &[(&str, Option<usize>)] = &[
@@ -98,19 +73,16 @@ fn check_print<R: Abort + AllocGlobal>(rt: &R, pointer: &Pointer, spelling: &str
 
 #[test]
 fn get_gives_the_part(rt: HostRuntime) -> Result<(), Fail> {
-    for (input, text, wanted) in PARTS {
-        let docs = read_docs(rt.alloc(), input.as_bytes())?;
+    for (text, wanted) in PARTS {
+        let doc = read_doc(rt.alloc(), NESTED.as_bytes())?;
         let pointer = Pointer::parse(rt.alloc(), text)?;
         check_print(&rt, &pointer, text);
-        let Some(doc) = docs.first() else {
-            panic!(rt; "no document in {input}")
-        };
-        match get(doc, &pointer) {
+        match get(&doc, &pointer) {
             Some(part) => {
                 let found = write_doc(rt.alloc(), part)?;
-                assert_eq!(rt; Some(found.as_str()), *wanted, "at {text} in {input}");
+                assert_eq!(rt; Some(found.as_str()), *wanted, "at {text}");
             }
-            None => assert_eq!(rt; None, *wanted, "at {text} in {input}"),
+            None => assert_eq!(rt; None, *wanted, "at {text}"),
         }
     }
     Ok(())
@@ -164,34 +136,29 @@ fn edit_part_edits_that_part_alone(rt: HostRuntime) -> Result<(), Fail> {
 
 #[test]
 fn what_was_written_is_found_there(rt: HostRuntime) -> Result<(), Fail> {
-    for (input, text, wanted) in PARTS {
-        let mut docs = read_docs(rt.alloc(), input.as_bytes())?;
+    for (text, wanted) in PARTS {
+        let mut doc = read_doc(rt.alloc(), NESTED.as_bytes())?;
         let pointer = Pointer::parse(rt.alloc(), text)?;
-        let Some(mut doc) = docs.pop() else {
-            panic!(rt; "no document in {input}")
-        };
         match get_mut(&mut doc, &pointer) {
             Some(part) => *part = read_doc(rt.alloc(), br#"["new"]"#)?,
-            None => assert_eq!(rt; None, *wanted, "at {text} in {input}"),
+            None => assert_eq!(rt; None, *wanted, "at {text}"),
         }
         match get(&doc, &pointer) {
             Some(part) => {
                 let found = write_doc(rt.alloc(), part)?;
-                assert_eq!(rt; found.as_str(), r#"["new"]"#, "at {text} in {input}");
+                assert_eq!(rt; found.as_str(), r#"["new"]"#, "at {text}");
             }
-            None => assert_eq!(rt; None, *wanted, "at {text} in {input}"),
+            None => assert_eq!(rt; None, *wanted, "at {text}"),
         }
     }
     Ok(())
 }
 
 #[test]
-fn texts_that_spell_no_pointer_are_refused(rt: HostRuntime) {
-    for (text, fault) in REFUSED {
-        match Pointer::parse(rt.alloc(), text) {
-            Ok(_) => panic!(rt; "{text} is no pointer"),
-            Err(found) => assert_eq!(rt; found, *fault, "at {text}"),
-        }
+fn a_bad_tilde_is_told_by_its_offset(rt: HostRuntime) {
+    match Pointer::parse(rt.alloc(), "/~0/é~/~2") {
+        Ok(_) => panic!(rt; "a tilde spells nothing there"),
+        Err(fault) => assert_eq!(rt; fault, PointerFault::BadTilde(6)),
     }
 }
 

@@ -2,13 +2,11 @@
 use Rattle.std.proofs.Common.{◌≡◌, ◌≤◌, ◌<◌, ℕ, zero, suc, max, List, [], ◌∷◌, ◌++◌, length, get_or, String, Global, string_bytes, string_cmp, refl, ap, ◌∙◌, arith}
 use Rattle.std.specs.List.Sorted.{IsStrictlySortedBy}
 use Rattle.std.specs.Map.{keys_of, values_of}
-use Rattle.std.proofs.Common.{Bool, true, false, cond, Ordering}
-use Rattle.std.specs.Ordering.{match_ordering}
-use Rattle.std.specs.declared.cmp.Ordering.TheVariants.{Less, Equal, Greater}
-use Rattle.mp_tree.specs.Document.{Document, Members, no_members, member, name_cmp, is_name, put, without, depth, items_depth, members_depth}
+use Rattle.mp_tree.specs.Document.{Document, Members, put, without, depth, items_depth, members_depth}
 use Rattle.mp_tree.specs.View.{document, items}
 use Rattle.mp_tree.specs.Private.Entries.{members}
 use Rattle.mp_tree.specs.declared.doc.Doc.{Doc}
+use Rattle.mp_tree.proofs.EachMember.{each_after_put, each_after_without}
 use Rattle.mp_tree.proofs.IntoData.{put-below, IsBelow-members}
 
 pub items_depth_from_each : (ds : List Doc) (n : ℕ) → ((k : ℕ) (d : Doc) → k < length ds → depth (document (get_or ds k d)) ≤ n) → items_depth (items ds) ≤ n
@@ -29,20 +27,12 @@ members_depth-members (e ∷ es) ascending =
 
 -- ---- a map after a change
 
-members_depth-put_at : (o : Ordering) (n m : List ℕ) (d e : Document) (ms : Members) → members_depth (put n d ms) ≤ max (depth d) (members_depth ms)
-    → members_depth (match_ordering o (member n d (member m e ms)) (member n d ms) (member m e (put n d ms))) ≤ max (depth d) (members_depth (member m e ms))
-members_depth-put_at Less n m d e ms later = omega arith
-members_depth-put_at Equal n m d e ms later = omega arith
-members_depth-put_at Greater n m d e ms later = omega arith
-
 pub members_depth-put : (n : List ℕ) (d : Document) (ms : Members) → members_depth (put n d ms) ≤ max (depth d) (members_depth ms)
-members_depth-put n d no_members = omega arith
-members_depth-put n d (member m e ms) = members_depth-put_at (name_cmp n m) n m d e ms (members_depth-put n d ms)
+members_depth-put n d ms =
+    let limit = max (depth d) (members_depth ms) in
+    each_after_put (λ m e. depth e ≤ limit) (λ es. members_depth es ≤ limit) (λ m e es. (λ h. (omega arith, omega arith), λ h. omega arith)) n d ms (omega arith) (omega arith)
 
 pub members_depth-without : (n : List ℕ) (ms : Members) → members_depth (without n ms) ≤ members_depth ms
-members_depth-without n no_members = omega arith
-members_depth-without n (member m d ms) = picked (is_name n m) (members_depth-without n ms)
-  where
-    picked : (b : Bool) → members_depth (without n ms) ≤ members_depth ms → members_depth (cond b ms (member m d (without n ms))) ≤ max (depth d) (members_depth ms)
-    picked true later = omega arith
-    picked false later = omega (arith, later)
+members_depth-without n ms =
+    let limit = members_depth ms in
+    each_after_without (λ m e. depth e ≤ limit) (λ es. members_depth es ≤ limit) (λ m e es. (λ h. (omega arith, omega arith), λ h. omega arith)) n ms (omega arith)

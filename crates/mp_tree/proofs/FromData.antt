@@ -1,5 +1,5 @@
 -- From a value of `serde_json` to a document, part by part.
-use Rattle.std.proofs.Common.{◌≡◌, ℕ, List, [], ◌∷◌, ◌++◌, map, Option, Some, None, option_map, option_and_then, String, Global, string_bytes, refl, ap}
+use Rattle.std.proofs.Common.{◌≡◌, ℕ, List, [], ◌∷◌, ◌++◌, map, Option, Some, None, option_map, option_and_then, String, Global, string_bytes, refl, sym, ap, ◌∙◌}
 use Rattle.serde_json.specs.View.{view, items_view, members_view}
 use Rattle.serde_json.specs.declared.value.Value.{Value}
 use Rattle.mp_tree.specs.Document.{Document, Items, item, Members, put}
@@ -8,6 +8,7 @@ use Rattle.mp_tree.specs.Private.Entries.{members}
 use Rattle.mp_tree.specs.Text.{document_from, items_from, members_from}
 use Rattle.mp_tree.specs.declared.doc.Doc.{Doc}
 use Rattle.mp_tree.proofs.MapBuilding.{seen}
+use Rattle.mp_tree.proofs.Passed.{Passed, Passed-next, Passed-push}
 
 -- what a value is read as, and a document that was read
 abbrev pub from_value : Value → Option Document
@@ -52,6 +53,20 @@ none_below : (n : List ℕ) (o : Option Document) (rest : Option Members) → re
 none_below n None rest e = refl
 none_below n (Some d) rest e = rw e
 
-pub members_from-none : (done : List (String Global × Value)) (e : String Global × Value) (left : List (String Global × Value)) → from_value e.1 ≡ None → members_from (members_view (done ++ e ∷ left)) ≡ None
+members_from-none : (done : List (String Global × Value)) (e : String Global × Value) (left : List (String Global × Value)) → from_value e.1 ≡ None → members_from (members_view (done ++ e ∷ left)) ≡ None
 members_from-none [] e left none = rw none
 members_from-none (f ∷ done) e left none = none_below (string_bytes f.0) (from_value f.1) _ (members_from-none done e left none)
+
+-- ---- the entries of a map that a loop reads
+
+-- those that were passed were read as these
+abbrev pub ReadMembers : List (String Global × Value) → List (String Global × Value) → List (String Global × Doc) → Type 0
+ReadMembers es left fs = Passed es left (λ passed. map (seen read_as) fs ≡ map (seen from_value) passed)
+
+pub read_one_more : {es left more : List (String Global × Value)} (fs new : List (String Global × Doc)) (n : String Global) (v : Value) (d : Doc)
+    → ReadMembers es left fs → left ≡ (n, v) ∷ more → new ≡ fs ++ (n, d) ∷ [] → from_value v ≡ read_as d → ReadMembers es more new
+read_one_more fs new n v d p next pushed is = Passed-push (seen read_as) (seen from_value) fs new (n, d) p next pushed (ap (λ o. (string_bytes n, o)) (sym is))
+
+pub none_if_refused : (es left more : List (String Global × Value)) (fs : List (String Global × Doc)) (e : String Global × Value)
+    → ReadMembers es left fs → left ≡ e ∷ more → from_value e.1 ≡ None → members_from (members_view es) ≡ None
+none_if_refused es left more fs e p next none = ap (λ ps. members_from (members_view ps)) (Passed-next p next) ∙ members_from-none p.passed e more none

@@ -1,6 +1,7 @@
 pub mod Ascending
 pub mod Decisions
 pub mod Depths
+pub mod EachMember
 pub mod EqualLooks
 pub mod Facts
 pub mod FromData
@@ -12,6 +13,7 @@ pub mod MapLaws
 pub mod Maps
 pub mod Meaning
 pub mod Names
+pub mod Passed
 pub mod ReadDocuments
 pub mod ReadValues
 pub mod RoundTrip

@@ -12,7 +12,9 @@ use Rattle.std.specs.Ordering.{eq_by_cmp}
 use Rattle.mp_tree.specs.Document.{name_cmp, is_name}
 use Rattle.mp_tree.specs.View.{byte_entries}
 use Rattle.mp_tree.proofs.Ascending.{entries_same}
+use Rattle.mp_tree.proofs.Lists.{map-push}
 use Rattle.mp_tree.proofs.Names.{cases_same, below_is_above}
+use Rattle.mp_tree.proofs.Passed.{Passed, Passed-next}
 
 string_cmp_total : IsTotalOrder (string_cmp {Z = Global})
 string_cmp_total = on_total string_bytes nat_list_cmp_total
@@ -99,13 +101,20 @@ below_middle : {V : Type 0} (k l : String Global) (es : List (String Global × V
 below_middle k l [] v left h = h.0
 below_middle k l (e ∷ es) v left h = below_middle k l es v left h.1
 
-pub insert-last : {V : Type 0} (es : List (String Global × V)) (k : String Global) (v : V) (left : List (String Global × V)) → IsStrictlySortedBy string_cmp (keys_of (es ++ (k, v) ∷ left))
+insert-last : {V : Type 0} (es : List (String Global × V)) (k : String Global) (v : V) (left : List (String Global × V)) → IsStrictlySortedBy string_cmp (keys_of (es ++ (k, v) ∷ left))
     → insert_entry string_cmp es k v ≡ es ++ (k, v) ∷ []
 unfolding IsStrictlySortedBy
 insert-last [] k v left ascending = refl
 insert-last (e ∷ es) k v left ascending =
     let above = below_is_above (string_bytes e.0) (string_bytes k) (below_middle e.0 k es v left ascending.0) in
     rw above (ap (λ fs. e ∷ fs) (insert-last es k v left ascending.1))
+
+-- the same where the entries that are there are those that a loop has passed, of a list that ascends
+pub insert-last-passed : {V : Type 0} {ps left more : List (String Global × V)} (es new : List (String Global × V)) (k : String Global) (v : V) (p : Passed ps left (λ passed. es ≡ passed)) → left ≡ (k, v) ∷ more
+    → IsStrictlySortedBy string_cmp (keys_of ps) → new ≡ insert_entry string_cmp es k v → new ≡ p.passed ++ (k, v) ∷ []
+insert-last-passed {more = more} es new k v p next ascending inserted =
+    let all_ascend = subst (λ fs. IsStrictlySortedBy string_cmp (keys_of fs)) (Passed-next p next) ascending in
+    inserted ∙ ap (λ fs. insert_entry string_cmp fs k v) p.holds ∙ insert-last p.passed k v more all_ascend
 
 all_up_to : {V : Type 0} (k l : String Global) (es : List (String Global × V)) (v : V) (left : List (String Global × V)) → AllByRecursion (λ y. string_cmp k y ≡ Less) (keys_of (es ++ (l, v) ∷ left)) → AllByRecursion (λ y. string_cmp k y ≡ Less) (keys_of (es ++ (l, v) ∷ []))
 all_up_to k l [] v left h = (h.0, tt)
@@ -116,7 +125,11 @@ unfolding IsStrictlySortedBy
 ascend_up_to [] k v left ascending = (tt, tt)
 ascend_up_to (e ∷ es) k v left ascending = (all_up_to e.0 k es v left ascending.0, ascend_up_to es k v left ascending.1)
 
--- the same where the entries that are there are seen as others, which ascend with those that are left
-pub insert-last-seen : {V W C : Type 0} (f : V → C) (g : W → C) (es : List (String Global × V)) (fs : List (String Global × W)) (k : String Global) (v : V) (w : W) (left : List (String Global × W))
-    → map (seen f) (es ++ (k, v) ∷ []) ≡ map (seen g) (fs ++ (k, w) ∷ []) → IsStrictlySortedBy string_cmp (keys_of (fs ++ (k, w) ∷ left)) → insert_entry string_cmp es k v ≡ es ++ (k, v) ∷ []
-insert-last-seen f g es fs k v w left same ascending = insert-last es k v [] (ascend_from_seen f g (es ++ (k, v) ∷ []) (fs ++ (k, w) ∷ []) same (ascend_up_to fs k w left ascending))
+-- the same where they are seen as those that it has passed
+pub insert-last-seen : {V W C : Type 0} (f : V → C) (g : W → C) {es left more : List (String Global × W)} (fs new : List (String Global × V)) (k : String Global) (v : V) (w : W)
+    → Passed es left (λ passed. map (seen f) fs ≡ map (seen g) passed) → left ≡ (k, w) ∷ more → f v ≡ g w → IsStrictlySortedBy string_cmp (keys_of es) → new ≡ insert_entry string_cmp fs k v
+    → new ≡ fs ++ (k, v) ∷ []
+insert-last-seen f g {more = more} fs new k v w p next same ascending inserted =
+    let grown = map-push (seen f) (seen g) fs p.passed (k, v) (k, w) p.holds (ap (λ c. (string_bytes k, c)) same) in
+    let ascending_so_far = ascend_up_to p.passed k w more (subst (λ ps. IsStrictlySortedBy string_cmp (keys_of ps)) (Passed-next p next) ascending) in
+    inserted ∙ insert-last fs k v [] (ascend_from_seen f g (fs ++ (k, v) ∷ []) (p.passed ++ (k, w) ∷ []) grown ascending_so_far)

@@ -6,6 +6,7 @@ use Rattle.std.specs.Map.{keys_of, lookup}
 use Rattle.std.specs.Ordering.{match_ordering}
 use Rattle.mp_tree.specs.Document.{Document, Members, no_members, member, name_cmp, is_name, find, put, without, IsBelow, IsDocument, IsMap}
 use Rattle.mp_tree.proofs.Names.{is_name-self, same_from_cmp, same_name, is_name-less, above_is_below, below-trans, cases_same}
+use Rattle.mp_tree.proofs.EachMember.{each_after_put, each_after_without}
 use Rattle.mp_tree.proofs.Ascending.{entries_same}
 
 -- ---- a name below all others
@@ -18,15 +19,8 @@ pub IsBelow-trans : (n m : List ℕ) (ms : Members) → name_cmp n m ≡ Less �
 IsBelow-trans n m no_members less below = tt
 IsBelow-trans n m (member k d ms) less below = (below-trans n m k less below.0, IsBelow-trans n m ms less below.1)
 
-IsBelow-put_at : (o : Ordering) (n k m : List ℕ) (d e : Document) (ms : Members) → name_cmp k m ≡ o → name_cmp n k ≡ Less → IsBelow n (member m e ms) → IsBelow n (put k d ms)
-    → IsBelow n (match_ordering o (member k d (member m e ms)) (member k d ms) (member m e (put k d ms)))
-IsBelow-put_at Less n k m d e ms is less below later = (less, below)
-IsBelow-put_at Equal n k m d e ms is less below later = (less, below.1)
-IsBelow-put_at Greater n k m d e ms is less below later = (below.0, later)
-
 pub IsBelow-put : (n k : List ℕ) (d : Document) (ms : Members) → name_cmp n k ≡ Less → IsBelow n ms → IsBelow n (put k d ms)
-IsBelow-put n k d no_members less below = (less, tt)
-IsBelow-put n k d (member m e ms) less below = IsBelow-put_at (name_cmp k m) n k m d e ms refl less below (IsBelow-put n k d ms less below.1)
+IsBelow-put n = each_after_put (λ m e. name_cmp n m ≡ Less) (IsBelow n) (λ m e ms. (λ h. h, λ h. h))
 
 IsMap-put_at : (o : Ordering) (k m : List ℕ) (d e : Document) (ms : Members) → name_cmp k m ≡ o → IsDocument d → IsMap (member m e ms) → IsMap (put k d ms)
     → IsMap (match_ordering o (member k d (member m e ms)) (member k d ms) (member m e (put k d ms)))
@@ -58,12 +52,7 @@ find-put q k d (member m e ms) = find-put_at (name_cmp k m) q k m d e ms refl (f
 -- ---- without a name
 
 IsBelow-without : (n k : List ℕ) (ms : Members) → IsBelow n ms → IsBelow n (without k ms)
-IsBelow-without n k no_members below = tt
-IsBelow-without n k (member m d ms) below = picked (is_name k m) (IsBelow-without n k ms below.1)
-  where
-    picked : (b : Bool) → IsBelow n (without k ms) → IsBelow n (cond b ms (member m d (without k ms)))
-    picked true later = below.1
-    picked false later = (below.0, later)
+IsBelow-without n = each_after_without (λ m e. name_cmp n m ≡ Less) (IsBelow n) (λ m e ms. (λ h. h, λ h. h))
 
 pub IsMap-without : (k : List ℕ) (ms : Members) → IsMap ms → IsMap (without k ms)
 IsMap-without k no_members map = tt

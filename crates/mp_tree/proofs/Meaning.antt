@@ -1,14 +1,14 @@
 -- What a `Doc` means, variant by variant, and what each such document is.
-use Rattle.std.proofs.Common.{◌≡◌, ℕ, List, [], ◌∷◌, map, Bool, IsUtf8, Ordering, Less, Equal, Greater, String, Vec, BTreeMap, Global, string_bytes, refl, sym, ap, ◌∙◌, subst, rules}
-use Rattle.mp_tree.specs.Document.{Document, null, flag, whole, string, list, object, IsDocument, AreDocuments, IsMap, HasTexts, ItemsHaveTexts, MembersHaveTexts, IsInRange, AreInRange, MembersAreInRange, Members, member, no_members, put, name_cmp}
+use Rattle.std.proofs.Common.{◌≡◌, List, [], ◌∷◌, map, Bool, IsUtf8, String, Vec, BTreeMap, Global, string_bytes, refl, sym, ap, ◌∙◌, subst, rules}
+use Rattle.mp_tree.specs.Document.{Document, null, flag, whole, string, list, object, IsDocument, AreDocuments, IsMap, HasTexts, ItemsHaveTexts, MembersHaveTexts, IsInRange, AreInRange, MembersAreInRange, Items as Elements, no_items, item, Members, no_members, put}
 use Rattle.mp_tree.specs.Laws.{DocsAreDocuments}
 use Rattle.mp_tree.specs.View.{number_of, byte_entries, members_of, document, document_step, items}
 use Rattle.mp_tree.specs.Private.Entries.{members}
 use Rattle.mp_tree.specs.declared.whole.Whole.{Whole}
 use Rattle.mp_tree.specs.declared.doc.Doc.{Doc, Null, Flag, Text, Items, Members as Map, map-Doc, fold-roll-Doc, ind-Doc, the_lemmas}
 use Rattle.mp_tree.specs.declared.doc.Doc.TheOpen.{Doc-F}
-use Rattle.std.specs.Ordering.{match_ordering}
 use Rattle.std.proofs.lemmas.Str.{IsUtf8-string_bytes}
+use Rattle.mp_tree.proofs.EachMember.{each_after_put}
 use Rattle.mp_tree.proofs.Maps.{IsMap-put}
 
 pub byte_entries-map : {V W : Type 0} (f : V → W) (es : List (String Global × V)) → byte_entries (map (λ e. (e.0, f e.1)) es) ≡ map (λ e. (string_bytes e.0, f e.1)) es
@@ -50,83 +50,46 @@ by_parts P step = ind-Doc (λ d. P (document d)) (λ x y is.
     let whole_of = λ (z : Doc-F Doc). document_step (map-Doc Doc Document document z) in
     subst P (sym (fold-roll-Doc Document document_step x)) (subst (λ z. P (whole_of z)) is (step y)))
 
-AreDocuments-items : (ds : List (Paired IsDocument)) → AreDocuments (items (map (λ e. e.0) ds))
-AreDocuments-items [] = tt
-AreDocuments-items (e ∷ ds) = (e.1, AreDocuments-items ds)
+module _ (P : Document → Type 0) where
+  items_hold : (Each : Elements → Type 0) → Each no_items → ((d : Document) (ds : Elements) → P d → Each ds → Each (item d ds)) → (ds : List (Paired P)) → Each (items (map (λ e. e.0) ds))
+  items_hold Each none one_more [] = none
+  items_hold Each none one_more (e ∷ ds) = one_more (document e.0) _ e.1 (items_hold Each none one_more ds)
 
-IsMap-members : (ms : List (String Global × Paired IsDocument)) → IsMap (members_of (byte_entries (map (λ (m : String Global × Doc). (m.0, document m.1)) (map (λ m. (m.0, m.1.0)) ms))))
-IsMap-members [] = tt
-IsMap-members (m ∷ ms) = IsMap-put _ _ _ m.1.1 (IsMap-members ms)
+  members_hold : (Each : Members → Type 0) → Each no_members → ((n : String Global) (d : Document) (ms : Members) → P d → Each ms → Each (put (string_bytes n) d ms)) → (ms : List (String Global × Paired P))
+      → Each (members_of (byte_entries (map (λ (m : String Global × Doc). (m.0, document m.1)) (map (λ m. (m.0, m.1.0)) ms))))
+  members_hold Each none one_more [] = none
+  members_hold Each none one_more (m ∷ ms) = one_more m.0 (document m.1.0) _ m.1.1 (members_hold Each none one_more ms)
 
 IsDocument-opened : (y : Doc-F (Paired IsDocument)) → IsDocument (opened IsDocument y)
-IsDocument-opened Doc-F.Null = tt
-IsDocument-opened (Doc-F.Flag b) = tt
-IsDocument-opened (Doc-F.Whole n) = tt
-IsDocument-opened (Doc-F.Text s) = tt
-IsDocument-opened (Doc-F.Items v) = AreDocuments-items v.items
-IsDocument-opened (Doc-F.Members m) = IsMap-members m.entries
+IsDocument-opened (Doc-F.Items v) = items_hold IsDocument AreDocuments tt (λ d ds here rest. (here, rest)) v.items
+IsDocument-opened (Doc-F.Members m) = members_hold IsDocument IsMap tt (λ n d ms. IsMap-put (string_bytes n) d ms) m.entries
+IsDocument-opened scalar = tt
 
 pub IsDocument-document : (d : Doc) → IsDocument (document d)
 IsDocument-document = by_parts IsDocument IsDocument-opened
 
 -- ---- each number is within the number rule
 
-AreInRange-items : (ds : List (Paired IsInRange)) → AreInRange (items (map (λ e. e.0) ds))
-AreInRange-items [] = tt
-AreInRange-items (e ∷ ds) = (e.1, AreInRange-items ds)
-
-MembersAreInRange-put : (n : List ℕ) (d : Document) (ms : Members) → IsInRange d → MembersAreInRange ms → MembersAreInRange (put n d ms)
-MembersAreInRange-put n d no_members here rest = (here, tt)
-MembersAreInRange-put n d (member m e ms) here rest = in_range_at (name_cmp n m) n m d e ms here rest (MembersAreInRange-put n d ms here rest.1)
-  where
-    in_range_at : (o : Ordering) (n m : List ℕ) (d e : Document) (ms : Members) → IsInRange d → MembersAreInRange (member m e ms) → MembersAreInRange (put n d ms)
-        → MembersAreInRange (match_ordering o (member n d (member m e ms)) (member n d ms) (member m e (put n d ms)))
-    in_range_at Less n m d e ms here rest later = (here, rest)
-    in_range_at Equal n m d e ms here rest later = (here, rest.1)
-    in_range_at Greater n m d e ms here rest later = (rest.0, later)
-
-MembersAreInRange-members : (ms : List (String Global × Paired IsInRange)) → MembersAreInRange (members_of (byte_entries (map (λ (m : String Global × Doc). (m.0, document m.1)) (map (λ m. (m.0, m.1.0)) ms))))
-MembersAreInRange-members [] = tt
-MembersAreInRange-members (m ∷ ms) = MembersAreInRange-put _ _ _ m.1.1 (MembersAreInRange-members ms)
-
 IsInRange-opened : (y : Doc-F (Paired IsInRange)) → IsInRange (opened IsInRange y)
-IsInRange-opened Doc-F.Null = tt
-IsInRange-opened (Doc-F.Flag b) = tt
 IsInRange-opened (Doc-F.Whole n) = (n.at_least, n.at_most)
-IsInRange-opened (Doc-F.Text s) = tt
-IsInRange-opened (Doc-F.Items v) = AreInRange-items v.items
-IsInRange-opened (Doc-F.Members m) = MembersAreInRange-members m.entries
+IsInRange-opened (Doc-F.Items v) = items_hold IsInRange AreInRange tt (λ d ds here rest. (here, rest)) v.items
+IsInRange-opened (Doc-F.Members m) =
+    let put_in_range = each_after_put (λ n d. IsInRange d) MembersAreInRange (λ n d ms. (λ h. h, λ h. h)) in
+    members_hold IsInRange MembersAreInRange tt (λ n d ms. put_in_range (string_bytes n) d ms) m.entries
+IsInRange-opened scalar = tt
 
 pub IsInRange-document : (d : Doc) → IsInRange (document d)
 IsInRange-document = by_parts IsInRange IsInRange-opened
 
 -- ---- each text and each name is UTF-8
 
-ItemsHaveTexts-items : (ds : List (Paired HasTexts)) → ItemsHaveTexts (items (map (λ e. e.0) ds))
-ItemsHaveTexts-items [] = tt
-ItemsHaveTexts-items (e ∷ ds) = (e.1, ItemsHaveTexts-items ds)
-
-MembersHaveTexts-put : (n : List ℕ) (d : Document) (ms : Members) → IsUtf8 n → HasTexts d → MembersHaveTexts ms → MembersHaveTexts (put n d ms)
-MembersHaveTexts-put n d no_members name here rest = (name, here, tt)
-MembersHaveTexts-put n d (member m e ms) name here rest = have_at (name_cmp n m) n m d e ms name here rest (MembersHaveTexts-put n d ms name here rest.2)
-  where
-    have_at : (o : Ordering) (n m : List ℕ) (d e : Document) (ms : Members) → IsUtf8 n → HasTexts d → MembersHaveTexts (member m e ms) → MembersHaveTexts (put n d ms)
-        → MembersHaveTexts (match_ordering o (member n d (member m e ms)) (member n d ms) (member m e (put n d ms)))
-    have_at Less n m d e ms name here rest later = (name, here, rest)
-    have_at Equal n m d e ms name here rest later = (name, here, rest.2)
-    have_at Greater n m d e ms name here rest later = (rest.0, rest.1, later)
-
-MembersHaveTexts-members : (ms : List (String Global × Paired HasTexts)) → MembersHaveTexts (members_of (byte_entries (map (λ (m : String Global × Doc). (m.0, document m.1)) (map (λ m. (m.0, m.1.0)) ms))))
-MembersHaveTexts-members [] = tt
-MembersHaveTexts-members (m ∷ ms) = MembersHaveTexts-put _ _ _ (IsUtf8-string_bytes m.0) m.1.1 (MembersHaveTexts-members ms)
-
 HasTexts-opened : (y : Doc-F (Paired HasTexts)) → HasTexts (opened HasTexts y)
-HasTexts-opened Doc-F.Null = tt
-HasTexts-opened (Doc-F.Flag b) = tt
-HasTexts-opened (Doc-F.Whole n) = tt
 HasTexts-opened (Doc-F.Text s) = IsUtf8-string_bytes s
-HasTexts-opened (Doc-F.Items v) = ItemsHaveTexts-items v.items
-HasTexts-opened (Doc-F.Members m) = MembersHaveTexts-members m.entries
+HasTexts-opened (Doc-F.Items v) = items_hold HasTexts ItemsHaveTexts tt (λ d ds here rest. (here, rest)) v.items
+HasTexts-opened (Doc-F.Members m) =
+    let put_with_text = each_after_put (λ n d. IsUtf8 n × HasTexts d) MembersHaveTexts (λ n d ms. (λ h. ((h.0, h.1), h.2), λ h. (h.0.0, h.0.1, h.1))) in
+    members_hold HasTexts MembersHaveTexts tt (λ n d ms here rest. put_with_text (string_bytes n) d ms (IsUtf8-string_bytes n, here) rest) m.entries
+HasTexts-opened scalar = tt
 
 pub HasTexts-document : (d : Doc) → HasTexts (document d)
 HasTexts-document = by_parts HasTexts HasTexts-opened

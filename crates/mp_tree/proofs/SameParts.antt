@@ -1,5 +1,5 @@
 -- When lists of elements and maps are seen alike.
-use Rattle.std.proofs.Common.{◌≡◌, ◌<◌, ◌⊎◌, inl, inr, ℕ, zero, suc, List, [], ◌∷◌, ◌++◌, map, length, get_or, String, Global, string_cmp, string_bytes, refl, sym, ap, ap₂, ◌∙◌, arith, append-nil, length-append}
+use Rattle.std.proofs.Common.{◌≡◌, ◌<◌, ◌⊎◌, inl, inr, ℕ, zero, suc, List, [], ◌∷◌, ◌++◌, map, length, get_or, String, Global, string_cmp, string_bytes, refl, sym, ap, ap₂, ◌∙◌, arith, length-append}
 use Rattle.std.proofs.lemmas.List.{length-map}
 use Rattle.std.specs.List.Sorted.{IsStrictlySortedBy}
 use Rattle.std.specs.Map.{keys_of}
@@ -11,6 +11,7 @@ use Rattle.mp_tree.proofs.MapBuilding.{seen}
 use Rattle.mp_tree.proofs.IntoData.{put-below, IsBelow-members}
 use Rattle.mp_tree.proofs.Maps.{pairs_of}
 use Rattle.mp_tree.proofs.Lists.{empty_from_length}
+use Rattle.mp_tree.proofs.Passed.{Passed, Passed-next, Passed-end}
 
 -- ---- elements
 
@@ -76,21 +77,27 @@ length_from_members es fs a b same = sym (length-map es (seen document)) ∙ ap 
 -- ---- two lists that are walked together
 
 module _ {A C : Type 0} (f : A → C) where
-  -- what comes next after equal beginnings
-  pub next_same : (done passed left rest : List A) (x y : A) → map f done ≡ map f passed → map f (done ++ x ∷ left) ≡ map f (passed ++ y ∷ rest) → f x ≡ f y
-  next_same [] [] left rest x y same all = cc
-  next_same [] (p ∷ passed) left rest x y same all = absurd (cc)
-  next_same (d ∷ done) [] left rest x y same all = absurd (cc)
-  next_same (d ∷ done) (p ∷ passed) left rest x y same all =
-      let before : map f done ≡ map f passed = cc in
-      let after : map f (done ++ x ∷ left) ≡ map f (passed ++ y ∷ rest) = cc in
-      next_same done passed left rest x y before after
+  -- what was passed of the one list is seen as what was passed of the other
+  abbrev pub PassedAlike : List A → List A → List A → List A → Type 0
+  PassedAlike xs left ys rest = Passed xs left (λ passed. Passed ys rest (λ others. map f passed ≡ map f others))
 
-  pub all_same : (xs ys done passed left rest : List A) → length xs ≡ length ys → xs ≡ done ++ left → ys ≡ passed ++ rest → map f done ≡ map f passed → (left ≡ []) ⊎ (rest ≡ []) → map f xs ≡ map f ys
-  all_same xs ys done passed left rest long one two same over =
-      let sizes : length done ≡ length passed = sym (length-map done f) ∙ ap length same ∙ length-map passed f in
-      let lengths : length left ≡ length rest = omega (arith, ap length one, ap length two, length-append done left, length-append passed rest) in
+  after_alike : (passed others left rest : List A) (x y : A) → map f passed ≡ map f others → map f (passed ++ x ∷ left) ≡ map f (others ++ y ∷ rest) → f x ≡ f y
+  after_alike [] [] left rest x y same all = cc
+  after_alike [] (p ∷ others) left rest x y same all = absurd (cc)
+  after_alike (d ∷ passed) [] left rest x y same all = absurd (cc)
+  after_alike (d ∷ passed) (p ∷ others) left rest x y same all =
+      let before : map f passed ≡ map f others = cc in
+      let after : map f (passed ++ x ∷ left) ≡ map f (others ++ y ∷ rest) = cc in
+      after_alike passed others left rest x y before after
+
+  -- what comes next in both
+  pub next_same : (xs left ys rest more others : List A) (x y : A) → PassedAlike xs left ys rest → left ≡ x ∷ more → rest ≡ y ∷ others → map f xs ≡ map f ys → f x ≡ f y
+  next_same xs left ys rest more others x y p next_left next_rest same =
+      after_alike p.passed p.holds.passed more others x y p.holds.holds (sym (ap (map f) (Passed-next p next_left)) ∙ same ∙ ap (map f) (Passed-next p.holds next_rest))
+
+  pub all_same : (xs left ys rest : List A) → PassedAlike xs left ys rest → length xs ≡ length ys → (left ≡ []) ⊎ (rest ≡ []) → map f xs ≡ map f ys
+  all_same xs left ys rest p long over =
+      let sizes : length p.passed ≡ length p.holds.passed = sym (length-map p.passed f) ∙ ap length p.holds.holds ∙ length-map p.holds.passed f in
+      let lengths : length left ≡ length rest = omega (arith, ap length p.all, ap length p.holds.all, length-append p.passed left, length-append p.holds.passed rest) in
       let none : length left ≡ 0 = elim over [ inl nil ↦ ap length nil | inr nil ↦ lengths ∙ ap length nil ] in
-      let no_left : left ≡ [] = empty_from_length left none in
-      let no_rest : rest ≡ [] = empty_from_length rest (sym lengths ∙ none) in
-      ap (map f) (one ∙ ap (λ zs. done ++ zs) no_left ∙ append-nil done) ∙ same ∙ ap (map f) (sym (two ∙ ap (λ zs. passed ++ zs) no_rest ∙ append-nil passed))
+      Passed-end (Passed-end p (empty_from_length left none)) (empty_from_length rest (sym lengths ∙ none))

@@ -1,13 +1,12 @@
 -- What is written for a document, and what is read of it.
-use Rattle.std.proofs.Common.{◌≡◌, ◌≤◌, ℕ, ℤ, pos, negsuc, suc, max, List, Option, Some, None, option_map, option_and_then, Bool, false, ◌||◌, Ordering, Less, Equal, Greater, IfSome, refl, ap, ap₂, arith}
+use Rattle.std.proofs.Common.{◌≡◌, ◌≤◌, ℕ, ℤ, pos, negsuc, suc, max, List, Option, Some, None, option_map, option_and_then, Bool, false, ◌||◌, IfSome, refl, ap, ap₂, arith}
 use Rattle.serde_json.specs.Data as json
 use Rattle.serde_json.specs.Data.{Data, Num, unsigned, negative, float}
 use Rattle.serde_json.specs.Find.{of_integer, is_float}
 use Rattle.serde_json.specs.Written.{has_float, items_have_float, members_have_float}
-use Rattle.mp_tree.specs.Document.{Document, null, flag, whole, string, list, object, Items, no_items, item, Members, no_members, member, put, depth, items_depth, members_depth, name_cmp, IsDocument, AreDocuments, IsMap}
+use Rattle.mp_tree.specs.Document.{Document, null, flag, whole, string, list, object, Items, no_items, item, Members, no_members, member, put, depth, items_depth, members_depth, IsDocument, AreDocuments, IsMap}
 use Rattle.mp_tree.specs.Text.{whole_number, document_from, items_from, members_from, data_of, items_data, members_data}
 use Rattle.mp_tree.proofs.IntoData.{put-below}
-use Rattle.std.specs.Ordering.{match_ordering}
 use Rattle.mp_tree.proofs.Depths.{members_depth-put}
 
 -- ---- no float is written

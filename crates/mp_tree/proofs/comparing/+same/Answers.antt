@@ -1,4 +1,4 @@
-use Rattle.std.proofs.Common.{◌≡◌, ◌⊎◌, inl, inr, [], ◌∷◌, ◌++◌, length, map, not, String, Global, string_bytes, sym, ap, ap₂, ◌∙◌, append_assoc, rules, arith}
+use Rattle.std.proofs.Common.{◌≡◌, ◌⊎◌, inl, inr, [], length, not, String, Global, string_bytes, sym, ap, ap₂, ◌∙◌, refl, rules, arith}
 use Rattle.std.proofs.lemmas.Slice.Eq.{bytes_eq-Decides}
 use Rattle.std.proofs.lemmas.Slice.Zip.{zip_turn, zip_end}
 use Rattle.std.specs.Iterator.Adapters.{zip_first, zip_second}
@@ -7,8 +7,8 @@ use Rattle.mp_tree.specs.View.{document}
 use Rattle.mp_tree.specs.Private.Entries.{members}
 use Rattle.mp_tree.specs.declared.doc.Doc.{Doc}
 use Rattle.mp_tree.proofs.MapBuilding.{seen}
-use Rattle.mp_tree.proofs.Lists.{map-push}
 use Rattle.mp_tree.proofs.Meaning.{document-Members}
+use Rattle.mp_tree.proofs.Passed.{Passed-step, Passed-push}
 use Rattle.mp_tree.proofs.SameParts.{length_from_items, length_from_members, members_of_object, at_from_items, items_from_each, next_same, all_same, seen_from_members, members_from_seen}
 use Rattle.mp_tree.proofs.comparing.+same.Goals as goal
 use Rattle.mp_tree.proofs.comparing.+same.Goals.{are_same_members-then-ne-via-then-ne, are_same_members-then-ne-via-else-ne+then-not-is_same}
@@ -46,13 +46,11 @@ pub are_same_members-returns-then-ne : goal.are_same_members-returns-then-ne
 are_same_members-returns-then-ne t c =
     let l = c.loop-name in
     let e : String Global × Doc = (c.in-Some.name.now, c.in-Some.value.now) in
-    let f : String Global × Doc = (c.in-Some.other_name.now, c.in-Some.other_value.now) in
-    let one : c.args.entries.now.entries ≡ l.invariant.0 ++ e ∷ _ = l.invariant.2 ∙ ap (λ es. l.invariant.0 ++ es) c.in-Some.ensures.steps.0 in
-    let two : c.args.others.now.entries ≡ l.invariant.1 ++ f ∷ _ = l.invariant.3 ∙ ap (λ es. l.invariant.1 ++ es) c.in-Some.ensures.steps.1 in (
+    let f : String Global × Doc = (c.in-Some.other_name.now, c.in-Some.other_value.now) in (
       λ never. absurd (cc),
       λ same.
-          let alike = sym (ap (map (seen document)) one) ∙ seen_from_members _ _ c.iter.ensures.ordered c.iter-2.ensures.ordered same ∙ ap (map (seen document)) two in
-          let both = next_same (seen document) l.invariant.0 l.invariant.1 _ _ e f l.invariant.4 alike in
+          let alike = seen_from_members _ _ c.iter.ensures.ordered c.iter-2.ensures.ordered same in
+          let both = next_same (seen document) _ _ _ _ _ _ e f l.invariant c.in-Some.ensures.steps.0 c.in-Some.ensures.steps.1 alike in
           let names : string_bytes e.0 ≡ string_bytes f.0 = ap (λ p. p.0) both in
           let values : document e.1 ≡ document f.1 = ap (λ p. p.1) both in
           elim c.then-ne.branch [
@@ -64,23 +62,12 @@ are_same_members-returns-then-ne t c =
 pub are_same_members-loop-name-preserved : goal.are_same_members-loop-name-preserved
 are_same_members-loop-name-preserved t c =
     let l = c.loop-name in
-    let done = l.invariant.0 in
-    let passed = l.invariant.1 in
     let e : String Global × Doc = (c.in-Some.name.now, c.in-Some.value.now) in
     let f : String Global × Doc = (c.in-Some.other_name.now, c.in-Some.other_value.now) in
-    let left = zip_first c.next.new.self in
-    let rest = zip_second c.next.new.self in
-    let one : c.args.entries.now.entries ≡ done ++ e ∷ left = l.invariant.2 ∙ ap (λ es. done ++ es) c.in-Some.ensures.steps.0 in
-    let two : c.args.others.now.entries ≡ passed ++ f ∷ rest = l.invariant.3 ∙ ap (λ es. passed ++ es) c.in-Some.ensures.steps.1 in
     let names : string_bytes e.0 ≡ string_bytes f.0 = search rules in
     let values : document e.1 ≡ document f.1 = c.is_same.ensures.0 (search rules) in
-    let same : seen document e ≡ seen document f = ap₂ (λ n d. (n, d)) names values in (
-      done ++ e ∷ [],
-      passed ++ f ∷ [],
-      one ∙ sym (append_assoc done (e ∷ []) left),
-      two ∙ sym (append_assoc passed (f ∷ []) rest),
-      map-push (seen document) (seen document) done passed e f l.invariant.4 same,
-    )
+    let same : seen document e ≡ seen document f = ap₂ (λ n d. (n, d)) names values in
+    Passed-step l.invariant c.in-Some.ensures.steps.0 (Passed-push (seen document) (seen document) l.invariant.passed _ e l.invariant.holds c.in-Some.ensures.steps.1 refl same)
 
 pub are_same_members-returns : goal.are_same_members-returns
 are_same_members-returns t c =
@@ -91,7 +78,7 @@ are_same_members-returns t c =
     let rest = zip_second l.name-iterator in
     let long : length one ≡ length two = sym c.len.ensures.len ∙ c.if-len.false ∙ c.len-2.ensures.len in
     let over : (left ≡ []) ⊎ (rest ≡ []) = elim c.in-None.ensures.steps [ inl end ↦ inl end.1.0 | inr end ↦ inr end.1.0 ] in
-    let alike = all_same (seen document) one two l.invariant.0 l.invariant.1 left rest long l.invariant.2 l.invariant.3 l.invariant.4 over in
+    let alike = all_same (seen document) one left two rest l.invariant long over in
     (λ yes. members_from_seen one two alike, λ same. search rules)
 
 pub is_same-returns-in-Members-Members : goal.is_same-returns-in-Members-Members

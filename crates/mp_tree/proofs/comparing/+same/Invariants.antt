@@ -1,8 +1,9 @@
-use Rattle.std.proofs.Common.{◌≡◌, ◌<◌, ℕ, List, ◌++◌, map, length, get_or, String, Global}
+use Rattle.std.proofs.Common.{◌≡◌, ◌<◌, ℕ, length, get_or}
 use Rattle.std.specs.Iterator.Adapters.{zip_first, zip_second}
 use Rattle.mp_tree.specs.View.{document}
 use Rattle.mp_tree.specs.declared.doc.Doc.{Doc}
 use Rattle.mp_tree.proofs.MapBuilding.{seen}
+use Rattle.mp_tree.proofs.SameParts.{PassedAlike}
 use Rattle.mp_tree.proofs.comparing.+same.Given as goal
 
 abbrev pub invariant-are_same_items-loop-element : goal.invariant-are_same_items-loop-element
@@ -10,4 +11,4 @@ invariant-are_same_items-loop-element l = (k : ℕ) (d : Doc) → k < length l.y
 
 abbrev pub invariant-are_same_members-loop-name : goal.invariant-are_same_members-loop-name
 invariant-are_same_members-loop-name l =
-    (done : List (String Global × Doc)) × (passed : List (String Global × Doc)) × (l.entries.entries ≡ done ++ zip_first l.name-iterator) × (l.others.entries ≡ passed ++ zip_second l.name-iterator) × (map (seen document) done ≡ map (seen document) passed)
+    PassedAlike (seen document) l.entries.entries (zip_first l.name-iterator) l.others.entries (zip_second l.name-iterator)

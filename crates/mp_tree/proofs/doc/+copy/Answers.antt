@@ -1,41 +1,32 @@
-use Rattle.std.proofs.Common.{◌≡◌, [], ◌∷◌, ◌++◌, map, String, Global, sym, ap, ap₂, ◌∙◌, subst, append_assoc, append-nil, string_bytes, string_cmp, rules}
+use Rattle.std.proofs.Common.{◌≡◌, String, Global, sym, ap, ap₂, ◌∙◌, string_bytes, rules}
 use Rattle.std.proofs.lemmas.Result.{IfOk-weaker}
-use Rattle.std.specs.List.Sorted.{IsStrictlySortedBy}
-use Rattle.std.specs.Map.{keys_of}
 use Rattle.mp_tree.specs.Document.{object}
 use Rattle.mp_tree.specs.View.{document, members_of}
 use Rattle.mp_tree.specs.declared.doc.Doc.{Doc}
 use Rattle.mp_tree.proofs.MapBuilding.{seen, ascend_from_seen, seen-same}
-use Rattle.mp_tree.proofs.Lists.{map-push}
 use Rattle.mp_tree.proofs.Meaning.{document-Members}
+use Rattle.mp_tree.proofs.Passed.{Passed-push, Passed-end}
 use Rattle.mp_tree.proofs.doc.+copy.Goals as goal
 
 pub copy_members-loop-name-preserved : goal.copy_members-loop-name-preserved
 copy_members-loop-name-preserved t c =
     let l = c.loop-name in
-    let done = l.invariant.0 in
     let e : String Global × Doc = (c.in-Some.name.now, c.in-Some.value.now) in
     let copy : String Global × Doc = (c.in_ok-copied_name.copied_name, c.in_ok-copied_value.copied_value) in
-    let left = c.next.new.self in
-    let all : c.args.entries.now.entries ≡ done ++ e ∷ left = l.invariant.1 ∙ ap (λ es. done ++ es) c.in-Some.ensures.steps in
     let name : string_bytes copy.0 ≡ string_bytes e.0 = search rules in
-    let same : seen document copy ≡ seen document e = ap₂ (λ n d. (n, d)) name c.in_ok-copied_value.ensures in (
-      done ++ e ∷ [],
-      all ∙ sym (append_assoc done (e ∷ []) left),
-      ap (map (seen document)) c.in_ok-push.ensures.items ∙ map-push (seen document) (seen document) l.pairs.items done copy e l.invariant.2 same,
-    )
+    let same : seen document copy ≡ seen document e = ap₂ (λ n d. (n, d)) name c.in_ok-copied_value.ensures in
+    Passed-push (seen document) (seen document) l.pairs.items _ copy l.invariant c.in-Some.ensures.steps c.in_ok-push.ensures.items same
 
 pub copy_members-map_of-requires : goal.copy_members-map_of-requires
 copy_members-map_of-requires t c =
     let l = c.loop-name in
-    let all : c.args.entries.now.entries ≡ l.invariant.0 = l.invariant.1 ∙ ap (λ es. l.invariant.0 ++ es) c.in-None.ensures.steps.0 ∙ append-nil l.invariant.0 in
-    ascend_from_seen document document l.pairs.items l.invariant.0 l.invariant.2 (subst (λ es. IsStrictlySortedBy string_cmp (keys_of es)) all c.iter-name-items.ensures.ordered)
+    ascend_from_seen document document l.pairs.items _ (Passed-end l.invariant c.in-None.ensures.steps.0) c.iter-name-items.ensures.ordered
 
 pub copy_members-returns : goal.copy_members-returns
 copy_members-returns t c =
     let l = c.loop-name in
-    let all : c.args.entries.now.entries ≡ l.invariant.0 = l.invariant.1 ∙ ap (λ es. l.invariant.0 ++ es) c.in-None.ensures.steps.0 ∙ append-nil l.invariant.0 in
-    IfOk-weaker c.map_of.result _ _ (λ m built. ap members_of (seen-same document m.entries l.pairs.items built ∙ l.invariant.2 ∙ ap (map (seen document)) (sym all))) c.map_of.ensures
+    let all = Passed-end l.invariant c.in-None.ensures.steps.0 in
+    IfOk-weaker c.map_of.result _ _ (λ m built. ap members_of (seen-same document m.entries l.pairs.items built ∙ all)) c.map_of.ensures
 
 pub copy_of-returns-in_ok-copy_members-in-Members : goal.copy_of-returns-in_ok-copy_members-in-Members
 copy_of-returns-in_ok-copy_members-in-Members t c =

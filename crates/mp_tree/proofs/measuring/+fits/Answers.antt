@@ -1,10 +1,11 @@
-use Rattle.std.proofs.Common.{◌≡◌, ◌≤◌, [], ◌∷◌, ◌++◌, get_or, suc, sym, ap, ◌∙◌, append_assoc, append-nil, rules, arith}
+use Rattle.std.proofs.Common.{◌≡◌, ◌≤◌, [], ◌∷◌, get_or, suc, ap, ◌∙◌, rules, arith}
 use Rattle.std.specs.BTreeMap.{values}
 use Rattle.mp_tree.specs.Document.{depth, object, items_depth, members_depth}
 use Rattle.mp_tree.specs.View.{document, items}
 use Rattle.mp_tree.specs.Private.Entries.{members}
 use Rattle.mp_tree.proofs.Depths.{items_depth_from_each, items_depth-append, members_depth-members}
 use Rattle.mp_tree.proofs.Meaning.{document-Members}
+use Rattle.mp_tree.proofs.Passed.{Passed-next, Passed-step, Passed-end}
 use Rattle.mp_tree.proofs.ReadValues.{item_depth}
 use Rattle.mp_tree.proofs.measuring.+fits.Goals as goal
 
@@ -28,31 +29,24 @@ are_items_within-returns t c =
 pub are_members_within-returns-then-not-is_within : goal.are_members_within-returns-then-not-is_within
 are_members_within-returns-then-not-is_within t c =
     let l = c.loop-value in
-    let d = c.in-Some.value.now in
-    let left = c.next.new.self in
-    let all : values c.args.entries.now ≡ l.invariant.0 ++ d ∷ left = l.invariant.1 ∙ ap (λ ds. l.invariant.0 ++ ds) c.in-Some.ensures.steps in
-    let deep : items_depth (items (values c.args.entries.now)) ≡ _ = ap (λ ds. items_depth (items ds)) all ∙ items_depth-append l.invariant.0 (d ∷ left) in
+    let all = Passed-next l.invariant c.in-Some.ensures.steps in
+    let deep : items_depth (items (values c.args.entries.now)) ≡ _ = ap (λ ds. items_depth (items ds)) all ∙ items_depth-append l.invariant.passed (c.in-Some.value.now ∷ c.next.new.self) in
     let whole = members_depth-members c.args.entries.now.entries c.values-value-items.ensures.ordered in
     (λ never. absurd (cc), λ shallow_document. let found = c.is_within.ensures.1 (omega arith) in absurd (cc))
 
 pub are_members_within-loop-value-preserved : goal.are_members_within-loop-value-preserved
 are_members_within-loop-value-preserved t c =
     let l = c.loop-value in
-    let done = l.invariant.0 in
     let d = c.in-Some.value.now in
-    let left = c.next.new.self in
-    let all : values c.args.entries.now ≡ done ++ d ∷ left = l.invariant.1 ∙ ap (λ ds. done ++ ds) c.in-Some.ensures.steps in
     let here : depth (document d) ≤ c.args.limit = c.is_within.ensures.0 (search rules) in
-    let both = items_depth-append done (d ∷ []) in
-    (done ++ d ∷ [], all ∙ sym (append_assoc done (d ∷ []) left), omega arith)
+    let both = items_depth-append l.invariant.passed (d ∷ []) in
+    let before = l.invariant.holds in
+    Passed-step l.invariant c.in-Some.ensures.steps (omega arith)
 
 pub are_members_within-returns : goal.are_members_within-returns
 are_members_within-returns t c =
-    let l = c.loop-value in
-    let all : values c.args.entries.now ≡ l.invariant.0 = l.invariant.1 ∙ ap (λ ds. l.invariant.0 ++ ds) c.in-None.ensures.steps.0 ∙ append-nil l.invariant.0 in
-    let deep : items_depth (items (values c.args.entries.now)) ≡ items_depth (items l.invariant.0) = ap (λ ds. items_depth (items ds)) all in
+    let within = Passed-end c.loop-value.invariant c.in-None.ensures.steps.0 in
     let whole = members_depth-members c.args.entries.now.entries c.values-value-items.ensures.ordered in
-    let shallow_document = l.invariant.2 in
     (λ yes. omega arith, λ known. search rules)
 
 pub is_within-returns-then-limit-gt0-2 : goal.is_within-returns-then-limit-gt0-2
