@@ -10,10 +10,7 @@ use Rattle.mp_cli.specs.Answered.{IsJoinAnswer, none_joined, join_refused, IsRep
 use Rattle.mp_tree.specs.Elements.{list_of}
 use Rattle.mp_cli.specs.Lines.{Answered, wrong_shape}
 use Rattle.mp_cli.specs.Private.Answers.{list_fault}
-
-pub list_of-items : (docs : List Doc) → list_of (items docs) ≡ map document docs
-list_of-items [] = refl
-list_of-items (d ∷ docs) = ap (λ ds. document d ∷ ds) (list_of-items docs)
+use Rattle.mp_tree.proofs.Facts.{list_of-items}
 
 pub no_join : (fault : ListFault) (patches : List Document) (a : Answered) → (fault ≡ OutOfMemory → ⊥) → IsJoinAllFault fault patches → a ≡ list_fault fault → IsJoinAnswer patches a
 no_join NoPatches patches a memory none is = none_joined none is

@@ -16,7 +16,7 @@ use Rattle.clap.specs.declared.parser.matches.ValueSource.{ValueSource}
 use Rattle.clap.specs.declared.parser.matches.ValueSource.TheVariants.{DefaultValue, CommandLine}
 
 -- each row has a value
-abbrev pub IsFull : List Row → Type 0
+abbrev IsFull : List Row → Type 0
 IsFull [] = Unit {0}
 IsFull (r ∷ rs) = (0 < length r.values) × IsFull rs
 

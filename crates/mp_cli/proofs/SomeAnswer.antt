@@ -4,7 +4,7 @@ use Rattle.std.specs.List.{All}
 use Rattle.mp_tree.specs.Document.{Document, Items, no_items, item, IsDocument, AreDocuments}
 use Rattle.mp_tree.specs.Text.{documents_in}
 use Rattle.mp_tree.specs.declared.reading.DocsFault.{DocsFault}
-use Rattle.mp_tree.proofs.Facts.{AreDocuments-documents_in}
+use Rattle.mp_tree.proofs.Facts.{AreDocuments-documents_in, IsDocument-list_of}
 use Rattle.mp_patch.specs.Operation.{HaveDocuments}
 use Rattle.mp_patch.specs.Operation.{Operation}
 use Rattle.mp_patch.specs.declared.fault.ApplyFault.TheVariants.{Refused}
@@ -19,11 +19,6 @@ use Rattle.mp_cli.specs.declared.command.Command.TheVariants.{Get, Patch, Merge,
 
 abbrev Has : (Answered → Type 0) → Type 0
 Has Is = (a : Answered) × Is a
-
-all_listed : (ds : Items) → AreDocuments ds → All IsDocument (list_of ds)
-all_listed no_items good k d less = absurd (omega arith)
-all_listed (item e ds) good zero d less = good.0
-all_listed (item e ds) good (suc k) d less = all_listed ds good.1 k d (omega arith)
 
 some_run : (d : Document) (operations : List Operation) → IsDocument d → HaveDocuments operations → Has (IsRunAnswer d operations)
 some_run d operations good values = elim (runs_or_is_refused d operations good values) [
@@ -58,7 +53,7 @@ some_replay d patches good fine = elim (compatible_or_told patches fine) [
 
 some_replay_to : (ds : Items) → AreDocuments ds → Has (IsReplayAnswerTo ds)
 some_replay_to no_items good = (wrong_shape, refl)
-some_replay_to (item d ps) good = some_replay d (list_of ps) good.0 (all_listed ps good.1)
+some_replay_to (item d ps) good = some_replay d (list_of ps) good.0 (IsDocument-list_of ps good.1)
 
 some_rewrite : (d patch : Document) → IsDocument patch → Has (IsRewriteAnswer d patch)
 some_rewrite d patch fine = let list = rewriting_exists d patch fine in (_, rewritten list.0 list.1 refl)
@@ -73,7 +68,7 @@ some_answer_to : (command : Command) (ds : Items) → AreDocuments ds → Has (I
 some_answer_to (Get pointer) ds good = (_, refl)
 some_answer_to Patch ds good = some_patch_to ds good
 some_answer_to Merge ds good = (merge_answer ds, refl)
-some_answer_to Join ds good = some_join (list_of ds) (all_listed ds good)
+some_answer_to Join ds good = some_join (list_of ds) (IsDocument-list_of ds good)
 some_answer_to Replay ds good = some_replay_to ds good
 some_answer_to Rewrite ds good = some_rewrite_to ds good
 

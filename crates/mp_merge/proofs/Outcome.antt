@@ -25,7 +25,7 @@ says-object p w is = says-has p w (λ none. let differ = sym is ∙ none in cc) 
 pub says-below_plain : (p : Document) (w : Path) → IsBelowPlain (Some p) w → says p w ≡ Some nothing
 says-below_plain p w at = ap (says p) at.path ∙ says-below p at.above at.name at.rest at.value at.stands
 
-pub says-alone : (p : Document) (w : Path) → LeavesAlone p w → says p w ≡ None
+says-alone : (p : Document) (w : Path) → LeavesAlone p w → says p w ≡ None
 says-alone p w leaves = by (reach p w)
   where
     by : Reach (Some p) w (says p w) → says p w ≡ None
@@ -33,7 +33,7 @@ says-alone p w leaves = by (reach p w)
     by (below at) = absurd (leaves.above at.above at.name at.rest at.value at.path at.stands)
     by (alone quiet) = quiet
 
-pub alone_if_quiet : (p : Document) (w : Path) → says p w ≡ None → LeavesAlone p w
+alone_if_quiet : (p : Document) (w : Path) → says p w ≡ None → LeavesAlone p w
 alone_if_quiet p w quiet = record {
   here = elim (nothing_or (look p w)) [ inl none ↦ none | inr here ↦ absurd (let differ = sym quiet ∙ says-has p w here in cc) ];
   above = λ u n rest v is stands. let differ = sym quiet ∙ ap (says p) is ∙ says-below p u n rest v stands in cc;

@@ -1,141 +1,25 @@
--- How deep a document is, by the kinds of its parts, and that no operation takes it past the limit.
-use Rattle.std.proofs.Common.{◌≡◌, ◌≢◌, ◌<◌, ◌≤◌, ◌+◌, ◌⊎◌, inl, inr, ℕ, zero, suc, max, List, [], ◌∷◌, length, Bool, true, false, cond, Option, None, Some, option_and_then, refl, sym, ap, ◌∙◌, subst, arith, length-append}
-use Rattle.std.specs.Prelude.{⊤}
-use Rattle.std.specs.Str.{bytes_eq}
-use Rattle.mp_tree.specs.Document.{Document, null, flag, whole, string, list, object, Items, no_items, item, Members, no_members, member, is_name, find, IsDocument, AreDocuments, IsMap, depth, items_depth, members_depth, depth_limit}
-use Rattle.mp_tree.proofs.Facts.{cases_same, is_name-self, find-below, members_depth-put, members_depth-without}
-use Rattle.mp_pointer.specs.Difference.{DifferOnlyAt}
-use Rattle.mp_pointer.specs.Part.{Kind, absent, scalar, names, elements, part, child, element_from, numeral, kind, kind_here, kind_of}
+-- No operation takes a document past the depth limit.
+use Rattle.std.proofs.Common.{◌≡◌, ◌≢◌, ◌≤◌, ◌+◌, ◌⊎◌, inl, inr, ℕ, suc, max, List, [], ◌∷◌, length, Some, ap, ◌∙◌, arith, length-append}
+use Rattle.mp_tree.specs.Document.{Document, item, IsDocument, depth, depth_limit}
+use Rattle.mp_tree.proofs.Facts.{members_depth-put, members_depth-without, depth-append}
+use Rattle.mp_pointer.specs.Part.{part}
 use Rattle.mp_pointer.specs.Spelling.{Tokens}
-use Rattle.mp_pointer.proofs.Facts.{nth, child-numeral, cases_begins, child-object, kind-append}
+use Rattle.mp_pointer.proofs.Facts.{part-depth, depth-changed}
 use Rattle.mp_patch.specs.Operation.{Operation, add, remove, replace, move, copy, test, ChangesContainer, AddsTo, to_map, to_list, RemovesFrom, from_map, from_list, Adds, Removes, Step}
-use Rattle.mp_tree.specs.Elements.{append}
 use Rattle.mp_patch.specs.Refusal.{IsTooDeep}
 use Rattle.mp_patch.specs.Run.{IsRefused}
 use Rattle.mp_patch.proofs.Documents.{Removes-document}
 use Rattle.mp_patch.proofs.FirstCause.{free_of}
 
--- ---- a part is less deep than what holds it
-
-element-depth : (i : ℕ) (token : List ℕ) (ds : Items) (y : Document) → element_from i token ds ≡ Some y → depth y ≤ items_depth ds
-element-depth i token no_items y is = cc
-element-depth i token (item d ds) y is = picked (bytes_eq token (numeral i)) is (element-depth (suc i) token ds y)
-  where
-    picked : (b : Bool) → cond b (Some d) (element_from (suc i) token ds) ≡ Some y → (element_from (suc i) token ds ≡ Some y → depth y ≤ items_depth ds) → depth y ≤ max (depth d) (items_depth ds)
-    picked true is later = let same : d ≡ y = cc in omega (arith, ap depth same)
-    picked false is later = omega (arith, later is)
-
-value-depth : (n : List ℕ) (ms : Members) (y : Document) → find n ms ≡ Some y → depth y ≤ members_depth ms
-value-depth n no_members y is = cc
-value-depth n (member m d ms) y is = picked (is_name n m) is (value-depth n ms y)
-  where
-    picked : (b : Bool) → cond b (Some d) (find n ms) ≡ Some y → (find n ms ≡ Some y → depth y ≤ members_depth ms) → depth y ≤ max (depth d) (members_depth ms)
-    picked true is later = let same : d ≡ y = cc in omega (arith, ap depth same)
-    picked false is later = omega (arith, later is)
-
-child-depth : (token : List ℕ) (d y : Document) → child token d ≡ Some y → suc (depth y) ≤ depth d
-unfolding child
-child-depth token null y is = cc
-child-depth token (flag b) y is = cc
-child-depth token (whole z) y is = cc
-child-depth token (string s) y is = cc
-child-depth token (list ds) y is = omega (arith, element-depth 0 token ds y is)
-child-depth token (object ms) y is = omega (arith, value-depth token ms y is)
-
-pub part-depth : (u : Tokens) (d x : Document) → part d u ≡ Some x → length u + depth x ≤ depth d
-part-depth [] d x is = let same : d ≡ x = cc in omega (arith, ap depth same)
-part-depth (token ∷ u) d x is = through (child token d) refl (λ e. part-depth u e x) is
-  where
-    through : (o : Option Document) → child token d ≡ o → ((e : Document) → part e u ≡ Some x → length u + depth x ≤ depth e) → option_and_then (λ e. part e u) o ≡ Some x → suc (length u) + depth x ≤ depth d
-    through None here later is = cc
-    through (Some e) here later is = omega (arith, child-depth token d e here, later e is)
-
--- ---- the depth is told by where maps and lists stand
-
-abbrev Nests : Kind → Type 0
-Nests absent = ⊥
-Nests (scalar v) = ⊥
-Nests (names ns) = ⊤
-Nests (elements n) = ⊤
-
-abbrev IsWithin : ℕ → Document → Type 0
-IsWithin n d = (u : Tokens) → Nests (kind d u) → length u < n
-
-abbrev nests_from : Option Document → Tokens → Type 0
-nests_from o u = Nests (kind_of (option_and_then (λ d. part d u) o))
-
-nests-depth : (x : Document) → Nests (kind_here x) → 0 < depth x
-nests-depth null nests = absurd nests
-nests-depth (flag b) nests = absurd nests
-nests-depth (whole z) nests = absurd nests
-nests-depth (string s) nests = absurd nests
-nests-depth (list ds) nests = omega arith
-nests-depth (object ms) nests = omega arith
-
-within_depth : (d : Document) → IsWithin (depth d) d
-within_depth d u nests = at (part d u) refl nests
-  where
-    at : (o : Option Document) → part d u ≡ o → Nests (kind_of o) → length u < depth d
-    at None is nests = absurd nests
-    at (Some x) is nests = omega (arith, part-depth u d x is, nests-depth x nests)
-
-below_suc : (k n : ℕ) → 0 < n → ((m : ℕ) → n ≡ suc m → k ≤ m) → suc k ≤ n
-below_suc k zero some below = absurd (omega arith)
-below_suc k (suc m) some below = omega (arith, below m refl)
-
-mutual
-  depth_within : (n : ℕ) (d : Document) → IsDocument d → IsWithin n d → depth d ≤ n
-  depth_within n null good within = omega arith
-  depth_within n (flag b) good within = omega arith
-  depth_within n (whole z) good within = omega arith
-  depth_within n (string s) good within = omega arith
-  depth_within n (list ds) good within =
-      below_suc (items_depth ds) n (within [] tt)
-      (λ m is. items_within m ds good (λ j u nests. omega (arith, is, within (numeral j ∷ u) (subst (λ o. nests_from o u) (sym (child-numeral (numeral j) j ds refl)) nests))))
-  depth_within n (object ms) good within =
-      below_suc (members_depth ms) n (within [] tt) (λ m is. members_within m ms good (λ q u nests. omega (arith, is, within (q ∷ u) (subst (λ o. nests_from o u) (sym (child-object q ms)) nests))))
-
-  items_within : (n : ℕ) (ds : Items) → AreDocuments ds → ((j : ℕ) (u : Tokens) → nests_from (nth j ds) u → length u < n) → items_depth ds ≤ n
-  items_within n no_items good within = omega arith
-  items_within n (item d ds) good within = omega (arith, depth_within n d good.0 (within 0), items_within n ds good.1 (λ j. within (suc j)))
-
-  members_within : (n : ℕ) (ms : Members) → IsMap ms → ((q : List ℕ) (u : Tokens) → nests_from (find q ms) u → length u < n) → members_depth ms ≤ n
-  members_within n no_members good within = omega arith
-  members_within n (member m d ms) good within =
-      let first : find m (member m d ms) ≡ Some d = rw (is_name-self m) refl in
-      omega (
-        arith,
-        depth_within n d good.0 (λ u nests. within m u (subst (λ o. nests_from o u) (sym first) nests)),
-        members_within n ms good.2
-            (λ q u nests. cases_same q m
-            (λ same. absurd (subst (λ o. nests_from o u) (ap (λ k. find k ms) same ∙ find-below m ms good.1) nests))
-            (λ other. let later : find q (member m d ms) ≡ find q ms = rw other refl in within q u (subst (λ o. nests_from o u) (sym later) nests))),
-      )
-
--- a document that differs from another at s alone
-pub depth-changed : (n : ℕ) (s : Tokens) (d e y : Document) → IsDocument e → DifferOnlyAt s d e → part e s ≡ Some y → depth d ≤ n → length s + depth y ≤ n → depth e ≤ n
-depth-changed n s d e y good only stands shallow fits =
-    depth_within n e good
-    (λ u nests. cases_begins u s
-    (λ begins.
-    let there : kind e u ≡ kind y begins.0 = ap (kind e) begins.1 ∙ kind-append e y s begins.0 stands in
-    let long : length u ≡ length s + length begins.0 = ap length begins.1 ∙ length-append s begins.0 in
-    omega (arith, within_depth y begins.0 (subst Nests there nests), long))
-    (λ apart. omega (arith, within_depth d u (subst Nests (sym (only u apart)) nests))))
-
 -- ---- a map or a list that was changed
-
-items_depth-append : (front back : Items) → items_depth (append front back) ≡ max (items_depth front) (items_depth back)
-items_depth-append no_items back = omega arith
-items_depth-append (item d front) back = omega (arith, items_depth-append front back)
 
 adds-depth : (v : Document) (token : List ℕ) (x y : Document) → AddsTo v token x y → depth y ≤ max (suc (depth v)) (depth x)
 adds-depth v token x y (to_map ms is now) = omega (arith, ap depth is, ap depth now, members_depth-put token v ms)
-adds-depth v token x y (to_list front back names_it is now) = omega (arith, ap depth is, ap depth now, items_depth-append front back, items_depth-append front (item v back))
+adds-depth v token x y (to_list front back names_it is now) = omega (arith, ap depth is, ap depth now, depth-append front back, depth-append front (item v back))
 
 removes-depth : (token : List ℕ) (x y : Document) → RemovesFrom token x y → depth y ≤ depth x
 removes-depth token x y (from_map ms v here is now) = omega (arith, ap depth is, ap depth now, members_depth-without token ms)
-removes-depth token x y (from_list front back v names_it is now) = omega (arith, ap depth is, ap depth now, items_depth-append front back, items_depth-append front (item v back))
+removes-depth token x y (from_list front back v names_it is now) = omega (arith, ap depth is, ap depth now, depth-append front back, depth-append front (item v back))
 
 -- ---- operations
 

@@ -23,7 +23,7 @@ none_first [] a none first = first
 none_first ((c, Holds) ∷ later) a none (inl first) = none.0 first.1
 none_first ((c, Holds) ∷ later) a none (inr first) = none_first later a none.1 first.1
 
-pub none_holds : {C : Type 0} (list : Causes C) → ((a : C) → ¬ IsFirst a list) → NoneHolds list
+none_holds : {C : Type 0} (list : Causes C) → ((a : C) → ¬ IsFirst a list) → NoneHolds list
 none_holds [] never = tt
 none_holds ((c, Holds) ∷ later) never =
     let no : ¬ Holds = λ h. never c (inl (refl, h)) in

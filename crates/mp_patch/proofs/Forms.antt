@@ -7,7 +7,7 @@ use Rattle.mp_tree.specs.Elements.{items_of}
 use Rattle.mp_tree.specs.declared.doc.Doc.{Doc}
 use Rattle.mp_pointer.specs.Spelling.{Tokens, spell, tokens_in}
 use Rattle.mp_pointer.specs.declared.fault.PointerFault.{PointerFault}
-use Rattle.mp_pointer.proofs.Facts.{reads_spellings, count_of-items}
+use Rattle.mp_pointer.proofs.Facts.{reads_spellings}
 use Rattle.mp_patch.specs.Form.{NamesOp, Need, path_alone, a_value, an_origin, HasOp, HasNoPointer, Carries, EachForm, IsForm, IsFormFault, IsNoPointer, deepest, needed_members, op_member, path_member, from_member, shape, shapes, text_at, value_depth, value_member}
 use Rattle.mp_patch.specs.Operation.{Operation, add, remove, replace, move, copy, test}
 use Rattle.mp_patch.specs.Private.Faults.{fault_of_element}
@@ -19,7 +19,8 @@ use Rattle.mp_patch.specs.declared.op.Op.{Op}
 use Rattle.mp_patch.specs.declared.fault.Refusal.{Refusal}
 use Rattle.mp_patch.specs.declared.fault.Refusal.TheVariants.{By, OutOfMemory}
 use Rattle.mp_patch.proofs.Needs.{some_none, same_some, one_need, value_or_origin}
-use Rattle.mp_patch.proofs.SingleSteps.{items-append}
+use Rattle.mp_tree.proofs.Facts.{count_of-items, items-append}
+
 
 -- ---- reading
 
@@ -86,7 +87,7 @@ pub form_of_map : (r : Result Op (Refusal FormCause)) (ms : Members) (d : Docume
 form_of_map (Ok op) ms d is carries = (ms, is, carries)
 form_of_map (Err fault) ms d is found = subst (IsOpFault fault) (sym is) (map_fault ms fault found)
 
-pub EachForm-more : (docs : List Doc) (operations : List Operation) (d : Doc) (o : Operation) → EachForm (items docs) operations → IsForm (document d) o → EachForm (items (docs ++ d ∷ [])) (operations ++ o ∷ [])
+EachForm-more : (docs : List Doc) (operations : List Operation) (d : Doc) (o : Operation) → EachForm (items docs) operations → IsForm (document d) o → EachForm (items (docs ++ d ∷ [])) (operations ++ o ∷ [])
 EachForm-more [] [] d o forms form = (form, tt)
 EachForm-more [] (p ∷ operations) d o forms form = absurd forms
 EachForm-more (x ∷ docs) [] d o forms form = absurd forms

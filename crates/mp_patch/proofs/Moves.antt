@@ -1,5 +1,5 @@
 -- A move is a removal and then an addition to what is left; a copy is an addition of what is there.
-use Rattle.std.proofs.Common.{◌≡◌, ◌≢◌, inl, inr, [], ◌∷◌, ◌++◌, Some, Result, Ok, Err, refl, sym, ap, subst}
+use Rattle.std.proofs.Common.{◌≡◌, ◌≢◌, inl, inr, Some, Result, Ok, Err, refl, subst}
 use Rattle.mp_tree.specs.Document.{Document, IsDocument}
 use Rattle.mp_pointer.specs.Part.{part}
 use Rattle.mp_pointer.specs.Spelling.{Tokens, IsProperPrefix}
@@ -13,6 +13,7 @@ use Rattle.mp_patch.proofs.Documents.{Removes-once}
 use Rattle.mp_patch.proofs.FirstCause.{NoneHolds, unrefused, free_of}
 use Rattle.mp_patch.proofs.Needs.{same_some}
 use Rattle.mp_patch.proofs.SingleSteps.{some_missing}
+use Rattle.mp_pointer.proofs.Facts.{root_is_prefix}
 
 pub stays : (d x : Document) (f t : Tokens) → ¬ IsProperPrefix f t → f ≡ t → part d f ≡ Some x → Answers (Ok tt) d (move f t) d
 stays d x f t apart same stood = (
@@ -39,10 +40,6 @@ module _ (f t : Tokens) (x d left : Document) (good : IsDocument d) (apart : ¬ 
   moved (Ok done) e answers = (unrefused d (move f t) (moves_freely (free_of left (add t x) answers.0)), (x, stood, inr (other, left, removes, answers.1)))
   moved (Err (By cause)) e refused = not_added cause refused
   moved (Err OutOfMemory) e answers = tt
-
-pub root_is_prefix : (f t : Tokens) → f ≡ [] → f ≢ t → IsProperPrefix f t
-root_is_prefix f [] root other = absurd (other root)
-root_is_prefix f (n ∷ t) root other = (n, t, ap (λ s. s ++ n ∷ t) (sym root))
 
 -- where nothing was removed
 pub not_moved : (fault : Refusal Cause) (f t : Tokens) (d e e' : Document) → ¬ IsProperPrefix f t → f ≢ t → Answers (Err fault) d (remove f) e → Answers (Err fault) d (move f t) e'

@@ -1,22 +1,22 @@
 -- The laws of runs: one end, one refusal, and no document too deep.
 use Rattle.std.proofs.Common.{◌≡◌, ◌≢◌, ◌⊎◌, inl, inr, ℕ, zero, suc, List, [], ◌∷◌, get_or, take, Some, refl, sym, ap, ap₂, ◌∙◌, subst, arith}
 use Rattle.std.specs.List.{slice_get}
-use Rattle.mp_tree.specs.Document.{Document, list, object, Items, no_items, item, IsDocument, depth, put}
+use Rattle.mp_tree.specs.Document.{Document, list, object, Items, item, IsDocument, depth, put}
 use Rattle.mp_pointer.specs.Difference.{DifferOnlyAt}
 use Rattle.mp_pointer.specs.Part.{part, numeral}
 use Rattle.mp_tree.specs.Elements.{count_of, append}
 use Rattle.mp_pointer.specs.Spelling.{Tokens}
-use Rattle.mp_pointer.proofs.Facts.{same_numeral, numeral_first, equals_by_part, DifferOnlyAt-sym, DifferOnlyAt-trans}
+use Rattle.mp_pointer.proofs.Facts.{same_numeral, numeral_first, equals_by_part, DifferOnlyAt-sym, DifferOnlyAt-trans, part-document, document-changed, same_last, not_empty}
 use Rattle.mp_patch.specs.Laws.{HasOneEnd, RunsUnrefused, HasOneRefusal, StaysShallow}
 use Rattle.mp_patch.specs.Operation.{HasDocument}
 use Rattle.mp_patch.specs.Operation.{Operation, add, remove, replace, move, copy, test, AddsTo, to_map, to_list, dash, NamesPlace, Adds, Removes, Step}
 use Rattle.mp_patch.specs.Refusal.{RefusedBy, causes}
 use Rattle.mp_patch.specs.Run.{Runs}
-use Rattle.mp_tree.proofs.Facts.{members_of_object}
+use Rattle.mp_tree.proofs.Facts.{members_of_object, same_parts, append_nothing}
 use Rattle.mp_patch.proofs.Depth.{Step-depth}
-use Rattle.mp_patch.proofs.Documents.{part-document, document-changed, Adds-document, Removes-document, Removes-once, same_parts, same_elements, no_list_is_map, some_same}
+use Rattle.mp_patch.proofs.Documents.{Adds-document, Removes-document, Removes-once, same_elements, no_list_is_map, some_same}
 use Rattle.mp_patch.proofs.FirstCause.{one_first}
-use Rattle.mp_patch.proofs.SingleSteps.{same_last, not_empty}
+
 
 -- ---- each step gives a document
 
@@ -36,21 +36,6 @@ Step-document d (test t v) e good value step = subst IsDocument (sym step.1) goo
 
 dash_is_no_index : {P : Type 0} (i : ℕ) → dash ≡ numeral i → P
 dash_is_no_index i e = let digits = numeral_first i in absurd (omega (arith, digits.1, ap (λ n. get_or n 0 0) e))
-
-append_nothing : (front front' : Items) → append front no_items ≡ append front' no_items → front ≡ front'
-append_nothing no_items no_items e = refl
-append_nothing no_items (item d front') e = cc
-append_nothing (item d front) no_items e = cc
-append_nothing (item d front) (item d' front') e =
-    let first : d ≡ d' = head e in
-    let later : append front no_items ≡ append front' no_items = tail e in
-    ap₂ item first (append_nothing front front' later)
-  where
-    head : item d (append front no_items) ≡ item d' (append front' no_items) → d ≡ d'
-    head e = cc
-
-    tail : item d (append front no_items) ≡ item d' (append front' no_items) → append front no_items ≡ append front' no_items
-    tail e = cc
 
 one_place : (token : List ℕ) (front back front' back' : Items) → append front back ≡ append front' back' → NamesPlace token front back → NamesPlace token front' back' → (front ≡ front') × (back ≡ back')
 one_place token front back front' back' same (inl i) (inl j) = same_parts front back front' back' (same_numeral (count_of front) (count_of front') (sym i ∙ j)) same
@@ -89,7 +74,7 @@ moved-once f t x y d e e' good here there (inr (other, left, removes, adds)) (in
     let value = some_same y x (sym there ∙ here) in
     Adds-once t x left e e' (Removes-document f d left good removes) (part-document f d x good here) adds (subst (λ v. Adds t v left e') value (subst (λ m. Adds t y m e') same adds'))
 
-pub Step-once : (d : Document) (o : Operation) (e f : Document) → IsDocument d → HasDocument o → Step d o e → Step d o f → e ≡ f
+Step-once : (d : Document) (o : Operation) (e f : Document) → IsDocument d → HasDocument o → Step d o e → Step d o f → e ≡ f
 Step-once d (add t v) e f good value a b = Adds-once t v d e f good value a b
 Step-once d (remove t) e f good value a b = Removes-once t d e f good a b
 Step-once d (replace t v) e f good value a b =

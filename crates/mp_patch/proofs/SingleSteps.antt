@@ -1,21 +1,17 @@
 -- What an operation does, from what was done to the container of its place.
 use Rattle.std.proofs.Common.{◌≡◌, ◌≢◌, ◌<◌, ◌≤◌, ◌+◌, ◌⊎◌, inl, inr, ℕ, suc, List, [], ◌∷◌, ◌++◌, length, get_or, take, drop, Bool, Option, None, Some, option_and_then, option_map, Result, Ok, Err, IsTrue, Vec, BTreeMap, String, Global, refl, sym, ap, ap₂, ◌∙◌, subst, arith, true≢false, add-one, MatchResult, MatchOption, IsFalse}
-use Rattle.std.proofs.lemmas.List.{length-take-le, take_all, take-append-drop, drop_more}
-use Rattle.std.proofs.lemmas.Option.{slice_get_within, get_or_from_slice_get}
-use Rattle.std.specs.List.{slice_get}
-use Rattle.mp_tree.specs.Document.{Document, list, object, item, find, put, without, depth, depth_limit}
+use Rattle.std.proofs.lemmas.List.{take-append-drop, drop_more}
+use Rattle.mp_tree.specs.Document.{Document, list, object, find, put, without, depth, depth_limit}
 use Rattle.mp_tree.specs.View.{document, items}
 use Rattle.mp_tree.specs.Private.Entries.{members}
 use Rattle.mp_tree.specs.declared.doc.Doc
 use Rattle.mp_tree.specs.declared.doc.Doc.{Doc}
-use Rattle.mp_tree.proofs.Facts.{document-Items, document-Members}
+use Rattle.mp_tree.proofs.Facts.{document-Items, document-Members, count_of-items, nth-here, items-append, count-take}
 use Rattle.mp_pointer.specs.Difference.{DifferOnlyAt}
 use Rattle.mp_pointer.specs.Part.{part, child, numeral}
-use Rattle.mp_tree.specs.Elements.{count_of, append}
 use Rattle.mp_pointer.specs.Spelling.{Tokens}
-use Rattle.mp_pointer.proofs.Facts.{child-numeral, count_of-items}
+use Rattle.mp_pointer.proofs.Facts.{child-numeral, same_last, not_empty}
 use Rattle.mp_pointer.proofs.Facts.{child-object, part-push}
-use Rattle.mp_pointer.proofs.Facts.{nth-here}
 use Rattle.mp_patch.proofs.FirstCause.{unrefused}
 use Rattle.mp_patch.specs.Operation.{add, remove, replace, ChangesContainer, AddsTo, to_map, to_list, RemovesFrom, from_map, from_list, dash, NamesPlace}
 use Rattle.mp_patch.specs.Refusal.{LacksPlace, HasNoPlace, IsTooDeep, IsMissing, RefusedBy}
@@ -28,56 +24,7 @@ use Rattle.mp_patch.specs.declared.fault.Refusal.TheVariants.{By, OutOfMemory}
 
 -- ---- the last of the tokens
 
-pub same_last : (s t : Tokens) (m n : List ℕ) → s ++ m ∷ [] ≡ t ++ n ∷ [] → (s ≡ t) × (m ≡ n)
-same_last [] [] m n e = (refl, cc)
-same_last [] (y ∷ []) m n e = absurd (longer e)
-  where
-    longer : m ∷ [] ≡ y ∷ n ∷ [] → ⊥
-    longer e = cc
-same_last [] (y ∷ z ∷ t) m n e = absurd (longer e)
-  where
-    longer : m ∷ [] ≡ y ∷ z ∷ (t ++ n ∷ []) → ⊥
-    longer e = cc
-same_last (x ∷ []) [] m n e = absurd (longer e)
-  where
-    longer : x ∷ m ∷ [] ≡ n ∷ [] → ⊥
-    longer e = cc
-same_last (x ∷ z ∷ s) [] m n e = absurd (longer e)
-  where
-    longer : x ∷ z ∷ (s ++ m ∷ []) ≡ n ∷ [] → ⊥
-    longer e = cc
-same_last (x ∷ s) (y ∷ t) m n e =
-    let later : s ++ m ∷ [] ≡ t ++ n ∷ [] = cc in
-    let rest = same_last s t m n later in
-    let here : x ≡ y = cc in
-    (ap₂ (λ a b. a ∷ b) here rest.0, rest.1)
-
-pub not_empty : (s : Tokens) (n : List ℕ) → s ++ n ∷ [] ≢ []
-not_empty [] n e = cc
-not_empty (x ∷ s) n e = cc
-
--- the tokens of the container, and the last
-pub to_last : (t : Tokens) (last : ℕ) (token : List ℕ) → last + 1 ≡ length t → slice_get t last ≡ Some token → t ≡ take last t ++ token ∷ []
-to_last t last token is here =
-    let rest : drop last t ≡ token ∷ drop (last + 1) t = drop_more t last [] (slice_get_within t last token here) ∙ ap (λ x. x ∷ drop (last + 1) t) (get_or_from_slice_get t last token [] here) in
-    let over : drop (last + 1) t ≡ [] = ap (λ n. drop n t) is ∙ drop_whole t in
-    sym (take-append-drop last t) ∙ ap (λ ys. take last t ++ ys) (rest ∙ ap (λ xs. token ∷ xs) over)
-  where
-    drop_whole : (xs : Tokens) → drop (length xs) xs ≡ []
-    drop_whole [] = refl
-    drop_whole (x ∷ xs) = drop_whole xs
-
-pub to_end : (t : Tokens) → take (length t) t ≡ t
-to_end t = take_all (length t) t (omega arith)
-
 -- ---- elements
-
-pub items-append : (xs ys : List Doc) → items (xs ++ ys) ≡ append (items xs) (items ys)
-items-append [] ys = refl
-items-append (x ∷ xs) ys = ap (item (document x)) (items-append xs ys)
-
-count-take : (i : ℕ) (ds : List Doc) → i ≤ length ds → count_of (items (take i ds)) ≡ i
-count-take i ds within = count_of-items (take i ds) ∙ length-take-le i ds within
 
 pub element_removed : (token : List ℕ) (i : ℕ) (v w : Vec Doc Global) (x : Doc) → token ≡ numeral i → i < length v.items → x ≡ get_or v.items i x → w.items ≡ take i v.items ++ drop (suc i) v.items
     → (child token (document (Doc.Items v)) ≡ Some (document x)) × RemovesFrom token (document (Doc.Items v)) (document (Doc.Items w))
@@ -161,7 +108,7 @@ some_missing d x t stood missing = differ (sym stood ∙ missing)
     differ : Some x ≡ None → ⊥
     differ e = cc
 
-replaces_freely : (d x : Document) (t : Tokens) (v : Document) → part d t ≡ Some x → length t + depth v ≤ depth_limit → ¬ IsRefused d (replace t v)
+pub replaces_freely : (d x : Document) (t : Tokens) (v : Document) → part d t ≡ Some x → length t + depth v ≤ depth_limit → ¬ IsRefused d (replace t v)
 replaces_freely d x t v stood fits = unrefused d (replace t v) (some_missing d x t stood, ((λ deep. omega (arith, deep, fits)), tt))
 
 pub replaced : (r : Result (Unit {0}) (Refusal Cause)) (fits : Bool) (t : Tokens) (v d e x y : Document) → (IsTrue fits → length t + depth v ≤ depth_limit) → (length t + depth v ≤ depth_limit → IsTrue fits)

@@ -11,24 +11,14 @@ use Rattle.mp_patch.specs.Refusal.{IsTooDeep}
 use Rattle.mp_patch.specs.Run.{IsRefused}
 use Rattle.mp_patch.specs.declared.fault.Cause.TheVariants.{IntoItself, RemoveRoot, Missing, NoPlace, TooDeep, TestFailed}
 use Rattle.mp_patch.specs.declared.fault.Refusal.TheVariants.{By}
-use Rattle.mp_tree.proofs.Facts.{decide_name, decide_path, decide_document}
+use Rattle.mp_tree.proofs.Facts.{decide_path, decide_document}
 use Rattle.mp_patch.proofs.Documents.{Removes-document, some_same}
 use Rattle.mp_patch.proofs.FirstCause.{unrefused}
-use Rattle.mp_patch.proofs.Moves.{stays, moved, copied, root_is_prefix}
+use Rattle.mp_patch.proofs.Moves.{stays, moved, copied}
 use Rattle.mp_patch.proofs.RunLaws.{Step-document}
-use Rattle.mp_patch.proofs.SomeStep.{rewrite_part, some_addition, some_removal}
+use Rattle.mp_patch.proofs.SomeStep.{some_addition, some_removal}
 use Rattle.mp_patch.proofs.SingleSteps.{some_missing}
-
-decide_prefix : (f t : Tokens) → Dec (IsProperPrefix f t)
-decide_prefix [] [] = no (λ (n, rest, is). cc)
-decide_prefix [] (m ∷ t) = yes (m, t, refl)
-decide_prefix (k ∷ f) [] = no (λ (n, rest, is). cc)
-decide_prefix (k ∷ f) (m ∷ t) = by (decide_name k m) (decide_prefix f t)
-  where
-    by : Dec (k ≡ m) → Dec (IsProperPrefix f t) → Dec (IsProperPrefix (k ∷ f) (m ∷ t))
-    by (yes same) (yes p) = yes (p.0, p.1, (let rest = p.2 in cc))
-    by (yes same) (no other) = no (λ (n, rest, is). other (n, rest, cc))
-    by (no other) d = no (λ (n, rest, is). other (cc))
+use Rattle.mp_pointer.proofs.Facts.{rewrite_part, root_is_prefix, decide_prefix}
 
 shallow_or_deep : (t : Tokens) (v : Document) → ¬ IsTooDeep t v ⊎ IsTooDeep t v
 shallow_or_deep t v = elim (dec_le (length t + depth v) depth_limit) [ yes fits ↦ inl (λ deep. omega (arith, fits, deep)) | no over ↦ inr (lt_of_not-le over) ]

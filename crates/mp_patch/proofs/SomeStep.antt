@@ -1,80 +1,20 @@
 -- What an operation asks for can be done: a part can be changed, a value added where there is a place, and a part removed.
-use Rattle.std.proofs.Common.{◌≡◌, ◌≢◌, ◌+◌, ◌<◌, ◌≤◌, ◌⊎◌, inl, inr, ℕ, zero, suc, List, [], ◌∷◌, ◌++◌, Bool, true, false, cond, Option, None, Some, option_and_then, refl, sym, ap, ◌∙◌, subst, arith}
-use Rattle.std.proofs.lemmas.Slice.Eq.{bytes_eq-Decides}
-use Rattle.std.specs.Str.{bytes_eq}
+use Rattle.std.proofs.Common.{◌≡◌, ◌≢◌, ◌+◌, ◌<◌, ◌⊎◌, inl, inr, ℕ, zero, suc, List, [], ◌∷◌, ◌++◌, Option, None, Some, option_and_then, refl, sym, ap, ◌∙◌, subst, arith}
 use Rattle.mp_tree.specs.Document.{Document, null, flag, whole, string, list, object, Items, no_items, item, put, without, IsDocument}
-use Rattle.mp_pointer.specs.Difference.{DifferOnlyAt}
-use Rattle.mp_pointer.specs.Part.{part, child, element_from, numeral}
+use Rattle.mp_pointer.specs.Part.{part, child, numeral}
 use Rattle.mp_tree.specs.Elements.{count_of, append}
 use Rattle.mp_pointer.specs.Spelling.{Tokens}
-use Rattle.mp_pointer.proofs.Facts.{nth, part-push, DifferOnlyAt-root, DifferOnlyAt-child}
+use Rattle.mp_pointer.proofs.Facts.{part-push, rewrite_part, element_found, last_of, some_last}
 use Rattle.mp_patch.specs.Operation.{AddsTo, to_map, to_list, RemovesFrom, from_map, from_list, dash, Adds, Removes}
 use Rattle.mp_patch.specs.Refusal.{LacksPlace, HasNoPlace}
-use Rattle.mp_pointer.proofs.Facts.{ChildChanges, set_item, element_changes, value_changes}
-use Rattle.mp_tree.proofs.Facts.{decide_name}
-use Rattle.mp_patch.proofs.Documents.{part-document}
+use Rattle.mp_tree.proofs.Facts.{decide_name, all_before, count_of-append, nth_split}
 use Rattle.mp_patch.proofs.SingleSteps.{has_place, root_place}
 
 -- ---- a part can be changed
 
--- the index that a token spells, where it names an element
-element_found : (i : ℕ) (token : List ℕ) (ds : Items) (x : Document) → element_from i token ds ≡ Some x → (j : ℕ) × (token ≡ numeral (i + j)) × (nth j ds ≡ Some x)
-element_found i token no_items x is = cc
-element_found i token (item d ds) x is = by (bytes_eq token (numeral i)) refl (element_found (suc i) token ds x) is
-  where
-    by : (b : Bool) → bytes_eq token (numeral i) ≡ b → (element_from (suc i) token ds ≡ Some x → (j : ℕ) × (token ≡ numeral (suc i + j)) × (nth j ds ≡ Some x)) → cond b (Some d) (element_from (suc i) token ds) ≡ Some x
-        → (j : ℕ) × (token ≡ numeral (i + j)) × (nth j (item d ds) ≡ Some x)
-    by true same later here = let at : i ≡ i + 0 = omega arith in (0, (bytes_eq-Decides token (numeral i)).0 same ∙ ap numeral at, here)
-    by false other later there =
-        let found = later there in
-        let further : suc i + found.0 ≡ i + suc found.0 = omega arith in
-        (suc found.0, found.1 ∙ ap numeral further, found.2)
-
-abbrev Changed : List ℕ → Document → Document → Document → Type 0
-Changed token d x y = (e : Document) × ChildChanges token d e x y
-
-change_child : (token : List ℕ) (d x y : Document) → IsDocument d → child token d ≡ Some x → Changed token d x y
-unfolding child
-change_child token null x y good is = cc
-change_child token (flag b) x y good is = cc
-change_child token (whole z) x y good is = cc
-change_child token (string s) x y good is = cc
-change_child token (list ds) x y good is = let found = element_found 0 token ds x is in let at : 0 + found.0 ≡ found.0 = omega arith in (list (set_item found.0 y ds), element_changes token found.0 ds x y (found.1 ∙ ap numeral at) found.2)
-change_child token (object ms) x y good is = (object (put token y ms), value_changes token ms x y good is)
-
-abbrev Rewritten : Tokens → Document → Document → Type 0
-Rewritten t d y = (e : Document) × (part e t ≡ Some y) × DifferOnlyAt t d e
-
-pub rewrite_part : (t : Tokens) (d x y : Document) → IsDocument d → part d t ≡ Some x → Rewritten t d y
-rewrite_part [] d x y good is = (y, refl, DifferOnlyAt-root d y)
-rewrite_part (token ∷ t) d x y good is = through (child token d) refl (λ c. rewrite_part t c x y) is
-  where
-    through : (o : Option Document) → child token d ≡ o → ((c : Document) → IsDocument c → part c t ≡ Some x → Rewritten t c y) → option_and_then (λ f. part f t) o ≡ Some x → Rewritten (token ∷ t) d y
-    through None here later is = cc
-    through (Some c) here later is =
-        let below = later c (part-document (token ∷ []) d c good (ap (option_and_then (λ f. Some f)) here)) is in
-        let changed = change_child token d c below.0 good here in
-        let changes = changed.1 in (
-          changed.0,
-          ap (option_and_then (λ f. part f t)) changes.there ∙ below.1,
-          DifferOnlyAt-child token t d changed.0 c below.0 changes.alike changes.others changes.here changes.there below.2,
-        )
-
 -- ---- the last of the tokens
 
-pub last_of : (n : List ℕ) (t : Tokens) → (s : Tokens) × (m : List ℕ) × (n ∷ t ≡ s ++ m ∷ [])
-last_of n [] = ([], n, refl)
-last_of n (m ∷ t) = let rest = last_of m t in (n ∷ rest.0, rest.1, ap (λ u. n ∷ u) rest.2)
-
-pub some_last : (t : Tokens) → t ≢ [] → (s : Tokens) × (n : List ℕ) × (t ≡ s ++ n ∷ [])
-some_last [] other = absurd (other refl)
-some_last (n ∷ t) other = last_of n t
-
 -- ---- a value is added where there is a place
-
-all_before : (ds : Items) → ds ≡ append ds no_items
-all_before no_items = refl
-all_before (item d ds) = ap (item d) (all_before ds)
 
 -- the elements before the index that the token spells, counted from k, and those from there on; or the token spells none up to the length
 abbrev Split : List ℕ → Items → ℕ → Type 0
@@ -127,10 +67,6 @@ add_to v token (list ds) = elim (decide_name token dash) [
     from_zero : (n : ℕ) → 0 + n ≡ n
     from_zero n = omega arith
 
-count_of-append : (front back : Items) → count_of front ≤ count_of (append front back)
-count_of-append no_items back = omega arith
-count_of-append (item d front) back = omega (arith, count_of-append front back)
-
 had_place : (v : Document) (token : List ℕ) (x y : Document) → AddsTo v token x y → ¬ LacksPlace token (Some x)
 had_place v token x y (to_map ms is now) lacks = subst (λ d. LacksPlace token (Some d)) is lacks
 had_place v token x y (to_list front back (inl names_it) is now) lacks =
@@ -158,11 +94,6 @@ some_addition (n ∷ t) v d good =
     through s m is (Some x) stood = elim (add_to v m x) [ inl grown ↦ inl (there s m x grown.0 is stood grown.1) | inr lacks ↦ inr (s, m, is, subst (LacksPlace m) (sym stood) lacks) ]
 
 -- ---- a part is removed
-
-nth_split : (i : ℕ) (ds : Items) (x : Document) → nth i ds ≡ Some x → (front : Items) × (back : Items) × (count_of front ≡ i) × (ds ≡ append front (item x back))
-nth_split i no_items x is = cc
-nth_split zero (item d ds) x is = let same : d ≡ x = cc in (no_items, ds, refl, ap (λ e. item e ds) same)
-nth_split (suc i) (item d ds) x is = let rest = nth_split i ds x is in (item d rest.0, rest.1, ap suc rest.2, ap (item d) rest.3)
 
 remove_from : (token : List ℕ) (x c : Document) → child token x ≡ Some c → (y : Document) × RemovesFrom token x y
 unfolding child

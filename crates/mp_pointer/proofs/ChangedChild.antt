@@ -3,9 +3,9 @@ use Rattle.std.proofs.Common.{◌≡◌, ◌≢◌, ◌+◌, ℕ, zero, suc, Lis
 use Rattle.std.specs.Ordering.{match_ordering}
 use Rattle.std.specs.Str.{bytes_eq}
 use Rattle.mp_tree.specs.Document.{Document, list, object, Items, no_items, item, Members, member, no_members, name_cmp, is_name, find, put, IsMap}
-use Rattle.mp_tree.proofs.Facts.{cases_same, is_name-self, same_from_cmp, find-put, find-below, IsBelow-trans}
+use Rattle.mp_tree.proofs.Facts.{same_from_cmp, find-below, IsBelow-trans, set_item, count_of-set, nth-set, find-put_same, find-put_other}
 use Rattle.mp_pointer.specs.Part.{child, element_from, numeral, kind_here, names, elements, names_of}
-use Rattle.mp_tree.specs.Elements.{count_of, nth}
+use Rattle.mp_tree.specs.Elements.{nth}
 use Rattle.mp_pointer.proofs.Indices.{elsewhere, child-numeral}
 use Rattle.mp_pointer.proofs.Parts.{child-object, child-list}
 
@@ -17,21 +17,6 @@ pub record ChildChanges (token : List ℕ) (d e x y : Document) : Type 0 where
   pub there : child token e ≡ Some y
 
 -- ---- one element of a list
-
-abbrev pub set_item : ℕ → Document → Items → Items
-set_item i y no_items = no_items
-set_item zero y (item d ds) = item y ds
-set_item (suc i) y (item d ds) = item d (set_item i y ds)
-
-count_of-set : (i : ℕ) (y : Document) (ds : Items) → count_of (set_item i y ds) ≡ count_of ds
-count_of-set i y no_items = refl
-count_of-set zero y (item d ds) = refl
-count_of-set (suc i) y (item d ds) = ap suc (count_of-set i y ds)
-
-nth-set : (i : ℕ) (x y : Document) (ds : Items) → nth i ds ≡ Some x → nth i (set_item i y ds) ≡ Some y
-nth-set i x y no_items is = cc
-nth-set zero x y (item d ds) is = refl
-nth-set (suc i) x y (item d ds) is = nth-set i x y ds is
 
 element_from-set : (m : List ℕ) (j i k : ℕ) (ds : Items) (y : Document) → k ≡ j + i → m ≢ numeral k → element_from j m ds ≡ element_from j m (set_item i y ds)
 element_from-set m j i k no_items y is other = refl
@@ -66,14 +51,6 @@ names_of-put_at Greater k m x y d ms is map stood later =
 pub names_of-put : (k : List ℕ) (x y : Document) (ms : Members) → IsMap ms → find k ms ≡ Some x → names_of (put k y ms) ≡ names_of ms
 names_of-put k x y no_members map stood = cc
 names_of-put k x y (member m d ms) map stood = names_of-put_at (name_cmp k m) k m x y d ms refl map stood (λ further. names_of-put k x y ms map.2 further)
-
-find-put_same : (k : List ℕ) (y : Document) (ms : Members) → find k (put k y ms) ≡ Some y
-find-put_same k y ms = find-put k k y ms ∙ ap (λ b. cond b (Some y) (find k ms)) (is_name-self k)
-
-find-put_other : (q k : List ℕ) (y : Document) (ms : Members) → q ≢ k → find q (put k y ms) ≡ find q ms
-find-put_other q k y ms other =
-    find-put q k y ms
-    ∙ cases_same q k (λ same. absurd (other same)) (λ apart. ap (λ b. cond b (Some y) (find q ms)) apart)
 
 pub value_changes : (token : List ℕ) (ms : Members) (x y : Document) → IsMap ms → find token ms ≡ Some x → ChildChanges token (object ms) (object (put token y ms)) x y
 value_changes token ms x y map stood = record {

@@ -35,7 +35,7 @@ edits_here Edited t d e none edited = record {
   only = subst (λ s. DifferOnlyAt s (document d) (document e)) (sym none) (DifferOnlyAt-root (document d) (document e));
 }
 
-pub edits_deeper : (Edited : Doc → Doc → Type 0) (token : List ℕ) (t : Tokens) (d e x y : Doc) → child token (document d) ≡ Some (document x) → PartBecomes (token ∷ []) (document y) (document d) (document e) → EditsAt Edited t x y
+edits_deeper : (Edited : Doc → Doc → Type 0) (token : List ℕ) (t : Tokens) (d e x y : Doc) → child token (document d) ≡ Some (document x) → PartBecomes (token ∷ []) (document y) (document d) (document e) → EditsAt Edited t x y
     → EditsAt Edited (token ∷ t) d e
 edits_deeper Edited token t d e x y here outer edits =
     let both = becomes_deeper (token ∷ []) t (document edits.after) (document y) (document d) (document x) (document e) (part-push (document d) [] token ∙ here) outer (record { stands = edits.stands; only = edits.only }) in

@@ -33,7 +33,7 @@ take_one [] (suc i) = refl
 take_one (x ∷ t) zero = refl
 take_one (x ∷ t) (suc i) = ap (λ y. x ∷ y) (take_one t i)
 
-pub take_next : (t : Tokens) (i : ℕ) → take (i + 1) t ≡ take i t ++ one_token t i
+take_next : (t : Tokens) (i : ℕ) → take (i + 1) t ≡ take i t ++ one_token t i
 take_next t i = let one : (i + 1) - i ≡ 1 = omega arith in ap (λ n. take n t) (add-one i) ∙ take_one t i ∙ ap (λ n. take i t ++ take n (drop i t)) (sym one)
 
 -- ---- the walk along t in the document d

@@ -171,7 +171,7 @@ when_false true t e = t
 when_false false t e = true≢false (sym e)
 
 -- an arm of a switch, the first as 0
-abbrev pub arm_at : Arms → ℕ → Code
+abbrev arm_at : Arms → ℕ → Code
 arm_at (arm ks b arms) zero = b
 arm_at (arm ks b arms) (suc n) = arm_at arms n
 arm_at (default b) n = b

@@ -1,5 +1,5 @@
 -- Tokens that spell an index, and the elements that they name.
-use Rattle.std.proofs.Common.{◌≡◌, ◌≢◌, ◌<◌, ◌≤◌, ◌+◌, ◌^◌, ℕ, zero, suc, List, [], ◌∷◌, length, get_or, map, Bool, true, false, Option, None, Some, MatchOption, option_map, Result, Ok, Err, refl, sym, ap, ◌∙◌, subst, arith, add-zero, true≢false}
+use Rattle.std.proofs.Common.{◌≡◌, ◌≢◌, ◌<◌, ◌≤◌, ◌+◌, ◌^◌, ℕ, zero, suc, List, [], ◌∷◌, length, get_or, map, Bool, true, false, Option, None, Some, MatchOption, option_map, Result, Ok, Err, refl, sym, ap, ◌∙◌, subst, arith, add-zero, true≢false, cond}
 use Rattle.std.proofs.lemmas.Fmt.{decimal_digit, decimal-digits_of, decimal-digits_value, digits_decimal, digits_value-decimal}
 use Rattle.std.proofs.lemmas.Int.Digits.{first_digits_of, same_from_digits_of, all_below_base_digits_of}
 use Rattle.std.proofs.lemmas.Slice.Eq.{bytes_eq-Decides}
@@ -14,12 +14,13 @@ use denote.Ref.{Bor}
 use Rattle.std.specs.Result.{result_ok}
 use Rattle.std.specs.Str.{bytes_eq}
 use Rattle.std.specs.Str.Parse.{AllDigits, digits_value, ParsesUnsigned}
-use Rattle.mp_tree.specs.Document.{Items, no_items, item, list}
-use Rattle.mp_tree.specs.View.{document, items}
+use Rattle.mp_tree.specs.Document.{Document, Items, no_items, item, list}
+use Rattle.mp_tree.specs.View.{document}
 use Rattle.mp_tree.specs.declared.doc.Doc.{Doc}
 use Rattle.mp_pointer.specs.Laws.{NamesElements}
 use Rattle.mp_pointer.specs.Part.{numeral, element_from, child}
 use Rattle.mp_tree.specs.Elements.{count_of, nth}
+use Rattle.mp_tree.proofs.Facts.{nth_past}
 
 pub numeral-decimal : (n : ℕ) → n < 2 ^ 64 → numeral n ≡ decimal n
 unfolding numeral
@@ -139,11 +140,6 @@ pub child-no_index : (token : List ℕ) (ds : Items) → ((i : ℕ) → token �
 unfolding child
 child-no_index token ds none = element_from-none 0 token ds (λ j below e. omega (arith, none j (e ∙ ap numeral (omega arith))))
 
-pub nth-items : (i : ℕ) (docs : List Doc) → nth i (items docs) ≡ option_map document (slice_get docs i)
-nth-items i [] = refl
-nth-items zero (d ∷ docs) = refl
-nth-items (suc i) (d ∷ docs) = nth-items i docs
-
 pub lent_part : (r : Option (Bor Doc)) → option_map (λ (d : Bor Doc). document d.now) r ≡ option_map document (option_copied r)
 lent_part None = refl
 lent_part (Some d) = refl
@@ -153,14 +149,18 @@ pub item_at : {X : Type 0} (xs : List X) (i : ℕ) (r : Option (Bor X)) → IsIt
 item_at xs i None read = sym (slice_get_past xs i read.3)
 item_at xs i (Some x) read = sym (slice_get_read xs (length xs) i x.now refl read.3.0 read.1)
 
-pub count_of-items : (docs : List Doc) → count_of (items docs) ≡ length docs
-count_of-items [] = refl
-count_of-items (d ∷ docs) = ap suc (count_of-items docs)
-
-nth_past : (i : ℕ) (ds : Items) → count_of ds ≤ i → nth i ds ≡ None
-nth_past i no_items past = refl
-nth_past zero (item d ds) past = absurd (omega arith)
-nth_past (suc i) (item d ds) past = nth_past i ds (omega arith)
-
 pub names_elements : NamesElements
 names_elements i ds = (child-numeral (numeral i) i ds refl, λ past. child-numeral (numeral i) i ds refl ∙ nth_past i ds past)
+
+-- the index that a token spells, where it names an element
+pub element_found : (i : ℕ) (token : List ℕ) (ds : Items) (x : Document) → element_from i token ds ≡ Some x → (j : ℕ) × (token ≡ numeral (i + j)) × (nth j ds ≡ Some x)
+element_found i token no_items x is = cc
+element_found i token (item d ds) x is = by (bytes_eq token (numeral i)) refl (element_found (suc i) token ds x) is
+  where
+    by : (b : Bool) → bytes_eq token (numeral i) ≡ b → (element_from (suc i) token ds ≡ Some x → (j : ℕ) × (token ≡ numeral (suc i + j)) × (nth j ds ≡ Some x)) → cond b (Some d) (element_from (suc i) token ds) ≡ Some x
+        → (j : ℕ) × (token ≡ numeral (i + j)) × (nth j (item d ds) ≡ Some x)
+    by true same later here = let at : i ≡ i + 0 = omega arith in (0, (bytes_eq-Decides token (numeral i)).0 same ∙ ap numeral at, here)
+    by false other later there =
+        let found = later there in
+        let further : suc i + found.0 ≡ i + suc found.0 = omega arith in
+        (suc found.0, found.1 ∙ ap numeral further, found.2)

@@ -30,7 +30,7 @@ same_part xs ys start end same rise is = same start (omega arith) ∙ is ∙ ap 
 
 -- ---- where the cuts are
 
-pub cuts_within : (start : ℕ) (ends bytes : List ℕ) → AreCuts start ends bytes → start ≤ length bytes
+cuts_within : (start : ℕ) (ends bytes : List ℕ) → AreCuts start ends bytes → start ≤ length bytes
 cuts_within start [] bytes cuts = omega (arith, cuts)
 cuts_within start (end ∷ ends) bytes cuts = omega (arith, cuts.0, cuts_within end ends bytes cuts.3)
 
@@ -58,7 +58,7 @@ cuts_after start ends bytes zero cuts within = cuts
 cuts_after start [] bytes (suc n) cuts within = absurd (omega (arith, within))
 cuts_after start (end ∷ ends) bytes (suc n) cuts within = cuts_after end ends bytes n cuts.3 (omega arith)
 
-pub cut_within : (start : ℕ) (ends bytes : List ℕ) (n : ℕ) → AreCuts start ends bytes → n ≤ length ends → get_or (start ∷ ends) n 0 ≤ length bytes
+cut_within : (start : ℕ) (ends bytes : List ℕ) (n : ℕ) → AreCuts start ends bytes → n ≤ length ends → get_or (start ∷ ends) n 0 ≤ length bytes
 cut_within start ends bytes n cuts within = cuts_within _ (drop n ends) bytes (cuts_after start ends bytes n cuts within)
 
 pub cut_is_boundary : (start : ℕ) (ends bytes : List ℕ) (n : ℕ) → AreCuts start ends bytes → n ≤ length ends → IsCharBoundary bytes (get_or (start ∷ ends) n 0)

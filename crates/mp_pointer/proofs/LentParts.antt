@@ -1,24 +1,23 @@
 -- What a list and an object lend of one child, and what a token names in them.
-use Rattle.std.proofs.Common.{false, true, ◌≡◌, ◌≢◌, ◌<◌, ◌≤◌, ◌+◌, ◌-◌, ◌^◌, ℕ, zero, suc, List, [], ◌∷◌, length, get_or, set, take, drop, Option, None, Some, option_map, Vec, BTreeMap, String, Global, string_bytes, string_cmp, MutBor, refl, sym, ap, ap₂, ◌∙◌, subst, arith}
+use Rattle.std.proofs.Common.{false, true, ◌≡◌, ◌≢◌, ◌<◌, ◌≤◌, ◌+◌, ◌-◌, ◌^◌, ℕ, suc, List, [], ◌∷◌, length, get_or, take, drop, Option, None, Some, option_map, Vec, BTreeMap, String, Global, string_bytes, string_cmp, MutBor, refl, sym, ap, ap₂, ◌∙◌, subst, arith}
 use Rattle.std.proofs.lemmas.List.{drop_more}
 use Rattle.std.proofs.lemmas.Option.{slice_get-get_or, slice_get_within, slice_get_past, get_or_from_slice_get}
 use Rattle.std.specs.BTreeMap.{UpdatesBy, get_by_text}
 use Rattle.std.specs.List.{slice_get}
 use Rattle.std.specs.Option.{OnSome, IfSome, IsSome, option_copied_mut}
 use Rattle.std.specs.Vec.{with_item}
-use Rattle.mp_tree.specs.Document.{Document, null, flag, whole, string, list, object, Items, item, Members, name_cmp, find, put}
+use Rattle.mp_tree.specs.Document.{Document, null, flag, whole, string, list, object, Items, Members, name_cmp, find, put}
 use Rattle.mp_tree.specs.View.{document, items}
 use Rattle.mp_tree.specs.Private.Entries.{members}
 use Rattle.mp_tree.specs.declared.doc.Doc
 use Rattle.mp_tree.specs.declared.doc.Doc.{Doc}
-use Rattle.mp_tree.proofs.Facts.{find-members, members-inserted, IsMap-members, document-Items, document-Members}
+use Rattle.mp_tree.proofs.Facts.{find-members, members-inserted, IsMap-members, document-Items, document-Members, nth-items, count_of-items, nth-here, items-set, set_item}
 use Rattle.mp_pointer.specs.Lending.{PartBecomes}
 use Rattle.mp_pointer.specs.Private.Child.{IsList, one_token}
 use Rattle.mp_pointer.specs.Part.{part, child, numeral}
-use Rattle.mp_tree.specs.Elements.{nth}
 use Rattle.mp_pointer.specs.Spelling.{Tokens}
-use Rattle.mp_pointer.proofs.ChangedChild.{ChildChanges, set_item, element_changes, value_changes}
-use Rattle.mp_pointer.proofs.Indices.{child-numeral, child-no_index, nth-items, count_of-items}
+use Rattle.mp_pointer.proofs.ChangedChild.{ChildChanges, element_changes, value_changes}
+use Rattle.mp_pointer.proofs.Indices.{child-numeral, child-no_index}
 use Rattle.mp_pointer.proofs.Parts.{child-object, part-push, DifferOnlyAt-child, DifferOnlyAt-root}
 
 -- ---- the part at one token
@@ -39,16 +38,6 @@ becomes token d e d' e' x v is will changes =
     (record { stands = part-push e' [] token ∙ changes.there; only = DifferOnlyAt-child token [] d' e' x v changes.alike changes.others changes.here changes.there (DifferOnlyAt-root x v) }))
 
 -- ---- one element of a list
-
-pub nth-here : (ds : List Doc) (i : ℕ) (x : Doc) → i < length ds → x ≡ get_or ds i x → nth i (items ds) ≡ Some (document x)
-nth-here [] i x less is = absurd (omega arith)
-nth-here (d ∷ ds) zero x less is = ap (λ z. Some (document z)) (sym is)
-nth-here (d ∷ ds) (suc i) x less is = nth-here ds i x (omega arith) is
-
-items-set : (ds : List Doc) (i : ℕ) (y : Doc) → items (set ds i y) ≡ set_item i (document y) (items ds)
-items-set [] i y = refl
-items-set (d ∷ ds) zero y = refl
-items-set (d ∷ ds) (suc i) y = ap (item (document d)) (items-set ds i y)
 
 pub no_index_here : (token : List ℕ) (v : Vec Doc Global) → length v.items < 2 ^ 64 → ((i : ℕ) → token ≡ numeral i → 2 ^ 64 ≤ i) → child token (document (Doc.Items v)) ≡ None
 no_index_here token v short large = ap (child token) (document-Items v) ∙ child-no_index token (items v.items) (λ i spelled. omega (arith, large i spelled, count_of-items v.items))

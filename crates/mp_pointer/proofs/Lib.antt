@@ -6,7 +6,10 @@ pub mod FollowedBorrows
 pub mod Indices
 pub mod KeptTokens
 pub mod LentParts
+pub mod PartDepths
+pub mod PartDocuments
 pub mod PartKinds
 pub mod Parts
+pub mod SomeChange
 pub mod Spellings
 pub mod TokenLists

@@ -17,7 +17,7 @@ Lacks-front c [] ys lacks i less = absurd (omega arith)
 Lacks-front c (x ∷ xs) ys lacks zero less = lacks 0 (omega arith)
 Lacks-front c (x ∷ xs) ys lacks (suc i) less = Lacks-front c xs ys (λ k below. lacks (suc k) (omega arith)) i (omega arith)
 
-pub Lacks-back : (c : ℕ) (xs ys : List ℕ) → Lacks c (xs ++ ys) → Lacks c ys
+Lacks-back : (c : ℕ) (xs ys : List ℕ) → Lacks c (xs ++ ys) → Lacks c ys
 Lacks-back c [] ys lacks = lacks
 Lacks-back c (x ∷ xs) ys lacks = Lacks-back c xs ys (λ k below. lacks (suc k) (omega arith))
 
@@ -127,7 +127,7 @@ pub first_bad-none : (text : List ℕ) → ((k : ℕ) → ¬ IsBadTilde text k) 
 first_bad-none [] good = refl
 first_bad-none (c ∷ rest) good = rw (good_from c rest (good 0)) (ap (option_map suc) (first_bad-none rest (λ k bad. good (suc k) (bad-cons c rest k bad))))
 
-pub first_bad-some : (text : List ℕ) (n : ℕ) → IsFirstBadTilde text n → first_bad_tilde text ≡ Some n
+first_bad-some : (text : List ℕ) (n : ℕ) → IsFirstBadTilde text n → first_bad_tilde text ≡ Some n
 first_bad-some [] n first = absurd (omega (arith, first.here.0))
 first_bad-some (c ∷ rest) zero first = rw (test_from_bad c rest first.here)
 first_bad-some (c ∷ rest) (suc n) first =
@@ -166,7 +166,7 @@ first_bad-escape : (token rest : List ℕ) → first_bad_tilde rest ≡ None →
 first_bad-escape [] rest none = none
 first_bad-escape (c ∷ token) rest none = ap first_bad_tilde (append_assoc (escaped_byte c) (escape token) rest) ∙ first_bad-escaped c (escape token ++ rest) (first_bad-escape token rest none)
 
-pub first_bad-spell : (t : Tokens) → first_bad_tilde (spell t) ≡ None
+first_bad-spell : (t : Tokens) → first_bad_tilde (spell t) ≡ None
 first_bad-spell [] = refl
 first_bad-spell (token ∷ t) = ap (option_map suc) (first_bad-escape token (spell t) (first_bad-spell t))
 
@@ -196,7 +196,7 @@ unescape-escaped c rest =
     cases_byte (λ c. unescape (escaped_byte c ++ rest) ≡ c ∷ unescape rest) c refl refl
     (λ no_tilde no_slash. ap (λ xs. unescape (xs ++ rest)) (escaped_byte-plain c no_tilde no_slash) ∙ unescape-plain c rest no_tilde)
 
-pub unescape-escape : (token : List ℕ) → unescape (escape token) ≡ token
+unescape-escape : (token : List ℕ) → unescape (escape token) ≡ token
 unescape-escape [] = refl
 unescape-escape (c ∷ token) = unescape-escaped c (escape token) ∙ ap (λ xs. c ∷ xs) (unescape-escape token)
 

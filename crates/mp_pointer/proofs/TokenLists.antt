@@ -1,5 +1,5 @@
--- Lists of tokens: where one begins with another.
-use Rattle.std.proofs.Common.{◌≡◌, ◌≢◌, ◌<◌, ◌+◌, ℕ, List, [], ◌∷◌, ◌++◌, length, get_or, take, drop, Some, refl, sym, ap, ◌∙◌, arith, Bool, true, false, not, true≢false, append-nil, length-append}
+-- Lists of tokens: where one begins with another, what the last of them is, and equality.
+use Rattle.std.proofs.Common.{◌≡◌, ◌≢◌, ◌<◌, ◌+◌, ℕ, List, [], ◌∷◌, ◌++◌, length, get_or, take, drop, Some, refl, sym, ap, ap₂, ◌∙◌, arith, Bool, true, false, not, true≢false, append-nil, length-append}
 use Rattle.std.proofs.lemmas.List.{take_all, take-append-drop, take_more, take_more_same, drop_more, get_or_append_left}
 use Rattle.std.proofs.lemmas.Option.{slice_get_within, get_or_from_slice_get}
 use Rattle.std.proofs.lemmas.Slice.Eq.{bytes_eq-Decides}
@@ -7,6 +7,7 @@ use Rattle.std.specs.Bool.{Decides}
 use Rattle.std.specs.Cmp.Lexicographic.{pointwise_decides}
 use Rattle.std.specs.List.{slice_get}
 use Rattle.std.specs.Str.{bytes_eq}
+use Rattle.mp_tree.proofs.Facts.{decide_name}
 use Rattle.mp_pointer.specs.Spelling.{Tokens, BeginsWith, IsProperPrefix, are_same_tokens}
 
 -- one more token is taken, or dropped
@@ -46,6 +47,75 @@ front_of_same t u same = ([], sym same ∙ sym (append-nil t))
 
 pub are_same_tokens-Decides : (t u : Tokens) → Decides (are_same_tokens t u) (t ≡ u)
 are_same_tokens-Decides = pointwise_decides bytes_eq-Decides
+
+pub root_is_prefix : (f t : Tokens) → f ≡ [] → f ≢ t → IsProperPrefix f t
+root_is_prefix f [] root other = absurd (other root)
+root_is_prefix f (n ∷ t) root other = (n, t, ap (λ s. s ++ n ∷ t) (sym root))
+
+pub decide_prefix : (f t : Tokens) → Dec (IsProperPrefix f t)
+decide_prefix [] [] = no (λ (n, rest, is). cc)
+decide_prefix [] (m ∷ t) = yes (m, t, refl)
+decide_prefix (k ∷ f) [] = no (λ (n, rest, is). cc)
+decide_prefix (k ∷ f) (m ∷ t) = by (decide_name k m) (decide_prefix f t)
+  where
+    by : Dec (k ≡ m) → Dec (IsProperPrefix f t) → Dec (IsProperPrefix (k ∷ f) (m ∷ t))
+    by (yes same) (yes p) = yes (p.0, p.1, (let rest = p.2 in cc))
+    by (yes same) (no other) = no (λ (n, rest, is). other (n, rest, cc))
+    by (no other) d = no (λ (n, rest, is). other (cc))
+
+-- ---- the last of them
+
+pub last_of : (n : List ℕ) (t : Tokens) → (s : Tokens) × (m : List ℕ) × (n ∷ t ≡ s ++ m ∷ [])
+last_of n [] = ([], n, refl)
+last_of n (m ∷ t) = let rest = last_of m t in (n ∷ rest.0, rest.1, ap (λ u. n ∷ u) rest.2)
+
+pub some_last : (t : Tokens) → t ≢ [] → (s : Tokens) × (n : List ℕ) × (t ≡ s ++ n ∷ [])
+some_last [] other = absurd (other refl)
+some_last (n ∷ t) other = last_of n t
+
+pub same_last : (s t : Tokens) (m n : List ℕ) → s ++ m ∷ [] ≡ t ++ n ∷ [] → (s ≡ t) × (m ≡ n)
+same_last [] [] m n e = (refl, cc)
+same_last [] (y ∷ []) m n e = absurd (longer e)
+  where
+    longer : m ∷ [] ≡ y ∷ n ∷ [] → ⊥
+    longer e = cc
+same_last [] (y ∷ z ∷ t) m n e = absurd (longer e)
+  where
+    longer : m ∷ [] ≡ y ∷ z ∷ (t ++ n ∷ []) → ⊥
+    longer e = cc
+same_last (x ∷ []) [] m n e = absurd (longer e)
+  where
+    longer : x ∷ m ∷ [] ≡ n ∷ [] → ⊥
+    longer e = cc
+same_last (x ∷ z ∷ s) [] m n e = absurd (longer e)
+  where
+    longer : x ∷ z ∷ (s ++ m ∷ []) ≡ n ∷ [] → ⊥
+    longer e = cc
+same_last (x ∷ s) (y ∷ t) m n e =
+    let later : s ++ m ∷ [] ≡ t ++ n ∷ [] = cc in
+    let rest = same_last s t m n later in
+    let here : x ≡ y = cc in
+    (ap₂ (λ a b. a ∷ b) here rest.0, rest.1)
+
+pub not_empty : (s : Tokens) (n : List ℕ) → s ++ n ∷ [] ≢ []
+not_empty [] n e = cc
+not_empty (x ∷ s) n e = cc
+
+-- the tokens of the container, and the last
+pub to_last : (t : Tokens) (last : ℕ) (token : List ℕ) → last + 1 ≡ length t → slice_get t last ≡ Some token → t ≡ take last t ++ token ∷ []
+to_last t last token is here =
+    let rest : drop last t ≡ token ∷ drop (last + 1) t = drop_more t last [] (slice_get_within t last token here) ∙ ap (λ x. x ∷ drop (last + 1) t) (get_or_from_slice_get t last token [] here) in
+    let over : drop (last + 1) t ≡ [] = ap (λ n. drop n t) is ∙ drop_whole t in
+    sym (take-append-drop last t) ∙ ap (λ ys. take last t ++ ys) (rest ∙ ap (λ xs. token ∷ xs) over)
+  where
+    drop_whole : (xs : Tokens) → drop (length xs) xs ≡ []
+    drop_whole [] = refl
+    drop_whole (x ∷ xs) = drop_whole xs
+
+pub to_end : (t : Tokens) → take (length t) t ≡ t
+to_end t = take_all (length t) t (omega arith)
+
+-- ---- one token
 
 -- what `!=` of two texts answers
 pub texts_differ : (xs ys : List ℕ) (r : Bool) → r ≡ not (bytes_eq xs ys) → (r ≡ false → xs ≡ ys) × (r ≡ true → xs ≢ ys)

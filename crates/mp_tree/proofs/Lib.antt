@@ -2,6 +2,7 @@ pub mod Ascending
 pub mod Decisions
 pub mod Depths
 pub mod EachMember
+pub mod Elements
 pub mod EqualLooks
 pub mod Facts
 pub mod FromData

@@ -42,7 +42,7 @@ after_update k q w found = rw (same_test k q) (picked (is_name q k))
     picked false = refl
 
 -- after a change at a name
-pub find-updated : (k : List ℕ) (m n : BTreeMap (String Global) Doc) (w : Option Doc) → UpdatesBy string_cmp (λ l. name_cmp k (string_bytes l)) m n w → (q : List ℕ)
+find-updated : (k : List ℕ) (m n : BTreeMap (String Global) Doc) (w : Option Doc) → UpdatesBy string_cmp (λ l. name_cmp k (string_bytes l)) m n w → (q : List ℕ)
     → find q (members n.entries) ≡ cond (is_name q k) (option_map document w) (find q (members m.entries))
 find-updated k m n w updates q =
     find-members q n.entries ∙ ap (option_map document) (btree_map_updates_text k m n w updates q) ∙ after_update k q w (get_by_text m q)

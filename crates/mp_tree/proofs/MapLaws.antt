@@ -2,7 +2,7 @@
 use Rattle.std.proofs.Common.{◌≡◌, refl, ap, subst, true}
 use Rattle.mp_tree.specs.Document.{is_name, find}
 use Rattle.mp_tree.specs.Laws.{EqualMaps, RemovesOneName, SameNames, SetsOneName}
-use Rattle.mp_tree.proofs.Maps.{find-put, find-without, IsMap-put, IsMap-without, members_same}
+use Rattle.mp_tree.proofs.Maps.{find-without, IsMap-put, IsMap-without, members_same, find-put_same, find-put_other}
 use Rattle.mp_tree.proofs.Names.{is_name-other, is_name-self, same_name}
 
 pub same_names : SameNames
@@ -11,8 +11,8 @@ same_names n m = (same_name n m, λ same. subst (λ k. is_name n k ≡ true) sam
 pub sets_one_name : SetsOneName
 sets_one_name n d ms good map = (
   IsMap-put n d ms good map,
-  rw (find-put n n d ms, is_name-self n) refl,
-  λ m other. rw (find-put m n d ms, is_name-other m n other) refl,
+  find-put_same n d ms,
+  λ m other. find-put_other m n d ms other,
 )
 
 pub removes_one_name : RemovesOneName

@@ -1,5 +1,5 @@
 -- Members whose names ascend are a finite map: equal look-ups make them equal.
-use Rattle.std.proofs.Common.{◌≡◌, ℕ, List, [], ◌∷◌, Ordering, Less, Equal, Greater, is_eq, false, cond, Some, None, refl, sym, ap, ◌∙◌, subst, Bool, true, Option}
+use Rattle.std.proofs.Common.{◌≡◌, ◌≢◌, ℕ, List, [], ◌∷◌, Ordering, Less, Equal, Greater, is_eq, false, cond, Some, None, refl, sym, ap, ◌∙◌, subst, Bool, true, Option}
 use Rattle.std.specs.List.{AllByRecursion}
 use Rattle.std.specs.List.Sorted.{IsStrictlySortedBy}
 use Rattle.std.specs.Map.{keys_of, lookup}
@@ -116,3 +116,11 @@ pub members_same : (ms es : Members) → IsMap ms → IsMap es → ((q : List �
 members_same ms es a b same =
     let pairs = entries_same (pairs_of ms) (pairs_of es) (ascending ms a) (ascending es b) (λ q. lookup-pairs_of q ms ∙ same q ∙ sym (lookup-pairs_of q es)) in
     sym (listed-pairs_of ms) ∙ ap listed pairs ∙ listed-pairs_of es
+
+pub find-put_same : (k : List ℕ) (y : Document) (ms : Members) → find k (put k y ms) ≡ Some y
+find-put_same k y ms = find-put k k y ms ∙ ap (λ b. cond b (Some y) (find k ms)) (is_name-self k)
+
+pub find-put_other : (q k : List ℕ) (y : Document) (ms : Members) → q ≢ k → find q (put k y ms) ≡ find q ms
+find-put_other q k y ms other =
+    find-put q k y ms
+    ∙ cases_same q k (λ same. absurd (other same)) (λ apart. ap (λ b. cond b (Some y) (find q ms)) apart)

@@ -11,7 +11,7 @@ use Rattle.std.proofs.lemmas.Str.{IsUtf8-string_bytes}
 use Rattle.mp_tree.proofs.EachMember.{each_after_put}
 use Rattle.mp_tree.proofs.Maps.{IsMap-put}
 
-pub byte_entries-map : {V W : Type 0} (f : V → W) (es : List (String Global × V)) → byte_entries (map (λ e. (e.0, f e.1)) es) ≡ map (λ e. (string_bytes e.0, f e.1)) es
+byte_entries-map : {V W : Type 0} (f : V → W) (es : List (String Global × V)) → byte_entries (map (λ e. (e.0, f e.1)) es) ≡ map (λ e. (string_bytes e.0, f e.1)) es
 byte_entries-map f [] = refl
 byte_entries-map f (e ∷ es) = ap (λ r. (string_bytes e.0, f e.1) ∷ r) (byte_entries-map f es)
 

@@ -23,7 +23,7 @@ elements_of-items : (ds : List Doc) → elements_of (items ds) ≡ map document 
 elements_of-items [] = refl
 elements_of-items (d ∷ ds) = ap (λ es. document d ∷ es) (elements_of-items ds)
 
-pub documents_from_items : (ds es : List Doc) → items ds ≡ items es → map document ds ≡ map document es
+documents_from_items : (ds es : List Doc) → items ds ≡ items es → map document ds ≡ map document es
 documents_from_items ds es same = sym (elements_of-items ds) ∙ ap elements_of same ∙ elements_of-items es
 
 pub length_from_items : (ds es : List Doc) → items ds ≡ items es → length ds ≡ length es

@@ -20,7 +20,7 @@ IsMap-target_members (Some (string s)) good = tt
 IsMap-target_members (Some (list ds)) good = tt
 IsMap-target_members (Some (object ts)) good = good
 
-pub IsMap-set_or_remove : (n : List ℕ) (p d : Document) (ms : Members) → IsDocument d → IsMap ms → IsMap (set_or_remove n p d ms)
+IsMap-set_or_remove : (n : List ℕ) (p d : Document) (ms : Members) → IsDocument d → IsMap ms → IsMap (set_or_remove n p d ms)
 IsMap-set_or_remove n null d ms good map = IsMap-without n ms map
 IsMap-set_or_remove n (flag b) d ms good map = IsMap-put n d ms good map
 IsMap-set_or_remove n (whole z) d ms good map = IsMap-put n d ms good map

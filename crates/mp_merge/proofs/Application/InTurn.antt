@@ -25,7 +25,7 @@ still_told q p e w l free is here = by (says-agree q p free w)
     by (same alike) = ap (λ s. or_else s (look e w)) (sym alike ∙ is)
 
 -- one more patch, compatible with those before it, makes their outcome the outcome of all
-pub one_more : (d : Document) (patches : List Document) (e p : Document) → IsDocument e → IsDocument p → ((q : Document) → Contains patches q → Compatible q p) → IsOutcome d patches e
+one_more : (d : Document) (patches : List Document) (e p : Document) → IsDocument e → IsDocument p → ((q : Document) → Contains patches q → Compatible q p) → IsOutcome d patches e
     → IsOutcome d (patches ++ p ∷ []) (merge_patch (Some e) p)
 one_more d patches e p good patch free outcome =
     let before = follows_from_outcome d patches e outcome in
@@ -38,7 +38,7 @@ one_more d patches e p good patch free outcome =
           ∙ before.kept w (λ q at. quiet q (Contains-append_left patches (p ∷ []) q at));
     })
 
-pub outcome_of_none : (d : Document) → IsOutcome d [] d
+outcome_of_none : (d : Document) → IsOutcome d [] d
 outcome_of_none d = record {
   set = λ p at. absurd (Contains-nil p at);
   entered = λ p at. absurd (Contains-nil p at);

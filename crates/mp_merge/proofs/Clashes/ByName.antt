@@ -10,7 +10,7 @@ use Rattle.mp_merge.specs.Clash.{Clash, Compatible}
 
 -- ---- at the root
 
-abbrev pub IsNoMap : Document → Type 0
+abbrev IsNoMap : Document → Type 0
 IsNoMap d = look_here d ≡ plain d
 
 -- a `Doc` that is no object
@@ -69,7 +69,7 @@ pub clash_from : (ps qs : Members) (n : List ℕ) (w : Path) → ClashOf (find n
 clash_from ps qs n w clash = record { first = clash.0; second = clash.1; differ = clash.2 }
 
 -- the first name may be passed where nothing clashes under it
-pub pass_first : (n : List ℕ) (p : Document) (ps qs : Members) → IsMap (member n p ps) → ((w : Path) → ClashOf (Some p) (find n qs) w → ⊥) → SameClashes (member n p ps) ps qs
+pass_first : (n : List ℕ) (p : Document) (ps qs : Members) → IsMap (member n p ps) → ((w : Path) → ClashOf (Some p) (find n qs) w → ⊥) → SameClashes (member n p ps) ps qs
 pass_first n p ps qs map none [] = (λ clash. absurd (clash.differ refl), λ clash. absurd (clash.differ refl))
 pass_first n p ps qs map none (m ∷ w) = cases_same m n
     (λ here. let absent : find m ps ≡ None = ap (λ k. find k ps) here ∙ find-below n ps map.1 in (
@@ -83,7 +83,7 @@ pass_first n p ps qs map none (m ∷ w) = cases_same m n
 
 -- ---- under the first name
 
-abbrev pub NoClashUnder : Document → Option Document → Type 0
+abbrev NoClashUnder : Document → Option Document → Type 0
 NoClashUnder p q = (w : Path) → ClashOf (Some p) q w → ⊥
 
 pub absent_under : (p : Document) (q : Option Document) → q ≡ None → NoClashUnder p q

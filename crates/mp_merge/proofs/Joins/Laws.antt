@@ -18,7 +18,7 @@ use Rattle.mp_merge.proofs.Joins.Union.{IsDocument-union, depth-union, join-one,
 abbrev Speaks : List Document → Path → Type 0
 Speaks patches w = (p : Document) × Contains patches p × (look p w ≢ nothing)
 
-pub speaks_or_silent : (patches : List Document) (w : Path) → Speaks patches w ⊎ ((p : Document) → Contains patches p → look p w ≡ nothing)
+speaks_or_silent : (patches : List Document) (w : Path) → Speaks patches w ⊎ ((p : Document) → Contains patches p → look p w ≡ nothing)
 speaks_or_silent patches w =
     some_or_all (λ p. look p w ≢ nothing) (λ p. look p w ≡ nothing) (λ p. elim (nothing_or (look p w)) [ inl none ↦ inr none | inr has ↦ inl has ]) patches
 
@@ -97,7 +97,7 @@ pub compatible_from_join : (patches : List Document) (j : Document) → IsJoin p
 compatible_from_join patches j joined p q one two w clash = clash.differ (sym (joined.said p one w clash.first) ∙ joined.said q two w clash.second)
 
 -- what the patches have and each union keeps, the join has too
-pub join_from_compatible : (P : Document → Type 0) → ((p j : Document) → P p → P j → P (union p j)) → (p : Document) (patches : List Document) → All P (p ∷ patches) → PairwiseCompatible (p ∷ patches)
+join_from_compatible : (P : Document → Type 0) → ((p j : Document) → P p → P j → P (union p j)) → (p : Document) (patches : List Document) → All P (p ∷ patches) → PairwiseCompatible (p ∷ patches)
     → (j : Document) × P j × IsJoin (p ∷ patches) j
 join_from_compatible P keeps p [] good free = (p, All-head P p [] good, join-one p)
 join_from_compatible P keeps p (q ∷ patches) good free =

@@ -50,11 +50,11 @@ union_with-absent (object ps) = refl
 union_with-absent p = refl
 
 -- what was joined before stays where the patch does not carry the name
-abbrev pub union_at : Option Document → Option Document → Option Document
+abbrev union_at : Option Document → Option Document → Option Document
 union_at None j = j
 union_at (Some p) j = Some (union_with p j)
 
-pub find-union_members : (q : List ℕ) (ps js : Members) → find q (union_members ps js) ≡ union_at (find q ps) (find q js)
+find-union_members : (q : List ℕ) (ps js : Members) → find q (union_members ps js) ≡ union_at (find q ps) (find q js)
 find-union_members q no_members js = refl
 find-union_members q (member n p ps) js =
     find-put q n (union_with p (find n js)) (union_members ps js)
@@ -120,7 +120,7 @@ look-union_at (n ∷ w) (Some p) (Some (object js)) free = absurd (free [] (λ s
 look-union_at (n ∷ w) (Some p) None free = refl
 look-union_at (n ∷ w) (Some p) (Some j) free = refl
 
-pub look-union : (p j : Document) → Compatible p j → (w : Path) → look (union p j) w ≡ over (look j w) (look p w)
+look-union : (p j : Document) → Compatible p j → (w : Path) → look (union p j) w ≡ over (look j w) (look p w)
 look-union p j free w = look-union_at w (Some p) (Some j) (λ u first second differ. free u (record { first = first; second = second; differ = differ }))
 
 -- ---- the union is a join
@@ -135,7 +135,7 @@ pub same_where_both : (p q : Document) → Compatible p q → (w : Path) → loo
 same_where_both p q free w first second = same_look (look p w) (look q w) (λ differ. free w (record { first = first; second = second; differ = differ }))
 
 -- the union with the join of some patches is the join of these and the patch: only membership counts
-pub union_joins : (patches all : List Document) (p j : Document) → ((q : Document) → Contains all q → Contains patches q ⊎ (p ≡ q)) → Contains all p → ((q : Document) → Contains patches q → Contains all q)
+union_joins : (patches all : List Document) (p j : Document) → ((q : Document) → Contains all q → Contains patches q ⊎ (p ≡ q)) → Contains all p → ((q : Document) → Contains patches q → Contains all q)
     → IsJoin patches j → Compatible p j → IsJoin all (union p j)
 union_joins patches all p j cases here there joined free = record { said = said; silent = silent }
   where

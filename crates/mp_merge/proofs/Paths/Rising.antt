@@ -16,10 +16,10 @@ path_cmp_total : IsTotalOrder path_cmp
 path_cmp_total = lists_total nat_list_cmp_total
 
 -- the path is below each of the list
-abbrev pub Below : Path → List Path → Type 0
+abbrev Below : Path → List Path → Type 0
 Below w ws = AllByRecursion (λ u. path_cmp w u ≡ Less) ws
 
-pub below_each : (w u : Path) (ws : List Path) → Below w ws → Contains ws u → path_cmp w u ≡ Less
+below_each : (w u : Path) (ws : List Path) → Below w ws → Contains ws u → path_cmp w u ≡ Less
 below_each w u [] below at = absurd (Contains-nil u at)
 below_each w u (x ∷ ws) below at =
     elim (Contains-cases x u ws at) [ inl same ↦ ap (path_cmp w) (sym same) ∙ below.0 | inr there ↦ below_each w u ws below.1 there ]
@@ -66,7 +66,7 @@ same_rising (u ∷ us) (w ∷ ws) rising also same =
 
 -- ---- rising lists
 
-pub rising-append : (us ws : List Path) → IsStrictlySortedBy path_cmp us → IsStrictlySortedBy path_cmp ws → ((u w : Path) → Contains us u → Contains ws w → path_cmp u w ≡ Less) → IsStrictlySortedBy path_cmp (us ++ ws)
+rising-append : (us ws : List Path) → IsStrictlySortedBy path_cmp us → IsStrictlySortedBy path_cmp ws → ((u w : Path) → Contains us u → Contains ws w → path_cmp u w ≡ Less) → IsStrictlySortedBy path_cmp (us ++ ws)
 unfolding IsStrictlySortedBy
 rising-append [] ws rising also below = also
 rising-append (u ∷ us) ws rising also below =
@@ -80,13 +80,13 @@ rising-append (u ∷ us) ws rising also below =
     each [] less = all_of ws (λ w at. below u w (Contains-head u us) at)
     each (v ∷ vs) less = (less.0, each vs less.1)
 
-pub under_less : (n : List ℕ) (u w : Path) → path_cmp u w ≡ Less → path_cmp (n ∷ u) (n ∷ w) ≡ Less
+under_less : (n : List ℕ) (u w : Path) → path_cmp u w ≡ Less → path_cmp (n ∷ u) (n ∷ w) ≡ Less
 under_less n u w less = ap (λ o. ordering_then o (path_cmp u w)) (name_cmp-self n) ∙ less
 
 abbrev pub under_all : List ℕ → List Path → List Path
 under_all n ws = map (λ w. n ∷ w) ws
 
-pub rising-under : (n : List ℕ) (ws : List Path) → IsStrictlySortedBy path_cmp ws → IsStrictlySortedBy path_cmp (under_all n ws)
+rising-under : (n : List ℕ) (ws : List Path) → IsStrictlySortedBy path_cmp ws → IsStrictlySortedBy path_cmp (under_all n ws)
 unfolding IsStrictlySortedBy
 rising-under n [] rising = tt
 rising-under n (w ∷ ws) rising = (each ws rising.0, rising-under n ws rising.1)
@@ -95,14 +95,14 @@ rising-under n (w ∷ ws) rising = (each ws rising.0, rising-under n ws rising.1
     each [] less = tt
     each (v ∷ vs) less = (under_less n w v less.0, each vs less.1)
 
-pub Contains-under : (n : List ℕ) (w : Path) (ws : List Path) → Contains ws w → Contains (under_all n ws) (n ∷ w)
+Contains-under : (n : List ℕ) (w : Path) (ws : List Path) → Contains ws w → Contains (under_all n ws) (n ∷ w)
 Contains-under n w [] at = absurd (Contains-nil w at)
 Contains-under n w (v ∷ ws) at = elim (Contains-cases v w ws at) [
   | inl is ↦ subst (λ u. Contains (under_all n (v ∷ ws)) (n ∷ u)) is (Contains-head (n ∷ v) (under_all n ws))
   | inr there ↦ Contains-tail (n ∷ v) (n ∷ w) (under_all n ws) (Contains-under n w ws there)
 ]
 
-pub from_under : (n : List ℕ) (v : Path) (ws : List Path) → Contains (under_all n ws) v → (w : Path) × Contains ws w × (n ∷ w ≡ v)
+from_under : (n : List ℕ) (v : Path) (ws : List Path) → Contains (under_all n ws) v → (w : Path) × Contains ws w × (n ∷ w ≡ v)
 from_under n v [] at = absurd (Contains-nil v at)
 from_under n v (w ∷ ws) at = elim (Contains-cases (n ∷ w) v (under_all n ws) at) [
   | inl is ↦ (w, Contains-head w ws, is)

@@ -6,8 +6,7 @@ use Rattle.mp_tree.proofs.Facts.{find-put, find-without, IsMap-put, IsMap-withou
 use Rattle.mp_pointer.specs.Difference.{DifferOnlyAt}
 use Rattle.mp_pointer.specs.Part.{names}
 use Rattle.mp_pointer.specs.Spelling.{BeginsWith}
-use Rattle.mp_pointer.proofs.Facts.{child-object, DifferOnlyAt-child, DifferOnlyAt-root}
-use Rattle.mp_patch.proofs.Facts.{names_of-put}
+use Rattle.mp_pointer.proofs.Facts.{child-object, names_of-put, DifferOnlyAt-child, DifferOnlyAt-root}
 use Rattle.mp_merge.specs.Application.{target_members}
 use Rattle.mp_merge.proofs.Application.Looks.{look-target_members}
 use Rattle.mp_merge.proofs.Application.ByName.{IsMap-target_members}

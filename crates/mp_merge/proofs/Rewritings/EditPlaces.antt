@@ -92,7 +92,7 @@ edit_places_apart d p u w n rest one two is = by one.here
 -- ---- outside of the edit places an application changes nothing
 
 -- no prefix of the path is an edit place
-abbrev pub NoEditTo : Document → Document → Path → Type 0
+abbrev NoEditTo : Document → Document → Path → Type 0
 NoEditTo d p w = (u rest : Path) → w ≡ u ++ rest → ¬ IsEditPlace d p u
 
 maps_to_speech : (p : Document) (w : Path) → look p w ≢ nothing → MapsAbove (Some p) w

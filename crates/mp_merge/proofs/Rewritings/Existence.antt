@@ -6,7 +6,6 @@ use Rattle.mp_tree.specs.Document.{Document, null, flag, whole, string, list, ob
 use Rattle.mp_tree.specs.Look.{Path, Look, nothing, an_object, plain, look, look_of}
 use Rattle.mp_pointer.specs.Part.{part}
 use Rattle.mp_patch.specs.Operation.{HasDocument, HaveDocuments}
-use Rattle.mp_patch.proofs.Facts.{part-document}
 use Rattle.mp_patch.specs.Operation.{Operation}
 use Rattle.mp_merge.specs.Private.Edits.{GuardedEdit, IsOneEdit, AreEdits, AreMemberEdits}
 use Rattle.mp_merge.specs.Laws.{RewritingExists, RewritingHasDocuments}
@@ -15,6 +14,7 @@ use Rattle.mp_merge.specs.Application.{merge_patch, unless_null}
 use Rattle.mp_merge.proofs.Application.ByName.{IsDocument-merge_patch}
 use Rattle.mp_merge.proofs.Rewritings.Computed.{walk_is_rewriting}
 use Rattle.mp_tree.proofs.Facts.{decide_document}
+use Rattle.mp_pointer.proofs.Facts.{part-document}
 
 decide_part : (a b : Option Document) → Dec (a ≡ b)
 decide_part None None = yes refl

@@ -7,7 +7,6 @@ use Rattle.mp_pointer.specs.Part.{part}
 use Rattle.mp_patch.specs.Operation.{Operation, test}
 use Rattle.mp_patch.specs.Refusal.{RefusedBy}
 use Rattle.mp_patch.specs.Run.{IsRefused, Runs}
-use Rattle.mp_patch.specs.declared.fault.Cause.{Cause}
 use Rattle.mp_merge.specs.Laws.{GuardedList, RefusedGuardTells}
 use Rattle.mp_merge.specs.Rewriting.{edit, guard_of, guards, edit_to, part_left}
 use Rattle.mp_merge.proofs.Collections.Elements.{Contains-nil, Contains-cases}
@@ -81,13 +80,8 @@ guard_at d p x m v u places (w ∷ left) k at runs = by (guard_at d p x m v u pl
         record { stood = ap (part d) (sym place) ∙ here ∙ ap Some value; same = runs }
     by later_guard (Some z) here (suc k) at (free, y, (stands, stays), later) = later_guard k at (subst (λ (t : Document). Runs t (take k (guards d left ++ map (edit d p) places)) m) stays later)
 
-refused_differs : (m v : Document) (u : Path) (cause : Cause) → RefusedBy m (test u v) cause → part m u ≢ Some v
-refused_differs m v u cause (inl missing) same = let never : Some v ≡ None = sym same ∙ missing.1 in cc
-refused_differs m v u cause (inr (there, inl failed)) same = failed.1 same
-refused_differs m v u cause (inr (there, inr none)) same = none.1
-
 pub refused_guard_tells : RefusedGuardTells
 refused_guard_tells d p x operations k cause u v is (m, runs, o, at, refused) here =
     let test_is : o ≡ test u v = (let both : Some o ≡ Some (test u v) = sym at ∙ here in cc) in
     let guard = guard_at d p x m v u is.places is.places k (subst (λ os. slice_get os k ≡ Some (test u v)) is.guarded here) (subst (λ os. Runs x (take k os) m) is.guarded runs) in
-    (guard.stood, subst (λ (y : Document). part y u ≢ Some v) guard.same (refused_differs m v u cause (subst (λ (q : Operation). RefusedBy m q cause) test_is refused)), guard.same)
+    (guard.stood, subst (λ (y : Document). part y u ≢ Some v) guard.same (λ there. passes m v u there (cause, subst (λ (q : Operation). RefusedBy m q cause) test_is refused)), guard.same)

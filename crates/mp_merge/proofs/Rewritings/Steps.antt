@@ -7,11 +7,12 @@ use Rattle.mp_pointer.specs.Part.{part}
 use Rattle.mp_patch.specs.Operation.{Operation, add, remove, replace, ChangesContainer, AddsTo, to_map, RemovesFrom, from_map, Step}
 use Rattle.mp_patch.specs.Refusal.{HasNoPlace, LacksPlace}
 use Rattle.mp_patch.specs.Run.{IsRefused}
-use Rattle.mp_patch.proofs.Facts.{unrefused}
+use Rattle.mp_patch.proofs.Facts.{unrefused, replaces_freely}
 use Rattle.mp_merge.specs.Application.{target_members}
 use Rattle.mp_merge.specs.Rewriting.{edit_to}
 use Rattle.mp_merge.proofs.Rewritings.ChangedPath.{with_name, with_at, at_path-with_at, maps-with_at, made, made_is, differ_at, with_at-push}
 use Rattle.mp_merge.proofs.Paths.Maps.{MapsAbove, at_path, at_path-push, look-end, to_maps_above, from_maps_above, part-at_path}
+use Rattle.mp_pointer.proofs.Facts.{some_last}
 
 -- ---- parts and looks
 
@@ -81,20 +82,8 @@ place_there x w maps (s, n, is, lacks) =
 added_freely : (x : Document) (w : Path) (v : Document) → MapsAbove (Some x) w → length w + depth v ≤ depth_limit → ¬ IsRefused x (add w v)
 added_freely x w v maps fits = unrefused x (add w v) (place_there x w maps, ((λ deep. omega (arith, deep, fits)), tt))
 
-replaced_freely : (x z : Document) (w : Path) (v : Document) → part x w ≡ Some z → length w + depth v ≤ depth_limit → ¬ IsRefused x (replace w v)
-replaced_freely x z w v there fits = unrefused x (replace w v) (differ (part x w) z there, ((λ deep. omega (arith, deep, fits)), tt))
-
 removed_freely : (x z : Document) (w : Path) → part x w ≡ Some z → w ≢ [] → ¬ IsRefused x (remove w)
 removed_freely x z w there deeper = unrefused x (remove w) (deeper, (differ (part x w) z there, tt))
-
--- all names but the last, and the last
-pub last_of : (n : List ℕ) (w : Path) → (s : Path) × (k : List ℕ) × (n ∷ w ≡ s ++ k ∷ [])
-last_of n [] = ([], n, refl)
-last_of n (m ∷ w) = let rest = last_of m w in (n ∷ rest.0, rest.1, ap (λ u. n ∷ u) rest.2)
-
-some_last : (w : Path) → w ≢ [] → (s : Path) × (k : List ℕ) × (w ≡ s ++ k ∷ [])
-some_last [] other = absurd (other refl)
-some_last (n ∷ w) other = last_of n w
 
 abbrev Leads : Document → Operation → Document → Type 0
 Leads x o y = ¬ IsRefused x o × Step x o y
@@ -120,7 +109,7 @@ module _ (x : Document) (w : Path) where
       let z = part_there x fits.good w fits.maps here in
       let y = made (with_at w (Some v) (Some x)) in
       let there = made_is w v (Some x) in (
-        replaced_freely x z.0 w v z.1 fits.within,
+        replaces_freely x z.0 w v z.1 fits.within,
         (
           (z.0, z.1),
           part-at_path w y (subst (λ o. MapsAbove o w) there (maps-with_at w (Some v) (Some x) fits.good)) ∙ ap (λ o. at_path o w) (sym there) ∙ at_path-with_at w (Some v) (Some x) fits.good,

@@ -18,7 +18,7 @@ grew_by_one Holds old new e is means here = (guarded_edit_of e ∷ [], ap all_ed
 
 -- ---- one operation
 
-pub left_below_root : (s : Path) (n : List ℕ) (p : Document) → part_left (s ++ n ∷ []) (Some p) ≡ unless_null p (merge_patch None p)
+left_below_root : (s : Path) (n : List ℕ) (p : Document) → part_left (s ++ n ∷ []) (Some p) ≡ unless_null p (merge_patch None p)
 left_below_root [] n p = refl
 left_below_root (m ∷ s) n p = refl
 
@@ -31,7 +31,7 @@ value_left (list ds) other = refl
 value_left (object ms) other = refl
 
 -- the patch's part, as an application to nothing leaves it, is what it leaves at s
-abbrev pub LeavesValue : Path → Document → Type 0
+abbrev LeavesValue : Path → Document → Type 0
 LeavesValue s p = part_left s (Some p) ≡ Some (merge_patch None p)
 
 pub leaves_value : (s : Path) (n : List ℕ) (p : Document) → p ≢ null → LeavesValue (s ++ n ∷ []) p

@@ -3,8 +3,8 @@ use Rattle.std.proofs.lemmas.Result.{IfOk-weaker}
 use Rattle.mp_tree.specs.Document.{Document}
 use Rattle.mp_tree.specs.View.{document}
 use Rattle.mp_cli.specs.Answered.{answered_by, IsAnswered, IsJoinAnswer}
-use Rattle.mp_cli.proofs.AnswerCases.{list_of-items}
 use Rattle.mp_cli.proofs.answering.answer.Goals as goal
+use Rattle.mp_tree.proofs.Facts.{list_of-items}
 
 pub returns-in-Join : goal.returns-in-Join
 unfolding IsAnswered

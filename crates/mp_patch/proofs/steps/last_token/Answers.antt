@@ -1,8 +1,8 @@
 use Rattle.std.proofs.Common.{◌≡◌, ◌+◌, Some, length, rules, sym, ap, ◌∙◌}
 use Rattle.std.specs.List.{slice_get}
 use Rattle.std.specs.Option.{option_copied}
-use Rattle.mp_patch.proofs.SingleSteps.{to_last}
 use Rattle.mp_patch.proofs.steps.last_token.Goals as goal
+use Rattle.mp_pointer.proofs.Facts.{to_last}
 
 pub returns : goal.returns
 returns c =

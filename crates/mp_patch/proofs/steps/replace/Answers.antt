@@ -5,8 +5,9 @@ use Rattle.mp_pointer.specs.Part.{part}
 use Rattle.mp_pointer.specs.Spelling.{Tokens}
 use Rattle.mp_patch.specs.declared.fault.Cause.TheVariants.{TooDeep}
 use Rattle.mp_patch.specs.declared.fault.Refusal.TheVariants.{By}
-use Rattle.mp_patch.proofs.SingleSteps.{to_end, replaced, set_means}
+use Rattle.mp_patch.proofs.SingleSteps.{replaced, set_means}
 use Rattle.mp_patch.proofs.steps.replace.Goals as goal
+use Rattle.mp_pointer.proofs.Facts.{to_end}
 
 pub returns-in-Some : goal.returns-in-Some
 returns-in-Some c =

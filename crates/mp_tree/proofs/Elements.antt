@@ -1,0 +1,115 @@
+-- The elements of a list: as many, at an index, one of them set, one list after another.
+use Rattle.std.proofs.Common.{◌≡◌, ◌≤◌, ◌<◌, ◌++◌, ℕ, zero, suc, max, List, [], ◌∷◌, length, map, get_or, set, take, None, Some, option_map, refl, sym, ap, ap₂, ◌∙◌, arith}
+use Rattle.std.proofs.lemmas.List.{length-take-le}
+use Rattle.std.specs.List.{All, slice_get}
+use Rattle.mp_tree.specs.Document.{Document, Items, no_items, item, IsDocument, AreDocuments, items_depth}
+use Rattle.mp_tree.specs.Elements.{append, count_of, list_of, nth}
+use Rattle.mp_tree.specs.View.{document, items}
+use Rattle.mp_tree.specs.declared.doc.Doc.{Doc}
+
+-- ---- as many, and as a list
+
+pub count_of-items : (docs : List Doc) → count_of (items docs) ≡ length docs
+count_of-items [] = refl
+count_of-items (d ∷ docs) = ap suc (count_of-items docs)
+
+pub count-take : (i : ℕ) (ds : List Doc) → i ≤ length ds → count_of (items (take i ds)) ≡ i
+count-take i ds within = count_of-items (take i ds) ∙ length-take-le i ds within
+
+pub list_of-items : (docs : List Doc) → list_of (items docs) ≡ map document docs
+list_of-items [] = refl
+list_of-items (d ∷ docs) = ap (λ ds. document d ∷ ds) (list_of-items docs)
+
+pub IsDocument-list_of : (ds : Items) → AreDocuments ds → All IsDocument (list_of ds)
+IsDocument-list_of no_items good k d less = absurd (omega arith)
+IsDocument-list_of (item e ds) good zero d less = good.0
+IsDocument-list_of (item e ds) good (suc k) d less = IsDocument-list_of ds good.1 k d (omega arith)
+
+-- ---- at an index
+
+pub nth-items : (i : ℕ) (docs : List Doc) → nth i (items docs) ≡ option_map document (slice_get docs i)
+nth-items i [] = refl
+nth-items zero (d ∷ docs) = refl
+nth-items (suc i) (d ∷ docs) = nth-items i docs
+
+pub nth-here : (ds : List Doc) (i : ℕ) (x : Doc) → i < length ds → x ≡ get_or ds i x → nth i (items ds) ≡ Some (document x)
+nth-here [] i x less is = absurd (omega arith)
+nth-here (d ∷ ds) zero x less is = ap (λ z. Some (document z)) (sym is)
+nth-here (d ∷ ds) (suc i) x less is = nth-here ds i x (omega arith) is
+
+pub nth_past : (i : ℕ) (ds : Items) → count_of ds ≤ i → nth i ds ≡ None
+nth_past i no_items past = refl
+nth_past zero (item d ds) past = absurd (omega arith)
+nth_past (suc i) (item d ds) past = nth_past i ds (omega arith)
+
+-- ---- one of them is set
+
+abbrev pub set_item : ℕ → Document → Items → Items
+set_item i y no_items = no_items
+set_item zero y (item d ds) = item y ds
+set_item (suc i) y (item d ds) = item d (set_item i y ds)
+
+pub count_of-set : (i : ℕ) (y : Document) (ds : Items) → count_of (set_item i y ds) ≡ count_of ds
+count_of-set i y no_items = refl
+count_of-set zero y (item d ds) = refl
+count_of-set (suc i) y (item d ds) = ap suc (count_of-set i y ds)
+
+pub nth-set : (i : ℕ) (x y : Document) (ds : Items) → nth i ds ≡ Some x → nth i (set_item i y ds) ≡ Some y
+nth-set i x y no_items is = cc
+nth-set zero x y (item d ds) is = refl
+nth-set (suc i) x y (item d ds) is = nth-set i x y ds is
+
+pub items-set : (ds : List Doc) (i : ℕ) (y : Doc) → items (set ds i y) ≡ set_item i (document y) (items ds)
+items-set [] i y = refl
+items-set (d ∷ ds) zero y = refl
+items-set (d ∷ ds) (suc i) y = ap (item (document d)) (items-set ds i y)
+
+-- ---- one list after another
+
+pub items-append : (xs ys : List Doc) → items (xs ++ ys) ≡ append (items xs) (items ys)
+items-append [] ys = refl
+items-append (x ∷ xs) ys = ap (item (document x)) (items-append xs ys)
+
+pub all_before : (ds : Items) → ds ≡ append ds no_items
+all_before no_items = refl
+all_before (item d ds) = ap (item d) (all_before ds)
+
+pub append_nothing : (front other : Items) → append front no_items ≡ append other no_items → front ≡ other
+append_nothing front other same = all_before front ∙ same ∙ sym (all_before other)
+
+pub count_of-append : (front back : Items) → count_of front ≤ count_of (append front back)
+count_of-append no_items back = omega arith
+count_of-append (item d front) back = omega (arith, count_of-append front back)
+
+pub nth_split : (i : ℕ) (ds : Items) (x : Document) → nth i ds ≡ Some x → (front : Items) × (back : Items) × (count_of front ≡ i) × (ds ≡ append front (item x back))
+nth_split i no_items x is = cc
+nth_split zero (item d ds) x is = let same : d ≡ x = cc in (no_items, ds, refl, ap (λ e. item e ds) same)
+nth_split (suc i) (item d ds) x is = let rest = nth_split i ds x is in (item d rest.0, rest.1, ap suc rest.2, ap (item d) rest.3)
+
+pub same_parts : (front back front' back' : Items) → count_of front ≡ count_of front' → append front back ≡ append front' back' → (front ≡ front') × (back ≡ back')
+same_parts no_items back no_items back' long same = (refl, same)
+same_parts no_items back (item d front') back' long same = absurd (omega arith)
+same_parts (item d front) back no_items back' long same = absurd (omega arith)
+same_parts (item d front) back (item d' front') back' long same =
+    let first : d ≡ d' = head same in
+    let later : append front back ≡ append front' back' = tail same in
+    let rest = same_parts front back front' back' (omega arith) later in
+    (ap₂ item first rest.0, rest.1)
+  where
+    head : item d (append front back) ≡ item d' (append front' back') → d ≡ d'
+    head e = cc
+
+    tail : item d (append front back) ≡ item d' (append front' back') → append front back ≡ append front' back'
+    tail e = cc
+
+pub depth-append : (front back : Items) → items_depth (append front back) ≡ max (items_depth front) (items_depth back)
+depth-append no_items back = omega arith
+depth-append (item d front) back = omega (arith, depth-append front back)
+
+pub append-documents : (front back : Items) → AreDocuments front → AreDocuments back → AreDocuments (append front back)
+append-documents no_items back f b = b
+append-documents (item d front) back f b = (f.0, append-documents front back f.1 b)
+
+pub documents-append : (front back : Items) → AreDocuments (append front back) → AreDocuments front × AreDocuments back
+documents-append no_items back good = (tt, good)
+documents-append (item d front) back good = let rest = documents-append front back good.1 in ((good.0, rest.0), rest.1)
