@@ -25,11 +25,8 @@ use std::collections::BTreeMap;
 pub fn compatible(p: &Doc, q: &Doc) -> bool
     ensures { IsTrue result ↔ Compatible (document p.now) (document q.now) }
 {
-    match p {
-        Doc::Members(changes) => match q {
-            Doc::Members(others) => are_members_compatible(changes, others),
-            _ => false,
-        },
+    match (p, q) {
+        (Doc::Members(changes), Doc::Members(others)) => are_members_compatible(changes, others),
         _ => p.same(q),
     }
 }
@@ -83,11 +80,10 @@ fn push_clashes(
     ensures places { OnOk result (Grew places.old.items places.new.items
         (WalksClashes path.old (document p.now) (Some (document q.now)))) }
 {
-    match p {
-        Doc::Members(changes) => match q {
-            Doc::Members(others) => push_member_clashes(changes, others, path, places, alloc),
-            _ => push_clash(p, q, path, places, alloc),
-        },
+    match (p, q) {
+        (Doc::Members(changes), Doc::Members(others)) => {
+            push_member_clashes(changes, others, path, places, alloc)
+        }
         _ => push_clash(p, q, path, places, alloc),
     }
 }

@@ -42,12 +42,11 @@ pub fn join(alloc: Global, p: &Doc, q: &Doc) -> Result<Doc, JoinFault>
 pub(crate) fn unite(patch: &Doc, joined: Doc, alloc: Global) -> Result<Doc, AllocError>
     ensures { IfOk result (λ d. document d ≡ union (document patch.now) (document joined)) }
 {
-    match patch {
-        Doc::Members(changes) => match joined {
-            Doc::Members(entries) => Ok(Doc::Members(unite_members(changes, entries, alloc)?)),
-            other => Ok(other),
-        },
-        _ => Ok(joined),
+    match (patch, joined) {
+        (Doc::Members(changes), Doc::Members(entries)) => {
+            Ok(Doc::Members(unite_members(changes, entries, alloc)?))
+        }
+        (_, joined) => Ok(joined),
     }
 }
 

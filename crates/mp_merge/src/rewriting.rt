@@ -88,13 +88,10 @@ fn push_all(patch: &Doc, doc: &Doc, edits: &mut Vec<Edit>, alloc: Global) -> Res
     ensures { OnOk result (Grew (all_edits edits.old.items) (all_edits edits.new.items)
         (AreEdits [] (document patch.now) (Some (document doc.now)))) }
 {
-    match patch {
-        Doc::Members(changes) => match doc {
-            Doc::Members(entries) => {
-                push_member_edits(changes, entries, &mut Pointer::empty(alloc), edits, alloc)
-            }
-            _ => push_root_edit(patch, doc, edits, alloc),
-        },
+    match (patch, doc) {
+        (Doc::Members(changes), Doc::Members(entries)) => {
+            push_member_edits(changes, entries, &mut Pointer::empty(alloc), edits, alloc)
+        }
         _ => push_root_edit(patch, doc, edits, alloc),
     }
 }

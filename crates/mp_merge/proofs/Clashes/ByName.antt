@@ -7,6 +7,7 @@ use Rattle.mp_tree.specs.declared.doc.Doc.{Doc, Members as Map, ind-Doc, roll-Do
 use Rattle.mp_tree.specs.declared.doc.Doc.TheOpen.{Doc-F}
 use Rattle.mp_tree.proofs.Facts.{is_here, find-below, cases_same, find-here, same_plain}
 use Rattle.mp_merge.specs.Clash.{Clash, Compatible}
+use Rattle.mp_merge.specs.Private.Edits.{NotBothMaps}
 
 -- ---- at the root
 
@@ -28,17 +29,18 @@ no_map = ind-Doc NoMapUnless (λ x y is. opened x)
     opened (Doc-F.Items v) never = subst IsNoMap (sym (fold-roll-Doc Document document_step (Doc-F.Items v))) refl
     opened (Doc-F.Members m) never = absurd (never m (search (rules, the_lemmas)))
 
+-- one of the two is no map
+pub not_both_first : (p : Document) (t : Option Document) → IsNoMap p → NotBothMaps p t
+not_both_first p t plain_p map = absurd (let never : an_object ≡ plain p = sym map ∙ plain_p in cc)
+
+pub not_both_second : (p q : Document) → IsNoMap q → NotBothMaps p (Some q)
+not_both_second p q plain_q map other = let never : an_object ≡ plain q = sym other ∙ plain_q in cc
+
 pub clash_at_root : (p q : Document) → (look_here p ≡ look_here q → ⊥) → Clash p q []
 clash_at_root p q other = record { first = is_here p; second = is_here q; differ = other }
 
 pub clash_of_others : (p q : Document) → IsNoMap p → (p ≡ q → ⊥) → Clash p q []
 clash_of_others p q plain_p other = clash_at_root p q (λ same. other (same_plain p q (sym plain_p ∙ same)))
-
-pub clash_with_a_map : (ms : Members) (q : Document) → IsNoMap q → Clash (object ms) q []
-clash_with_a_map ms q plain_q = clash_at_root (object ms) q (λ same. never (same ∙ plain_q))
-  where
-    never : an_object ≡ plain q → ⊥
-    never e = cc
 
 pub compatible-self : (p q : Document) → p ≡ q → Compatible p q
 compatible-self p q same w clash = clash.differ (ap (λ d. look d w) same)

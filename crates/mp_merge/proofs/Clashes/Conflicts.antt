@@ -7,6 +7,7 @@ use Rattle.mp_tree.specs.Document.{Document, null, flag, whole, string, list, ob
 use Rattle.mp_tree.specs.Look.{Path, an_object, look, look_of}
 use Rattle.mp_tree.proofs.Facts.{is_here, find-below, cases_same, find-here, same_plain}
 use Rattle.mp_merge.specs.Clash.{Clash, Compatible, AreAllClashes, AreConflictsOfPair}
+use Rattle.mp_merge.specs.Private.Edits.{NotBothMaps}
 use Rattle.mp_merge.specs.Private.Clashes.{IsOneClash, WalksClashes, WalksMembers}
 use Rattle.mp_merge.specs.Private.Growth.{Grew}
 use Rattle.mp_merge.specs.Laws.{ClashesExist, EmptyIfCompatible, HaveOneList}
@@ -19,11 +20,7 @@ use Rattle.mp_merge.proofs.Paths.Rising.{BeginsAbove, Lists, lists_none, lists_r
 
 -- ---- one path alone
 
--- at most one of the two is a map
-abbrev NotBoth : Document → Document → Type 0
-NotBoth p q = look p [] ≡ an_object → look q [] ≢ an_object
-
-same_here : (p q : Document) → NotBoth p q → look p [] ≡ look q [] → p ≡ q
+same_here : (p q : Document) → NotBothMaps p (Some q) → look p [] ≡ look q [] → p ≡ q
 same_here (object ps) q never same = absurd (never refl (sym same))
 same_here null q never same = same_plain null q same
 same_here (flag b) q never same = same_plain (flag b) q same
@@ -31,7 +28,21 @@ same_here (whole z) q never same = same_plain (whole z) q same
 same_here (string s) q never same = same_plain (string s) q same
 same_here (list ds) q never same = same_plain (list ds) q same
 
-at_root_alone : (p q : Document) → NotBoth p q → (w : Path) → ClashOf (Some p) (Some q) w → w ≡ []
+-- then the walk adds one clash or none
+pub walks_one : (s : Path) (p q : Document) (places : List Path) → NotBothMaps p (Some q) → IsOneClash s p q places → WalksClashes s p (Some q) places
+walks_one s (object ps) (object qs) places never one = absurd (never refl refl)
+walks_one s (object ps) null places never one = one
+walks_one s (object ps) (flag b) places never one = one
+walks_one s (object ps) (whole z) places never one = one
+walks_one s (object ps) (string t) places never one = one
+walks_one s (object ps) (list ds) places never one = one
+walks_one s null q places never one = one
+walks_one s (flag b) q places never one = one
+walks_one s (whole z) q places never one = one
+walks_one s (string t) q places never one = one
+walks_one s (list ds) q places never one = one
+
+at_root_alone : (p q : Document) → NotBothMaps p (Some q) → (w : Path) → ClashOf (Some p) (Some q) w → w ≡ []
 at_root_alone p q never [] clash = refl
 at_root_alone p q never (n ∷ w) clash = absurd (never (object_above [] n w (Some p) clash.0) (object_above [] n w (Some q) clash.1))
 
@@ -41,7 +52,7 @@ record Found (s : Path) (p : Document) (q : Option Document) (places : List Path
   lists : Lists (ClashOf (Some p) q) paths
   placed : places ≡ map (λ w. s ++ w) paths
 
-found_one : (s : Path) (p q : Document) (places : List Path) → NotBoth p q → IsOneClash s p q places → Found s p (Some q) places
+found_one : (s : Path) (p q : Document) (places : List Path) → NotBothMaps p (Some q) → IsOneClash s p q places → Found s p (Some q) places
 found_one s p q places never (inl (same, none)) = record {
   paths = [];
   lists = lists_none (ClashOf (Some p) (Some q)) (λ w clash. clash.2 (ap (λ d. look d w) same));

@@ -79,6 +79,22 @@ edit_replaces s place other p v q left never differ there also is =
           ∙ ap (λ o. (test s v ∷ [], edit_to s (look v []) o) ∷ []) (sym left),
     )
 
+-- ---- at most one has a map
+
+pub edits_one : (s : Path) (p : Document) (t : Option Document) (found : List GuardedEdit) → NotBothMaps p t → IsOneEdit s p t found → AreEdits s p t found
+edits_one s (object ps) (Some (object ds)) found never one = absurd (never refl refl)
+edits_one s (object ps) None found never one = one
+edits_one s (object ps) (Some null) found never one = one
+edits_one s (object ps) (Some (flag b)) found never one = one
+edits_one s (object ps) (Some (whole z)) found never one = one
+edits_one s (object ps) (Some (string r)) found never one = one
+edits_one s (object ps) (Some (list ds)) found never one = one
+edits_one s null t found never one = one
+edits_one s (flag b) t found never one = one
+edits_one s (whole z) t found never one = one
+edits_one s (string r) t found never one = one
+edits_one s (list ds) t found never one = one
+
 -- ---- both have maps
 
 pub both_maps : (old new : List GuardedEdit) (s place : Path) (p : Document) (t : Option Document) (ps ds : Members) → p ≡ object ps → t ≡ Some (object ds) → place ≡ s → Grew old new (AreMemberEdits place ps ds) → Grew old new (AreEdits s p t)

@@ -1,25 +1,27 @@
-use Rattle.std.proofs.Common.{◌∷◌, [], string_bytes, sym, ◌∙◌, subst, true≢false}
+use Rattle.std.proofs.Common.{◌≢◌, ◌∷◌, [], string_bytes, sym, ◌∙◌, subst, true≢false}
 use Rattle.mp_tree.specs.View.{document}
 use Rattle.mp_tree.specs.Private.Entries.{members}
-use Rattle.mp_merge.specs.Clash.{Compatible}
-use Rattle.mp_merge.proofs.Clashes.ByName.{decided, no_map, clash_of_others, clash_with_a_map, compatible-self, absent_under, compatible_under, clash_under, same_behind}
+use Rattle.mp_merge.specs.Clash.{Clash, Compatible}
+use Rattle.mp_merge.proofs.Clashes.ByName.{decided, no_map, clash_of_others, clash-sym, compatible-self, absent_under, compatible_under, clash_under, same_behind}
 use Rattle.mp_merge.proofs.Collections.Members.{document_of_map, looked_up, next_change, pass_change}
 use Rattle.mp_merge.proofs.comparing.+compatible.Goals as goal
+use Rattle.mp_merge.proofs.comparing.+compatible.Goals.{compatible-in_default-via-in-Members+in_default, compatible-in_default-via-in_default}
 
-pub compatible-returns-in-Members-q : goal.compatible-returns-in-Members-q
-compatible-returns-in-Members-q t c = rw (document_of_map c.in-Members.changes c.in-Members.is, document_of_map c.in-Members-q.others c.in-Members-q.is) c.are_members_compatible.ensures
-
-pub compatible-returns-in_default-q : goal.compatible-returns-in_default-q
-compatible-returns-in_default-q t c =
-    let clash = clash_with_a_map (members c.in-Members.changes.entries) (document c.args.q.now) (no_map c.args.q.now c.in_default-q.not-Members) in
-    (λ never. absurd (cc), λ none. absurd (subst (λ d. Compatible d (document c.args.q.now)) (document_of_map c.in-Members.changes c.in-Members.is) none [] clash))
+pub compatible-returns-in-Members-Members : goal.compatible-returns-in-Members-Members
+compatible-returns-in-Members-Members t c =
+    let both = c.in-Members-Members in
+    rw (document_of_map both.changes both.is-0, document_of_map both.others both.is-1) c.are_members_compatible.ensures
 
 pub compatible-returns-in_default : goal.compatible-returns-in_default
 compatible-returns-in_default t c =
     let p = document c.args.p.now in
-    let q = document c.args.q.now in (
+    let q = document c.args.q.now in
+    let clash : p ≢ q → Clash p q [] = elim c.in_default.branch [
+      | compatible-in_default-via-in-Members+in_default w ↦ λ other. clash-sym q p [] (clash_of_others q p (no_map c.args.q.now w.in_default.not-Members-1) (λ same. other (sym same)))
+      | compatible-in_default-via-in_default w ↦ clash_of_others p q (no_map c.args.p.now w.in_default.not-Members-0)
+    ] in (
       λ yes. compatible-self p q (c.same.ensures.same.0 yes),
-      λ none. decided c.same.result c.same.ensures.same (λ other. none [] (clash_of_others p q (no_map c.args.p.now c.in_default.not-Members) other)),
+      λ none. decided c.same.result c.same.ensures.same (λ other. none [] (clash other)),
     )
 
 pub are_members_compatible-returns-then-not-compatible : goal.are_members_compatible-returns-then-not-compatible

@@ -1,16 +1,32 @@
-use Rattle.std.proofs.Common.{◌≡◌, [], ◌∷◌, ◌++◌, string_bytes, refl, ap₂, ◌∙◌}
+use Rattle.std.proofs.Common.{◌≡◌, [], ◌∷◌, ◌++◌, string_bytes, Some, refl, ap₂, ◌∙◌}
+use Rattle.std.proofs.lemmas.Result.{on_ok_weaker}
 use Rattle.mp_tree.specs.Document.{find}
 use Rattle.mp_tree.specs.View.{document}
 use Rattle.mp_tree.specs.Private.Entries.{members}
 use Rattle.mp_merge.specs.Private.Clashes.{WalksClashes}
+use Rattle.mp_merge.specs.Private.Edits.{NotBothMaps}
 use Rattle.mp_merge.specs.Private.Growth.{Grew}
-use Rattle.mp_merge.proofs.Clashes.Conflicts.{clashes_after_one, back_again}
+use Rattle.mp_merge.proofs.Clashes.Conflicts.{clashes_after_one, back_again, walks_one}
+use Rattle.mp_merge.proofs.Clashes.ByName.{no_map, not_both_first, not_both_second}
 use Rattle.mp_merge.proofs.Collections.Growth.{grew_by_all, grew_by_none}
 use Rattle.mp_merge.proofs.Collections.Members.{document_of_map, looked_up, pass_change, no_changes}
 use Rattle.mp_merge.proofs.comparing.+push_clashes.Goals as goal
+use Rattle.mp_merge.proofs.comparing.+push_clashes.Goals.{push_clashes-in_default-via-in-Members+in_default, push_clashes-in_default-via-in_default}
 
-pub push_clashes-returns-in-Members-q-clause-places : goal.push_clashes-returns-in-Members-q-clause-places
-push_clashes-returns-in-Members-q-clause-places t c = rw (document_of_map c.in-Members.changes c.in-Members.is, document_of_map c.in-Members-q.others c.in-Members-q.is) c.push_member_clashes.ensures.places
+pub push_clashes-returns-in-Members-Members-clause-places : goal.push_clashes-returns-in-Members-Members-clause-places
+push_clashes-returns-in-Members-Members-clause-places t c =
+    let both = c.in-Members-Members in
+    rw (document_of_map both.changes both.is-0, document_of_map both.others both.is-1) c.push_member_clashes.ensures.places
+
+pub push_clashes-returns-in_default-clause-places : goal.push_clashes-returns-in_default-clause-places
+push_clashes-returns-in_default-clause-places t c =
+    let p = document c.args.p.now in
+    let q = document c.args.q.now in
+    let never : NotBothMaps p (Some q) = elim c.in_default.branch [
+      | push_clashes-in_default-via-in-Members+in_default w ↦ not_both_second p q (no_map c.args.q.now w.in_default.not-Members-1)
+      | push_clashes-in_default-via-in_default w ↦ not_both_first p (Some q) (no_map c.args.p.now w.in_default.not-Members-0)
+    ] in
+    on_ok_weaker c.push_clash.result (λ grew. (grew.0, grew.1, walks_one _ p q grew.0 never grew.2)) c.push_clash.ensures
 
 pub push_member_clashes-loop-name-preserved-in-Some-get : goal.push_member_clashes-loop-name-preserved-in-Some-get
 push_member_clashes-loop-name-preserved-in-Some-get t c =

@@ -30,7 +30,8 @@ unite_members-loop-name-preserved t c =
     let done = c.in_ok-unite_entry.ensures ∙ ap (λ k. put k (union_with p (find k js)) js) c.as_str.ensures.value in
     pass_change c.loop-name.invariant c.in-Some.ensures.steps (λ map same. same ∙ union_members-step n p left js (IsMap-members c.loop-name.entries.entries) map ∙ ap (union_members left) (sym done))
 
-pub unite-returns-in_ok-unite_members-in-Members-joined : goal.unite-returns-in_ok-unite_members-in-Members-joined
-unite-returns-in_ok-unite_members-in-Members-joined t c =
-    let united = c.in_ok-unite_members-in-Members-joined in
-    rw (document_of_map c.in-Members.changes c.in-Members.is, document_of_map c.in-Members-joined.entries c.in-Members-joined.is) (document-Members united.field-0 ∙ ap object united.ensures)
+pub unite-returns-in_ok-unite_members-in-Members-Members : goal.unite-returns-in_ok-unite_members-in-Members-Members
+unite-returns-in_ok-unite_members-in-Members-Members t c =
+    let both = c.in-Members-Members in
+    let united = c.in_ok-unite_members-in-Members-Members in
+    rw (document_of_map both.changes both.is-0, document_of_map both.entries both.is-1) (document-Members united.field-0 ∙ ap object united.ensures)
