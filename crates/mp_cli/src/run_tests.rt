@@ -1,5 +1,5 @@
 //! Runs over a reader and writers of which one call goes wrong: what was counted is what the device saw. And runs on
-//! input at its limits.
+//! input at its longest.
 
 use crate::{Command, Counted, INPUT_LIMIT, READ_LIMIT, RunFault, run};
 use std::alloc::{AllocError, Global};
@@ -369,71 +369,6 @@ fn a_refusal_may_fail_to_be_written(rt: HostRuntime) {
     assert_eq!(rt; result.status, Err(RunFault::WriteFailed));
     expect_untouched(&rt, result.out);
     expect_broken(&rt, result.err, "conflict: patches 0 and 1 at \"/a\"\n", 1);
-}
-
-/// `count` times `[`, the middle, and `count` times `]`.
-fn nested(alloc: Global, count: usize, middle: &str) -> Result<String, AllocError> {
-    let mut text = String::new(alloc);
-    for _ in 0..count {
-        text.push_str("[")?;
-    }
-    text.push_str(middle)?;
-    for _ in 0..count {
-        text.push_str("]")?;
-    }
-    Ok(text)
-}
-
-#[test]
-fn numbers_at_their_limits(rt: HostRuntime) {
-    let rows = [
-        ("[18446744073709551615]", 0, "18446744073709551615\n"),
-        ("[-9223372036854775808]", 0, "-9223372036854775808\n"),
-        ("[18446744073709551616]", 2, "input: number not whole\n"),
-        ("[-9223372036854775809]", 2, "input: number not whole\n"),
-        ("[1.5]", 2, "input: number not whole\n"),
-        ("1.5", 2, "input: number not whole\n"),
-        ("5", 2, "input: wrong shape\n"),
-        ("", 2, "input: not JSON\n"),
-        ("[", 2, "input: not JSON\n"),
-        ("[1][2]", 2, "input: not JSON\n"),
-    ];
-    for (input, status, line) in rows {
-        expect_line(&rt, &Command::Merge, input.as_bytes(), status, line);
-    }
-    expect_line(
-        &rt,
-        &Command::Merge,
-        &[0x5B, 0xFF, 0x5D],
-        2,
-        "input: not JSON\n",
-    );
-}
-
-#[test]
-fn depths_at_their_limits(rt: HostRuntime) -> Result<(), Fail> {
-    let alloc = rt.alloc();
-    let deepest = nested(alloc, 127, "")?;
-    let part = nested(alloc, 126, "")?;
-    let line = format!(in alloc; "{part}\n")?;
-    expect_line(&rt, &Command::Merge, deepest.as_bytes(), 0, line.as_str());
-    let deeper = nested(alloc, 128, "")?;
-    expect_line(
-        &rt,
-        &Command::Merge,
-        deeper.as_bytes(),
-        2,
-        "input: not JSON\n",
-    );
-    let copied = format!(in alloc; "[{part},[{{\"op\":\"copy\",\"from\":\"\",\"path\":\"/-\"}}]]")?;
-    expect_line(
-        &rt,
-        &Command::Patch,
-        copied.as_bytes(),
-        1,
-        "operation 0: too deep\n",
-    );
-    Ok(())
 }
 
 /// `[5`, spaces and `]`: `length` bytes in all.

@@ -12,7 +12,6 @@ const RESULTS: &[Row] = &[
     ),
     ("[5]", "5", 0),
     ("[5,{}]", "{}", 0),
-    (r#"[{"a":"foo"},null]"#, "null", 0),
     (
         r#"[{"e":null},{"a":[null,{"b":null}],"z":null}]"#,
         r#"{"a":[null,{"b":null}],"e":null}"#,

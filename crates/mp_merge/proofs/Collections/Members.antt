@@ -16,19 +16,19 @@ document_of_map m is = ap document is ∙ document-Members m
 pub looked_up : {k n : List ℕ} {o : Option Doc} (es : List (String Global × Doc)) → k ≡ n → o ≡ lookup (is_at (λ l. name_cmp k (string_bytes l))) es → find n (members es) ≡ option_map document o
 looked_up {k = k} es named value = ap (λ l. find l (members es)) (sym named) ∙ find-members k es ∙ ap (option_map document) (sym value)
 
--- a value put at a name into a map as it was before
+-- a value that is put at a name, into a map as it was before
 pub members-put : {k n : List ℕ} {x : Document} {kept : BTreeMap (String Global) Doc} (old now : BTreeMap (String Global) Doc) (d : Doc) → kept ≡ old → k ≡ n → document d ≡ x
     → UpdatesBy string_cmp (λ l. name_cmp k (string_bytes l)) kept now (Some d) → members now.entries ≡ put n x (members old.entries)
 members-put {k = k} {kept = kept} old now d same named is updates = rw (← same, ← named, ← is) (members-inserted k kept now d updates)
 
 -- ---- the changes that are left
 
--- the names of the changes that are left ascend, and so holds of those changes
+-- the changes that a loop has left: their names ascend, and what `Holds` says holds of them
 pub record ChangesLeft (es : List (String Global × Doc)) (Holds : Members → Type 0) : Type 0 where
   pub ascends : IsStrictlySortedBy string_cmp (keys_of es)
   pub holds : Holds (members es)
 
--- the change p to n comes next, before those that are left
+-- the change p to the name n comes next, before those that are then left
 pub record NextChange (n : List ℕ) (p : Document) (left : List (String Global × Doc)) (Holds : Members → Type 0) : Type 0 where
   pub ascends : IsStrictlySortedBy string_cmp (keys_of left)
   pub map : IsMap (member n p (members left))
@@ -42,11 +42,11 @@ module _ {es left : List (String Global × Doc)} {name : String Global} {change 
       let first : members es ≡ member (string_bytes name) (document change) (members left) = ap members steps ∙ members-cons (name, change) left whole in
       record { ascends = whole.1; map = subst IsMap first (IsMap-members es); holds = subst Holds first there.holds }
 
-  -- what held of the change with those behind it gives what holds of those
+  -- where what holds of it and those behind it gives what is to hold of those alone
   pub pass_change : {Later : Members → Type 0} → ChangesLeft es Holds → es ≡ (name, change) ∷ left
       → (IsMap (member (string_bytes name) (document change) (members left)) → Holds (member (string_bytes name) (document change) (members left)) → Later (members left)) → ChangesLeft left Later
   pass_change there steps gives = let next = next_change there steps in record { ascends = next.ascends; holds = gives next.map next.holds }
 
--- so holds of none
+-- at the end it holds of no members
 pub no_changes : {es : List (String Global × Doc)} {Holds : Members → Type 0} → ChangesLeft es Holds → es ≡ [] → Holds no_members
 no_changes {Holds = Holds} there none = subst (λ xs. Holds (members xs)) none there.holds
