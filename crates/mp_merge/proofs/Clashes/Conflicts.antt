@@ -1,10 +1,10 @@
 -- All conflicts of two patches: they exist, they are one list, and it is what the walk over both adds.
-use Rattle.std.proofs.Common.{◌≡◌, ◌≢◌, ◌⊎◌, inl, inr, ℕ, List, [], ◌∷◌, ◌++◌, ◌+◌, ◌-◌, map, take, length, cond, false, Option, Some, None, refl, sym, ap, ap₂, ◌∙◌, subst, append_assoc, append-nil, arith}
+use Rattle.std.proofs.Common.{◌≡◌, ◌⊎◌, inl, inr, ℕ, List, [], ◌∷◌, ◌++◌, ◌+◌, ◌-◌, map, take, length, cond, false, Option, Some, None, refl, sym, ap, ap₂, ◌∙◌, subst, append_assoc, append-nil, arith}
 use Rattle.std.proofs.Math.Seq.{take-append_seam}
 use Rattle.std.proofs.lemmas.List.{length-append, map-append}
 use Rattle.std.specs.List.{Contains}
 use Rattle.mp_tree.specs.Document.{Document, null, flag, whole, string, list, object, Members, no_members, member, is_name, find, IsBelow, IsDocument, IsMap}
-use Rattle.mp_tree.specs.Look.{Path, an_object, look, look_of}
+use Rattle.mp_tree.specs.Look.{Path, look, look_of}
 use Rattle.mp_tree.proofs.Facts.{is_here, find-below, cases_same, find-here, same_plain}
 use Rattle.mp_merge.specs.Clash.{Clash, Compatible, AreAllClashes, AreConflictsOfPair}
 use Rattle.mp_merge.specs.Private.Edits.{NotBothMaps}
