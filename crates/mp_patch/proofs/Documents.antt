@@ -9,7 +9,6 @@ use Rattle.mp_pointer.specs.Spelling.{Tokens}
 use Rattle.mp_pointer.proofs.Facts.{same_numeral, equals_by_part, DifferOnlyAt-sym, DifferOnlyAt-trans, part-document, document-changed, same_last}
 use Rattle.mp_patch.specs.Operation.{AddsTo, to_map, to_list, RemovesFrom, from_map, from_list, Adds, Removes}
 
-
 -- ---- a map or a list that was changed
 
 adds-document : (v : Document) (token : List ℕ) (x y : Document) → IsDocument x → IsDocument v → AddsTo v token x y → IsDocument y

@@ -21,7 +21,6 @@ use Rattle.mp_patch.specs.declared.fault.Refusal.TheVariants.{By, OutOfMemory}
 use Rattle.mp_patch.proofs.Needs.{some_none, same_some, one_need, value_or_origin}
 use Rattle.mp_tree.proofs.Facts.{count_of-items, items-append}
 
-
 -- ---- reading
 
 pub no_pointer : (text : List ℕ) (fault : PointerFault) → tokens_in text ≡ Err fault → IsNoPointer text

@@ -17,7 +17,6 @@ use Rattle.mp_patch.proofs.Depth.{Step-depth}
 use Rattle.mp_patch.proofs.Documents.{Adds-document, Removes-document, Removes-once, same_elements, no_list_is_map, some_same}
 use Rattle.mp_patch.proofs.FirstCause.{one_first}
 
-
 -- ---- each step gives a document
 
 moved-document : (f t : Tokens) (x d e : Document) → IsDocument d → part d f ≡ Some x → ((f ≡ t) × (e ≡ d)) ⊎ ((f ≢ t) × (left : Document) × Removes f d left × Adds t x left e) → IsDocument e
