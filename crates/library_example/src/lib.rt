@@ -1,9 +1,9 @@
 //! What a program does with the library, in short: the README and `docs/REPLICAS.md` show lines of it.
 #![tactic(auto)]
 
-pub mod fault;
-pub mod receiving;
-pub mod replica;
+mod fault;
+mod receiving;
+mod replica;
 #[cfg(test)]
 mod tests;
 

@@ -58,7 +58,7 @@ impl From<AllocError> for CommandFault {
 
 /// The command that the words ask for, the program's name first.
 ///
-/// # Errors
+/// Where there is none:
 ///
 /// - `Help`: the words ask for help, as `mergejoin --help`.
 /// - `Usage`: the command line does not take the words, as `mergejoin`, `mergejoin frob` and

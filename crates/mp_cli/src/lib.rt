@@ -3,7 +3,7 @@
 #![tactic(auto)]
 
 mod answering;
-pub mod answers;
+mod answers;
 mod command;
 mod counted;
 mod help;

@@ -53,7 +53,7 @@ impl From<AllocError> for RunFault {
 /// The answer's text goes whole to `out` where its status is 0, and else to `err`, which is then
 /// flushed. A run makes at most `READ_LIMIT` reads, whatever the reader does.
 ///
-/// # Errors
+/// Where it gives no status:
 ///
 /// - `ReadFailed`: a read failed. Nothing was written.
 /// - `TooLong`: the input has more than `INPUT_LIMIT` bytes. Nothing was written.

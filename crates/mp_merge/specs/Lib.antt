@@ -2,6 +2,7 @@ pub mod Application
 pub mod Clash
 pub mod Convergence
 pub mod EditPlace
+pub mod Faults
 pub mod Join
 pub mod Laws
 pub mod Lists

@@ -1,7 +1,7 @@
 //! What a join of two patches, or of a list, can be refused for.
 ghost use Rattle.std.specs.Prelude.{◌≡◌};
 
-use mp_patch::Cause;
+use mp_patch::{ApplyFault, Cause};
 use mp_pointer::Pointer;
 use std::alloc::AllocError;
 use thiserror::Error;
@@ -68,6 +68,32 @@ pub enum ConvergeFault {
     /// Memory ran out.
     #[error("out of memory")]
     OutOfMemory,
+}
+
+impl From<ListFault> for ConvergeFault {
+    ghost use Rattle.mp_merge.specs.Faults.{told_of_list};
+
+    ghost from_gives = { λ cause fault. fault ≡ told_of_list cause };
+
+    fn from(cause: ListFault) -> ConvergeFault {
+        match cause {
+            ListFault::OutOfMemory => ConvergeFault::OutOfMemory,
+            refusal => ConvergeFault::Lists(refusal),
+        }
+    }
+}
+
+impl From<ApplyFault> for ConvergeFault {
+    ghost use Rattle.mp_merge.specs.Faults.{told_of_patch};
+
+    ghost from_gives = { λ cause fault. fault ≡ told_of_patch cause };
+
+    fn from(cause: ApplyFault) -> ConvergeFault {
+        match cause {
+            ApplyFault::Refused { op, cause } => ConvergeFault::Patch { op, cause },
+            ApplyFault::OutOfMemory => ConvergeFault::OutOfMemory,
+        }
+    }
 }
 
 impl From<AllocError> for ConvergeFault {

@@ -1,15 +1,15 @@
 //! Merge patches (RFC 7396): application, compatibility, conflict and join, with the laws that replicas of one document rest on.
 #![tactic(auto)]
 
-pub mod comparing;
-pub mod converging;
-pub mod fault;
-pub mod in_place;
-pub mod joining;
+mod comparing;
+mod converging;
+mod fault;
+mod in_place;
+mod joining;
 pub mod laws;
-pub mod lists;
-pub mod merging;
-pub mod rewriting;
+mod lists;
+mod merging;
+mod rewriting;
 
 pub use comparing::{compatible, conflict};
 pub use converging::{Converged, converge};

@@ -11,7 +11,7 @@ use Rattle.mp_pointer.proofs.Facts.{reads_spellings}
 use Rattle.mp_patch.specs.Form.{NamesOp, Need, path_alone, a_value, an_origin, HasOp, HasNoPointer, Carries, EachForm, IsForm, IsFormFault, IsNoPointer, deepest, needed_members, op_member, path_member, from_member, shape, shapes, text_at, value_depth, value_member}
 use Rattle.mp_patch.specs.Operation.{Operation, add, remove, replace, move, copy, test}
 use Rattle.mp_patch.specs.Private.Faults.{fault_of_element}
-use Rattle.mp_patch.specs.Private.Reading.{FindsNoPointer, IsMapFault, IsOpFault, IsOriginFault}
+use Rattle.mp_patch.specs.Private.Reading.{FindsNoPointer, IsMapFault, IsElementFault, IsOriginFault}
 use Rattle.mp_patch.specs.View.{operation_of, operations_of}
 use Rattle.mp_patch.specs.declared.fault.FormCause.{FormCause}
 use Rattle.mp_patch.specs.declared.fault.FormCause.TheVariants.{NotAnObject, NoOp, UnknownOp, NoPath, NoFrom, BadPointer, NoValue}
@@ -63,7 +63,7 @@ module _ (ms : Members) where
   good_pointers t has at (inl (path, there, bad)) = bad t (same_some (text_at (codes "path") d) path (spell t) there at)
   good_pointers t has at (inr (origin, bad)) = value_or_origin d has origin
 
-  pub map_fault : (fault : Refusal FormCause) → IsMapFault fault d → IsOpFault fault d
+  pub map_fault : (fault : Refusal FormCause) → IsMapFault fault d → IsElementFault fault d
   map_fault (By NotAnObject) found = absurd found
   map_fault (By NoOp) none = inr (is_object, inl (refl, none))
   map_fault (By UnknownOp) (name, at, unknown) = inr (is_object, inr (names_op name at, inl (refl, none_named name at unknown)))
@@ -82,9 +82,9 @@ module _ (ms : Members) where
   map_fault OutOfMemory found = tt
 
 pub form_of_map : (r : Result Op (Refusal FormCause)) (ms : Members) (d : Document) → d ≡ object ms → MatchResult r (λ op. Carries ms (needed_members (operation_of op))) (λ fault. IsMapFault fault (object ms))
-    → MatchResult r (λ op. IsForm d (operation_of op)) (λ fault. IsOpFault fault d)
+    → MatchResult r (λ op. IsForm d (operation_of op)) (λ fault. IsElementFault fault d)
 form_of_map (Ok op) ms d is carries = (ms, is, carries)
-form_of_map (Err fault) ms d is found = subst (IsOpFault fault) (sym is) (map_fault ms fault found)
+form_of_map (Err fault) ms d is found = subst (IsElementFault fault) (sym is) (map_fault ms fault found)
 
 EachForm-more : (docs : List Doc) (operations : List Operation) (d : Doc) (o : Operation) → EachForm (items docs) operations → IsForm (document d) o → EachForm (items (docs ++ d ∷ [])) (operations ++ o ∷ [])
 EachForm-more [] [] d o forms form = (form, tt)
@@ -99,7 +99,7 @@ form_pushed docs old new k d op less here forms form pushed =
     let grown : operations_of new ≡ operations_of old ++ operation_of op ∷ [] = ap operations_of pushed ∙ map-append operation_of old (op ∷ []) in
     subst (λ xs. EachForm (items xs) (operations_of new)) (sym longer) (subst (λ os. EachForm (items (take k docs ++ d ∷ [])) os) (sym grown) (EachForm-more (take k docs) (operations_of old) d (operation_of op) forms form))
 
-pub fault_there : (fault : Refusal FormCause) (docs : List Doc) (old : List Op) (k : ℕ) (d : Doc) → k < length docs → d ≡ get_or docs k d → EachForm (items (take k docs)) (operations_of old) → IsOpFault fault (document d)
+pub fault_there : (fault : Refusal FormCause) (docs : List Doc) (old : List Op) (k : ℕ) (d : Doc) → k < length docs → d ≡ get_or docs k d → EachForm (items (take k docs)) (operations_of old) → IsElementFault fault (document d)
     → IsFormFault (fault_of_element k fault) (list (items docs))
 fault_there OutOfMemory docs old k d less here forms faulty = tt
 fault_there (By cause) docs old k d less here forms faulty =

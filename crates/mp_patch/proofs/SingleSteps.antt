@@ -13,7 +13,7 @@ use Rattle.mp_pointer.specs.Spelling.{Tokens}
 use Rattle.mp_pointer.proofs.Facts.{child-numeral, same_last, not_empty}
 use Rattle.mp_pointer.proofs.Facts.{child-object, part-push}
 use Rattle.mp_patch.proofs.FirstCause.{unrefused}
-use Rattle.mp_patch.specs.Operation.{add, remove, replace, ChangesContainer, AddsTo, to_map, to_list, RemovesFrom, from_map, from_list, dash, NamesPlace}
+use Rattle.mp_patch.specs.Operation.{add, remove, replace, test, ChangesContainer, AddsTo, to_map, to_list, RemovesFrom, from_map, from_list, dash, NamesPlace}
 use Rattle.mp_patch.specs.Refusal.{LacksPlace, HasNoPlace, IsTooDeep, IsMissing, RefusedBy}
 use Rattle.mp_patch.specs.Run.{IsRefused}
 use Rattle.mp_patch.specs.Private.Steps.{Answers, Inserts}
@@ -21,8 +21,6 @@ use Rattle.mp_patch.specs.declared.fault.Cause.{Cause}
 use Rattle.mp_patch.specs.declared.fault.Cause.TheVariants.{IntoItself, RemoveRoot, Missing, NoPlace, TooDeep, TestFailed}
 use Rattle.mp_patch.specs.declared.fault.Refusal.{Refusal}
 use Rattle.mp_patch.specs.declared.fault.Refusal.TheVariants.{By, OutOfMemory}
-
--- ---- the last of the tokens
 
 -- ---- elements
 
@@ -110,6 +108,13 @@ some_missing d x t stood missing = differ (sym stood ∙ missing)
 
 pub replaces_freely : (d x : Document) (t : Tokens) (v : Document) → part d t ≡ Some x → length t + depth v ≤ depth_limit → ¬ IsRefused d (replace t v)
 replaces_freely d x t v stood fits = unrefused d (replace t v) (some_missing d x t stood, ((λ deep. omega (arith, deep, fits)), tt))
+
+pub removes_freely : (d x : Document) (t : Tokens) → part d t ≡ Some x → t ≢ [] → ¬ IsRefused d (remove t)
+removes_freely d x t stood deeper = unrefused d (remove t) (deeper, (some_missing d x t stood, tt))
+
+-- a test of what stands there passes
+pub tests_freely : (d x : Document) (t : Tokens) → part d t ≡ Some x → ¬ IsRefused d (test t x)
+tests_freely d x t stood = unrefused d (test t x) (some_missing d x t stood, ((λ failed. failed stood), tt))
 
 pub replaced : (r : Result (Unit {0}) (Refusal Cause)) (fits : Bool) (t : Tokens) (v d e x y : Document) → (IsTrue fits → length t + depth v ≤ depth_limit) → (length t + depth v ≤ depth_limit → IsTrue fits)
     → part d t ≡ Some x → part e t ≡ Some y → DifferOnlyAt t d e → MatchResult r (λ _. IsTrue fits × (y ≡ v)) (λ fault. IsFalse fits × (fault ≡ By TooDeep)) → Answers r d (replace t v) e

@@ -10,10 +10,6 @@ use Rattle.mp_patch.specs.Refusal.{LacksPlace, HasNoPlace}
 use Rattle.mp_tree.proofs.Facts.{decide_name, all_before, count_of-append, nth_split}
 use Rattle.mp_patch.proofs.SingleSteps.{has_place, root_place}
 
--- ---- a part can be changed
-
--- ---- the last of the tokens
-
 -- ---- a value is added where there is a place
 
 -- the elements before the index that the token spells, counted from k, and those from there on; or the token spells none up to the length

@@ -1,13 +1,13 @@
 //! JSON Patch (RFC 6902): lists of operations, their form as a document, and applying them.
 #![tactic(auto)]
 
-pub mod applying;
+mod applying;
 mod containers;
-pub mod fault;
+mod fault;
 pub mod laws;
 mod name;
-pub mod op;
-pub mod patch;
+mod op;
+mod patch;
 mod reading;
 mod serializing;
 mod steps;

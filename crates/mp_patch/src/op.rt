@@ -1,3 +1,4 @@
+//! The operations of a JSON Patch (RFC 6902 section 4).
 use mp_pointer::Pointer;
 use mp_tree::Doc;
 

@@ -6,7 +6,7 @@ ghost use Rattle.mp_tree.specs.View.{document, items};
 ghost use Rattle.mp_tree.specs.Private.Entries.{members};
 ghost use Rattle.mp_pointer.specs.Spelling.{spell};
 ghost use Rattle.mp_patch.specs.Form.{Carries, EachForm, IsFormFault, IsForm, needed_members, text_at as text_under};
-ghost use Rattle.mp_patch.specs.Private.Reading.{IsOpFault, IsMapFault, IsOriginFault, IsTextFault, IsValueFault};
+ghost use Rattle.mp_patch.specs.Private.Reading.{IsElementFault, IsMapFault, IsOriginFault, IsTextFault, IsValueFault};
 ghost use Rattle.mp_patch.specs.View.{operation_of, operations_of};
 
 use crate::fault::{FormCause, FormFault, Refusal};
@@ -41,7 +41,7 @@ pub(crate) fn read_ops(elements: &[Doc], alloc: Global) -> Result<JsonPatch, For
 
 fn read_op(element: &Doc, alloc: Global) -> Result<Op, Refusal<FormCause>>
     ensures { MatchResult result (λ op. IsForm (document element.now) (operation_of op))
-        (λ fault. IsOpFault fault (document element.now)) }
+        (λ fault. IsElementFault fault (document element.now)) }
 {
     match element {
         Doc::Members(entries) => read_members(entries, alloc),

@@ -59,8 +59,8 @@ fn send_with_value<S: Serializer>(
     alloc: Global,
     out: &mut S,
 ) -> Result<(), S::Error>
-    ensures { OnOk result (SendsValue (data_of (object (members_of
-        (op_member (name_of name) ∷ path_member path.now ∷ value_member (document value.now) ∷ []))))
+    ensures { OnOk result (SendsValue (data_of (object (members_of (op_member (name_of name)
+        ∷ path_member path.now ∷ value_member (document value.now) ∷ []))))
         (S.written out.old) (S.written out.new)) }
 {
     out.begin_map(Some(3))?;

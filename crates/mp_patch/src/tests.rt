@@ -249,7 +249,7 @@ fn depths_have_a_limit(rt: HostRuntime) -> Result<(), Fail> {
 }
 
 #[test]
-fn faults_have_texts(rt: HostRuntime) -> Result<(), Fail> {
+fn causes_of_a_refusal_have_texts(rt: HostRuntime) -> Result<(), Fail> {
     for (cause, text) in CAUSES {
         let shown = format!(in rt.alloc(); "{cause}")?;
         assert_eq!(rt; shown.as_str(), *text);
@@ -261,6 +261,11 @@ fn faults_have_texts(rt: HostRuntime) -> Result<(), Fail> {
         let shown_fault = format!(in rt.alloc(); "{fault}")?;
         assert_eq!(rt; shown_fault.as_str(), whole.as_str());
     }
+    Ok(())
+}
+
+#[test]
+fn causes_of_a_faulty_form_have_texts(rt: HostRuntime) -> Result<(), Fail> {
     for (cause, text) in FORM_CAUSES {
         let shown = format!(in rt.alloc(); "{cause}")?;
         assert_eq!(rt; shown.as_str(), *text);
@@ -272,6 +277,11 @@ fn faults_have_texts(rt: HostRuntime) -> Result<(), Fail> {
         let shown_fault = format!(in rt.alloc(); "{fault}")?;
         assert_eq!(rt; shown_fault.as_str(), whole.as_str());
     }
+    Ok(())
+}
+
+#[test]
+fn other_faults_have_texts(rt: HostRuntime) -> Result<(), Fail> {
     let not_an_array = FormFault::NotAnArray;
     assert_eq!(rt;
         format!(in rt.alloc(); "{not_an_array}")?.as_str(),

@@ -30,51 +30,51 @@ fn shape_of(op: &Op, alloc: Global) -> Result<Doc, AllocError>
     ensures { IfOk result (λ d. document d ≡ shape (operation_of op.now)) }
 {
     match op {
-        Op::Add(path, value) => with_value(alloc, OpName::Add, path, value.copy(alloc)?),
-        Op::Remove(path) => without_value(alloc, OpName::Remove, path),
-        Op::Replace(path, value) => with_value(alloc, OpName::Replace, path, value.copy(alloc)?),
-        Op::Move { origin, path } => with_origin(alloc, OpName::Move, origin, path),
-        Op::Copy { origin, path } => with_origin(alloc, OpName::Copy, origin, path),
-        Op::Test(path, value) => with_value(alloc, OpName::Test, path, value.copy(alloc)?),
+        Op::Add(path, value) => with_value(OpName::Add, path, value.copy(alloc)?, alloc),
+        Op::Remove(path) => without_value(OpName::Remove, path, alloc),
+        Op::Replace(path, value) => with_value(OpName::Replace, path, value.copy(alloc)?, alloc),
+        Op::Move { origin, path } => with_origin(OpName::Move, origin, path, alloc),
+        Op::Copy { origin, path } => with_origin(OpName::Copy, origin, path, alloc),
+        Op::Test(path, value) => with_value(OpName::Test, path, value.copy(alloc)?, alloc),
     }
 }
 
-fn with_value(alloc: Global, name: OpName, path: &Pointer, value: Doc) -> Result<Doc, AllocError>
+fn with_value(name: OpName, path: &Pointer, value: Doc, alloc: Global) -> Result<Doc, AllocError>
     ensures { IfOk result (λ d. document d ≡ object (members_of
         (op_member (name_of name) ∷ path_member path.now
         ∷ value_member (document value) ∷ []))) }
 {
-    let mut entries = common_members(alloc, name, path)?;
+    let mut entries = common_members(name, path, alloc)?;
     set(&mut entries, "value", value, alloc)?;
     Ok(Doc::Members(entries))
 }
 
-fn without_value(alloc: Global, name: OpName, path: &Pointer) -> Result<Doc, AllocError>
+fn without_value(name: OpName, path: &Pointer, alloc: Global) -> Result<Doc, AllocError>
     ensures { IfOk result (λ d. document d ≡ object (members_of
         (op_member (name_of name) ∷ path_member path.now ∷ []))) }
 {
-    Ok(Doc::Members(common_members(alloc, name, path)?))
+    Ok(Doc::Members(common_members(name, path, alloc)?))
 }
 
 fn with_origin(
-    alloc: Global,
     name: OpName,
     origin: &Pointer,
     path: &Pointer,
+    alloc: Global,
 ) -> Result<Doc, AllocError>
     ensures { IfOk result (λ d. document d ≡ object (members_of
         (op_member (name_of name) ∷ path_member path.now ∷ from_member origin.now ∷ []))) }
 {
-    let mut entries = common_members(alloc, name, path)?;
+    let mut entries = common_members(name, path, alloc)?;
     set(&mut entries, "from", Doc::Text(origin.print(alloc)?), alloc)?;
     Ok(Doc::Members(entries))
 }
 
 // The members that each operation has.
 fn common_members(
-    alloc: Global,
     name: OpName,
     path: &Pointer,
+    alloc: Global,
 ) -> Result<BTreeMap<String, Doc>, AllocError>
     ensures { IfOk result (λ m. members m.entries
         ≡ members_of (op_member (name_of name) ∷ path_member path.now ∷ [])) }

@@ -17,27 +17,31 @@ use Rattle.std.specs.Str.Parse.{AllDigits, digits_value, ParsesUnsigned}
 use Rattle.mp_tree.specs.Document.{Document, Items, no_items, item, list}
 use Rattle.mp_tree.specs.View.{document}
 use Rattle.mp_tree.specs.declared.doc.Doc.{Doc}
+use Rattle.mp_pointer.specs.Bytes.{digit_zero, digit_one}
 use Rattle.mp_pointer.specs.Laws.{NamesElements}
 use Rattle.mp_pointer.specs.Part.{numeral, element_from, child}
 use Rattle.mp_tree.specs.Elements.{count_of, nth}
 use Rattle.mp_tree.proofs.Facts.{nth_past}
+
+abbrev digit_nine : ℕ
+digit_nine = 57
 
 pub numeral-decimal : (n : ℕ) → n < 2 ^ 64 → numeral n ≡ decimal n
 unfolding numeral
 numeral-decimal zero small = sym (decimal_digit 0 (omega arith))
 numeral-decimal (suc n) small = sym (decimal-digits_of (suc n) (omega arith) small)
 
-first_glyph : (digits : List ℕ) → 0 < get_or digits 0 0 → 48 < get_or (map (λ d. 48 + d) digits) 0 0
+first_glyph : (digits : List ℕ) → 0 < get_or digits 0 0 → digit_zero < get_or (map (λ d. digit_zero + d) digits) 0 0
 first_glyph [] some = absurd (omega arith)
 first_glyph (d ∷ digits) some = omega arith
 
-same_digits : (xs ys : List ℕ) → map (λ d. 48 + d) xs ≡ map (λ d. 48 + d) ys → xs ≡ ys
+same_digits : (xs ys : List ℕ) → map (λ d. digit_zero + d) xs ≡ map (λ d. digit_zero + d) ys → xs ≡ ys
 same_digits [] [] e = refl
 same_digits [] (y ∷ ys) e = cc
 same_digits (x ∷ xs) [] e = cc
 same_digits (x ∷ xs) (y ∷ ys) e =
-    let head : 48 + x ≡ 48 + y = cc in
-    let tail : map (λ d. 48 + d) xs ≡ map (λ d. 48 + d) ys = cc in
+    let head : digit_zero + x ≡ digit_zero + y = cc in
+    let tail : map (λ d. digit_zero + d) xs ≡ map (λ d. digit_zero + d) ys = cc in
     let here : x ≡ y = omega arith in
     let later = same_digits xs ys tail in
     cc
@@ -55,11 +59,11 @@ same_numeral (suc i) (suc j) e = same_from_digits_of 10 (suc i) (suc j) (omega a
 
 -- ---- what a token that spells an index looks like
 
-first_digit : (digits : List ℕ) → AllBelowBase 10 digits → 0 < get_or digits 0 0 → (0 < length (map (λ d. 48 + d) digits)) × (48 < get_or (map (λ d. 48 + d) digits) 0 0) × (get_or (map (λ d. 48 + d) digits) 0 0 ≤ 57)
+first_digit : (digits : List ℕ) → AllBelowBase 10 digits → 0 < get_or digits 0 0 → (0 < length (map (λ d. digit_zero + d) digits)) × (digit_zero < get_or (map (λ d. digit_zero + d) digits) 0 0) × (get_or (map (λ d. digit_zero + d) digits) 0 0 ≤ digit_nine)
 first_digit [] below some = absurd (omega arith)
 first_digit (d ∷ digits) below some = (omega arith, omega arith, omega (arith, below.0))
 
-pub numeral_first : (i : ℕ) → (0 < length (numeral i)) × (48 ≤ get_or (numeral i) 0 0) × (get_or (numeral i) 0 0 ≤ 57) × (get_or (numeral i) 0 0 ≡ 48 → length (numeral i) ≡ 1)
+pub numeral_first : (i : ℕ) → (0 < length (numeral i)) × (digit_zero ≤ get_or (numeral i) 0 0) × (get_or (numeral i) 0 0 ≤ digit_nine) × (get_or (numeral i) 0 0 ≡ digit_zero → length (numeral i) ≡ 1)
 unfolding numeral
 numeral_first zero = (omega arith, omega arith, omega arith, λ _. refl)
 numeral_first (suc n) =
@@ -70,7 +74,7 @@ own : IsNumeralModel (AllDigits 10) (digits_value 10)
 own = numerals_by_value (AllDigits 10) tells_digits
 
 -- a token that begins with a digit above 0 spells what it is parsed as
-pub index_parsed : {E : Type 0} (token : List ℕ) (r : Result ℕ E) → ParsesUnsigned 64 10 token r → 49 ≤ get_or token 0 0 → get_or token 0 0 ≤ 57
+pub index_parsed : {E : Type 0} (token : List ℕ) (r : Result ℕ E) → ParsesUnsigned 64 10 token r → digit_one ≤ get_or token 0 0 → get_or token 0 0 ≤ digit_nine
     → MatchOption (result_ok r) ((i : ℕ) → token ≡ numeral i → 2 ^ 64 ≤ i) (λ i. token ≡ numeral i)
 index_parsed {E} token (Ok i) parses low high =
     let p = parse_plain own {E = E} 64 token (Ok i) parses (λ plus. omega arith) in
@@ -83,21 +87,21 @@ index_parsed {E} token (Err e) parses low high = λ i is.
     p (subst (AllDigits 10) (sym written) (digits_decimal own i small), omega (arith, high_enough token low), subst (λ n. n < 2 ^ 64) (sym (ap (digits_value 10) written ∙ digits_value-decimal own i small)) small) in
     omega (arith, too_large)
   where
-    high_enough : (xs : List ℕ) → 49 ≤ get_or xs 0 0 → 0 < length xs
+    high_enough : (xs : List ℕ) → digit_one ≤ get_or xs 0 0 → 0 < length xs
     high_enough [] low = absurd (omega arith)
     high_enough (x ∷ xs) low = omega arith
 
 -- a token that begins with no digit above 0, and is not `0`, spells no index
-pub no_index : (token : List ℕ) → ((49 ≤ get_or token 0 0) × (get_or token 0 0 ≤ 57) → ⊥) → token ≢ 48 ∷ [] → (i : ℕ) → token ≢ numeral i
+pub no_index : (token : List ℕ) → ((digit_one ≤ get_or token 0 0) × (get_or token 0 0 ≤ digit_nine) → ⊥) → token ≢ digit_zero ∷ [] → (i : ℕ) → token ≢ numeral i
 no_index token no_digit no_zero i is =
-    let f = subst (λ n. (0 < length n) × (48 ≤ get_or n 0 0) × (get_or n 0 0 ≤ 57) × (get_or n 0 0 ≡ 48 → length n ≡ 1)) (sym is) (numeral_first i) in
-    let first : get_or token 0 0 ≡ 48 = at_least (get_or token 0 0) f.1 (λ above. no_digit (above, f.2)) in
+    let f = subst (λ n. (0 < length n) × (digit_zero ≤ get_or n 0 0) × (get_or n 0 0 ≤ digit_nine) × (get_or n 0 0 ≡ digit_zero → length n ≡ 1)) (sym is) (numeral_first i) in
+    let first : get_or token 0 0 ≡ digit_zero = at_least (get_or token 0 0) f.1 (λ above. no_digit (above, f.2)) in
     no_zero (alone token first (f.3 first))
   where
-    at_least : (x : ℕ) → 48 ≤ x → (49 ≤ x → ⊥) → x ≡ 48
+    at_least : (x : ℕ) → digit_zero ≤ x → (digit_one ≤ x → ⊥) → x ≡ digit_zero
     at_least x low high = omega (arith, high)
 
-    alone : (xs : List ℕ) → get_or xs 0 0 ≡ 48 → length xs ≡ 1 → xs ≡ 48 ∷ []
+    alone : (xs : List ℕ) → get_or xs 0 0 ≡ digit_zero → length xs ≡ 1 → xs ≡ digit_zero ∷ []
     alone [] first one = absurd (omega arith)
     alone (x ∷ []) first one = ap (λ y. y ∷ []) first
     alone (x ∷ y ∷ xs) first one = absurd (omega arith)

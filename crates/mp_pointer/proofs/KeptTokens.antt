@@ -7,6 +7,7 @@ use Rattle.std.proofs.lemmas.Option.{slice_get_past}
 use Rattle.std.proofs.lemmas.Str.{IsUtf8-append, IsUtf8-nil, IsUtf8-from_ascii, IsCharBoundary-from_drop}
 use Rattle.std.specs.List.{slice_get, slice_range}
 use Rattle.std.specs.Str.{IsUtf8, IsCharBoundary}
+use Rattle.mp_pointer.specs.Bytes.{slash}
 use Rattle.mp_pointer.specs.Cuts.{cut, AreCuts, EachPlain, IsPlain}
 use Rattle.mp_pointer.specs.Spelling.{spell}
 use Rattle.mp_pointer.proofs.Spellings.{escape-plain}
@@ -24,9 +25,9 @@ part_of_take xs most start end rise below within =
     ∙ ap (λ ys. slice_range ys start end) (take-append-drop most xs)
 
 -- a part with its slash, of another text that has it too
-same_part : (xs ys : List ℕ) (start end : ℕ) → ((from : ℕ) → from ≤ end → slice_range ys from end ≡ slice_range xs from end) → start < end → slice_range xs start end ≡ 47 ∷ slice_range xs (suc start) end
-    → slice_range ys start end ≡ 47 ∷ slice_range ys (suc start) end
-same_part xs ys start end same rise is = same start (omega arith) ∙ is ∙ ap (λ t. 47 ∷ t) (sym (same (suc start) (omega arith)))
+same_part : (xs ys : List ℕ) (start end : ℕ) → ((from : ℕ) → from ≤ end → slice_range ys from end ≡ slice_range xs from end) → start < end → slice_range xs start end ≡ slash ∷ slice_range xs (suc start) end
+    → slice_range ys start end ≡ slash ∷ slice_range ys (suc start) end
+same_part xs ys start end same rise is = same start (omega arith) ∙ is ∙ ap (λ t. slash ∷ t) (sym (same (suc start) (omega arith)))
 
 -- ---- where the cuts are
 
@@ -39,10 +40,10 @@ cuts_rise start ends bytes zero cuts within = omega arith
 cuts_rise start [] bytes (suc n) cuts within = omega (arith, within)
 cuts_rise start (end ∷ ends) bytes (suc n) cuts within = omega (arith, cuts.0, cuts_rise end ends bytes n cuts.3 (omega arith))
 
-slash_is_text : IsUtf8 (47 ∷ [])
-slash_is_text = IsUtf8-from_ascii (47 ∷ []) low
+slash_is_text : IsUtf8 (slash ∷ [])
+slash_is_text = IsUtf8-from_ascii (slash ∷ []) low
   where
-    low : (i : ℕ) → get_or (47 ∷ []) i 0 < 128
+    low : (i : ℕ) → get_or (slash ∷ []) i 0 < 128
     low zero = omega arith
     low (suc i) = omega arith
 
@@ -50,7 +51,7 @@ rest_is_text : (start : ℕ) (ends bytes : List ℕ) → AreCuts start ends byte
 rest_is_text start [] bytes cuts = subst IsUtf8 (sym (ap (λ n. drop n bytes) cuts ∙ drop-length bytes)) IsUtf8-nil
 rest_is_text start (end ∷ ends) bytes cuts =
     subst IsUtf8 (sym (drop_split bytes start end (omega (arith, cuts.0))))
-    (IsUtf8-append _ _ (subst IsUtf8 (sym cuts.1) (IsUtf8-append (47 ∷ []) _ slash_is_text cuts.2)) (rest_is_text end ends bytes cuts.3))
+    (IsUtf8-append _ _ (subst IsUtf8 (sym cuts.1) (IsUtf8-append (slash ∷ []) _ slash_is_text cuts.2)) (rest_is_text end ends bytes cuts.3))
 
 -- what follows the first n ends
 cuts_after : (start : ℕ) (ends bytes : List ℕ) (n : ℕ) → AreCuts start ends bytes → n ≤ length ends → AreCuts (get_or (start ∷ ends) n 0) (drop n ends) bytes
@@ -100,28 +101,28 @@ last_part start bytes more is =
     ∙ ap (take (length (bytes ++ more) - length bytes)) (drop-append_seam bytes more)
     ∙ take_all (length (bytes ++ more) - length bytes) more (omega (arith, length-append bytes more))
 
-last_token : (start : ℕ) (bytes token : List ℕ) → start ≡ length bytes → slice_range (bytes ++ 47 ∷ token) (suc start) (length (bytes ++ 47 ∷ token)) ≡ token
+last_token : (start : ℕ) (bytes token : List ℕ) → start ≡ length bytes → slice_range (bytes ++ slash ∷ token) (suc start) (length (bytes ++ slash ∷ token)) ≡ token
 last_token start bytes token is =
-    let all : bytes ++ 47 ∷ token ≡ (bytes ++ 47 ∷ []) ++ token = sym (append_assoc bytes (47 ∷ []) token) in
-    ap (λ xs. slice_range xs (suc start) (length xs)) all ∙ last_part (suc start) (bytes ++ 47 ∷ []) token (omega (arith, is, length-append bytes (47 ∷ [])))
+    let all : bytes ++ slash ∷ token ≡ (bytes ++ slash ∷ []) ++ token = sym (append_assoc bytes (slash ∷ []) token) in
+    ap (λ xs. slice_range xs (suc start) (length xs)) all ∙ last_part (suc start) (bytes ++ slash ∷ []) token (omega (arith, is, length-append bytes (slash ∷ [])))
 
-pub cut-push : (start : ℕ) (ends bytes token : List ℕ) → AreCuts start ends bytes → cut start (ends ++ length (bytes ++ 47 ∷ token) ∷ []) (bytes ++ 47 ∷ token) ≡ cut start ends bytes ++ token ∷ []
+pub cut-push : (start : ℕ) (ends bytes token : List ℕ) → AreCuts start ends bytes → cut start (ends ++ length (bytes ++ slash ∷ token) ∷ []) (bytes ++ slash ∷ token) ≡ cut start ends bytes ++ token ∷ []
 cut-push start [] bytes token cuts = ap (λ t. t ∷ []) (last_token start bytes token cuts)
 cut-push start (end ∷ ends) bytes token cuts =
-    ap₂ (λ t ts. t ∷ ts) (part_of_front bytes (47 ∷ token) (suc start) end (omega (arith, cuts.0)) (cuts_within end ends bytes cuts.3)) (cut-push end ends bytes token cuts.3)
+    ap₂ (λ t ts. t ∷ ts) (part_of_front bytes (slash ∷ token) (suc start) end (omega (arith, cuts.0)) (cuts_within end ends bytes cuts.3)) (cut-push end ends bytes token cuts.3)
 
-pub AreCuts-push : (start : ℕ) (ends bytes token : List ℕ) → IsUtf8 token → AreCuts start ends bytes → AreCuts start (ends ++ length (bytes ++ 47 ∷ token) ∷ []) (bytes ++ 47 ∷ token)
+pub AreCuts-push : (start : ℕ) (ends bytes token : List ℕ) → IsUtf8 token → AreCuts start ends bytes → AreCuts start (ends ++ length (bytes ++ slash ∷ token) ∷ []) (bytes ++ slash ∷ token)
 AreCuts-push start [] bytes token is_text cuts = (
-  omega (arith, cuts, length-append bytes (47 ∷ token)),
-  last_part start bytes (47 ∷ token) cuts ∙ ap (λ t. 47 ∷ t) (sym (last_token start bytes token cuts)),
+  omega (arith, cuts, length-append bytes (slash ∷ token)),
+  last_part start bytes (slash ∷ token) cuts ∙ ap (λ t. slash ∷ t) (sym (last_token start bytes token cuts)),
   subst IsUtf8 (sym (last_token start bytes token cuts)) is_text,
   refl,
 )
 AreCuts-push start (end ∷ ends) bytes token is_text cuts =
     let within = cuts_within end ends bytes cuts.3 in (
       cuts.0,
-      same_part bytes (bytes ++ 47 ∷ token) start end (λ from below. part_of_front bytes (47 ∷ token) from end below within) cuts.0 cuts.1,
-      subst IsUtf8 (sym (part_of_front bytes (47 ∷ token) (suc start) end (omega (arith, cuts.0)) within)) cuts.2,
+      same_part bytes (bytes ++ slash ∷ token) start end (λ from below. part_of_front bytes (slash ∷ token) from end below within) cuts.0 cuts.1,
+      subst IsUtf8 (sym (part_of_front bytes (slash ∷ token) (suc start) end (omega (arith, cuts.0)) within)) cuts.2,
       AreCuts-push end ends bytes token is_text cuts.3,
     )
 
@@ -163,4 +164,4 @@ text_is_spelling start [] bytes cuts each = ap (λ n. drop n bytes) cuts ∙ dro
 text_is_spelling start (end ∷ ends) bytes cuts each =
     let token = slice_range bytes (suc start) end in
     drop_split bytes start end (omega (arith, cuts.0))
-    ∙ ap₂ (λ xs ys. xs ++ ys) (cuts.1 ∙ ap (λ t. 47 ∷ t) (sym (escape-plain token (λ k less. (each.0 k less).1) (λ k less. (each.0 k less).0)))) (text_is_spelling end ends bytes cuts.3 each.1)
+    ∙ ap₂ (λ xs ys. xs ++ ys) (cuts.1 ∙ ap (λ t. slash ∷ t) (sym (escape-plain token (λ k less. (each.0 k less).1) (λ k less. (each.0 k less).0)))) (text_is_spelling end ends bytes cuts.3 each.1)

@@ -2,6 +2,7 @@
 use Rattle.std.proofs.Common.{◌≡◌, ◌≢◌, ℕ, zero, suc, ◌+◌, ◌<◌, List, [], ◌∷◌, ◌++◌, length, get_or, map, Bool, true, false, cond, eqb, Option, None, Some, option_map, Result, Ok, Err, refl, sym, ap, ap₂, ◌∙◌, subst, arith, append_assoc, append-nil, ne_eqb, eqb-true, eq-eqb, true≢false}
 use Rattle.std.proofs.lemmas.List.Concat.{flat_map-append}
 use Rattle.std.proofs.lemmas.Bool.Decides.{nat_tests}
+use Rattle.mp_pointer.specs.Bytes.{slash, tilde, digit_zero, digit_one}
 use Rattle.mp_pointer.specs.Laws.{HasOneSpelling, ReadsSpellings, RefusesFaults}
 use Rattle.mp_pointer.specs.Spelling.{Tokens, escaped_byte, escape, spell, LacksSlash, IsBadTilde, IsFirstBadTilde, IsFaultOf, unescape, on_first, parts_of, starts_badly, first_bad_tilde, unless_bad, tokens_in}
 use Rattle.mp_pointer.specs.declared.fault.PointerFault.{PointerFault}
@@ -25,18 +26,18 @@ pub Lacks-after : (c y : ℕ) (xs ys : List ℕ) → Lacks c (xs ++ y ∷ ys) �
 Lacks-after c y xs ys lacks = λ k below. Lacks-back c xs (y ∷ ys) lacks (suc k) (omega arith)
 
 -- a byte is `~`, `/` or another
-cases_byte : (P : ℕ → Type 0) (c : ℕ) → P 126 → P 47 → (c ≢ 126 → c ≢ 47 → P c) → P c
-cases_byte P c tilde slash other = split (eqb c 126) (eqb c 47) refl refl
+cases_byte : (P : ℕ → Type 0) (c : ℕ) → P tilde → P slash → (c ≢ tilde → c ≢ slash → P c) → P c
+cases_byte P c at_tilde at_slash other = split (eqb c tilde) (eqb c slash) refl refl
   where
-    split : (a b : Bool) → eqb c 126 ≡ a → eqb c 47 ≡ b → P c
-    split true b is_tilde e = subst P (sym (eqb-true c 126 is_tilde)) tilde
-    split false true e is_slash = subst P (sym (eqb-true c 47 is_slash)) slash
+    split : (a b : Bool) → eqb c tilde ≡ a → eqb c slash ≡ b → P c
+    split true b is_tilde e = subst P (sym (eqb-true c tilde is_tilde)) at_tilde
+    split false true e is_slash = subst P (sym (eqb-true c slash is_slash)) at_slash
     split false false no_tilde no_slash = other (grind (arith, nat_tests)) (grind (arith, nat_tests))
 
-escaped_byte-plain : (c : ℕ) → c ≢ 126 → c ≢ 47 → escaped_byte c ≡ c ∷ []
-escaped_byte-plain c no_tilde no_slash = rw (ne_eqb c 126 no_tilde, ne_eqb c 47 no_slash)
+escaped_byte-plain : (c : ℕ) → c ≢ tilde → c ≢ slash → escaped_byte c ≡ c ∷ []
+escaped_byte-plain c no_tilde no_slash = rw (ne_eqb c tilde no_tilde, ne_eqb c slash no_slash)
 
-pub escape-plain : (xs : List ℕ) → Lacks 47 xs → Lacks 126 xs → escape xs ≡ xs
+pub escape-plain : (xs : List ℕ) → Lacks slash xs → Lacks tilde xs → escape xs ≡ xs
 escape-plain [] no_slash no_tilde = refl
 escape-plain (x ∷ xs) no_slash no_tilde =
     ap₂ (λ a b. a ++ b) (escaped_byte-plain x (no_tilde 0 (omega arith)) (no_slash 0 (omega arith)))
@@ -51,16 +52,16 @@ escape_step c now before plain rest more all now_is rest_is so_far =
     ∙ ap (λ xs. before ++ xs) (sym (ap escape rest_is ∙ flat_map-append escaped_byte plain (c ∷ more))) ∙ so_far
 
 -- a part is taken as it is, and then the byte that the escape after it stands for
-pub unescape_step : (c d : ℕ) (now before plain rest more all : List ℕ) → escaped_byte c ≡ 126 ∷ d ∷ [] → now ≡ (before ++ plain) ++ c ∷ [] → rest ≡ plain ++ 126 ∷ d ∷ more → Lacks 47 plain → Lacks 126 plain → escape before ++ rest ≡ all
+pub unescape_step : (c d : ℕ) (now before plain rest more all : List ℕ) → escaped_byte c ≡ tilde ∷ d ∷ [] → now ≡ (before ++ plain) ++ c ∷ [] → rest ≡ plain ++ tilde ∷ d ∷ more → Lacks slash plain → Lacks tilde plain → escape before ++ rest ≡ all
     → escape now ++ more ≡ all
 unescape_step c d now before plain rest more all written now_is rest_is no_slash no_tilde so_far =
     let front : escape (before ++ plain) ≡ escape before ++ plain = flat_map-append escaped_byte before plain ∙ ap (λ xs. escape before ++ xs) (escape-plain plain no_slash no_tilde) in
-    let whole : escape now ≡ (escape before ++ plain) ++ 126 ∷ d ∷ [] = ap escape now_is ∙ flat_map-append escaped_byte (before ++ plain) (c ∷ []) ∙ ap₂ (λ a b. a ++ (b ++ [])) front written in
-    ap (λ xs. xs ++ more) whole ∙ append_assoc (escape before ++ plain) (126 ∷ d ∷ []) more ∙ append_assoc (escape before) plain (126 ∷ d ∷ more) ∙ ap (λ xs. escape before ++ xs) (sym rest_is) ∙ so_far
+    let whole : escape now ≡ (escape before ++ plain) ++ tilde ∷ d ∷ [] = ap escape now_is ∙ flat_map-append escaped_byte (before ++ plain) (c ∷ []) ∙ ap₂ (λ a b. a ++ (b ++ [])) front written in
+    ap (λ xs. xs ++ more) whole ∙ append_assoc (escape before ++ plain) (tilde ∷ d ∷ []) more ∙ append_assoc (escape before) plain (tilde ∷ d ∷ more) ∙ ap (λ xs. escape before ++ xs) (sym rest_is) ∙ so_far
 
 -- one more token
-pub spell-push : (before : Tokens) (token part : List ℕ) → escape token ≡ part → spell (before ++ token ∷ []) ≡ spell before ++ 47 ∷ part
-spell-push before token part is = flat_map-append (λ t. 47 ∷ escape t) before (token ∷ []) ∙ ap (λ xs. spell before ++ 47 ∷ xs) (append-nil (escape token) ∙ is)
+pub spell-push : (before : Tokens) (token part : List ℕ) → escape token ≡ part → spell (before ++ token ∷ []) ≡ spell before ++ slash ∷ part
+spell-push before token part is = flat_map-append (λ t. slash ∷ escape t) before (token ∷ []) ∙ ap (λ xs. spell before ++ slash ∷ xs) (append-nil (escape token) ∙ is)
 
 -- ---- a `~` that no `0` and no `1` follows
 
@@ -83,23 +84,23 @@ pub first_bad-after : (xs : List ℕ) (y : ℕ) (ys : List ℕ) → first_bad_ti
 first_bad-after xs y ys none = (first_bad-cons y ys (first_bad-back xs (y ∷ ys) none)).1
 
 -- a `/` escapes nothing
-pub first_bad-front : (xs ys : List ℕ) → first_bad_tilde (xs ++ 47 ∷ ys) ≡ None → first_bad_tilde xs ≡ None
+pub first_bad-front : (xs ys : List ℕ) → first_bad_tilde (xs ++ slash ∷ ys) ≡ None → first_bad_tilde xs ≡ None
 first_bad-front [] ys none = refl
-first_bad-front (c ∷ []) ys none = let p = first_bad-cons c (47 ∷ ys) none in rw (p.0)
+first_bad-front (c ∷ []) ys none = let p = first_bad-cons c (slash ∷ ys) none in rw (p.0)
 first_bad-front (c ∷ d ∷ xs) ys none =
-    let p = first_bad-cons c (d ∷ (xs ++ 47 ∷ ys)) none in
+    let p = first_bad-cons c (d ∷ (xs ++ slash ∷ ys)) none in
     let good : starts_badly c (d ∷ xs) ≡ false = p.0 in
     rw good (ap (option_map suc) (first_bad-front (d ∷ xs) ys p.1))
 
 -- what follows a `~`
-pub escape_follows : (plain after : List ℕ) → first_bad_tilde (plain ++ 126 ∷ after) ≡ None → ((more : List ℕ) → after ≢ 48 ∷ more) → ((more : List ℕ) → after ≢ 49 ∷ more) → ⊥
-escape_follows plain after none not_zero not_one = follows after ((first_bad-cons 126 after (first_bad-back plain (126 ∷ after) none)).0) not_zero not_one
+pub escape_follows : (plain after : List ℕ) → first_bad_tilde (plain ++ tilde ∷ after) ≡ None → ((more : List ℕ) → after ≢ digit_zero ∷ more) → ((more : List ℕ) → after ≢ digit_one ∷ more) → ⊥
+escape_follows plain after none not_zero not_one = follows after ((first_bad-cons tilde after (first_bad-back plain (tilde ∷ after) none)).0) not_zero not_one
   where
-    follows : (after : List ℕ) → starts_badly 126 after ≡ false → ((more : List ℕ) → after ≢ 48 ∷ more) → ((more : List ℕ) → after ≢ 49 ∷ more) → ⊥
+    follows : (after : List ℕ) → starts_badly tilde after ≡ false → ((more : List ℕ) → after ≢ digit_zero ∷ more) → ((more : List ℕ) → after ≢ digit_one ∷ more) → ⊥
     follows [] good not_zero not_one = cc
     follows (d ∷ more) good not_zero not_one =
-        let no_zero : d ≢ 48 = λ e. not_zero more (ap (λ x. x ∷ more) e) in
-        let no_one : d ≢ 49 = λ e. not_one more (ap (λ x. x ∷ more) e) in
+        let no_zero : d ≢ digit_zero = λ e. not_zero more (ap (λ x. x ∷ more) e) in
+        let no_one : d ≢ digit_one = λ e. not_one more (ap (λ x. x ∷ more) e) in
         grind (arith, nat_tests)
 
 bad_from_test : (c : ℕ) (rest : List ℕ) → starts_badly c rest ≡ true → IsBadTilde (c ∷ rest) 0
@@ -160,7 +161,7 @@ first_bad-found (c ∷ rest) n e = split (starts_badly c rest) (first_bad_tilde 
 first_bad-escaped : (c : ℕ) (rest : List ℕ) → first_bad_tilde rest ≡ None → first_bad_tilde (escaped_byte c ++ rest) ≡ None
 first_bad-escaped c rest none =
     cases_byte (λ c. first_bad_tilde (escaped_byte c ++ rest) ≡ None) c (rw none) (rw none)
-    (λ no_tilde no_slash. rw (escaped_byte-plain c no_tilde no_slash, ne_eqb c 126 no_tilde) (rw none))
+    (λ no_tilde no_slash. rw (escaped_byte-plain c no_tilde no_slash, ne_eqb c tilde no_tilde) (rw none))
 
 first_bad-escape : (token rest : List ℕ) → first_bad_tilde rest ≡ None → first_bad_tilde (escape token ++ rest) ≡ None
 first_bad-escape [] rest none = none
@@ -173,7 +174,7 @@ first_bad-spell (token ∷ t) = ap (option_map suc) (first_bad-escape token (spe
 parts_of-escaped : (c : ℕ) (rest part : List ℕ) (parts : Tokens) → parts_of rest ≡ part ∷ parts → parts_of (escaped_byte c ++ rest) ≡ (escaped_byte c ++ part) ∷ parts
 parts_of-escaped c rest part parts is =
     cases_byte (λ c. parts_of (escaped_byte c ++ rest) ≡ (escaped_byte c ++ part) ∷ parts) c (rw is) (rw is)
-    (λ no_tilde no_slash. rw (escaped_byte-plain c no_tilde no_slash, ne_eqb c 47 no_slash) (rw is))
+    (λ no_tilde no_slash. rw (escaped_byte-plain c no_tilde no_slash, ne_eqb c slash no_slash) (rw is))
 
 parts_of-escape : (token rest part : List ℕ) (parts : Tokens) → parts_of rest ≡ part ∷ parts → parts_of (escape token ++ rest) ≡ (escape token ++ part) ∷ parts
 parts_of-escape [] rest part parts is = is
@@ -187,9 +188,9 @@ parts_of-spell token (next ∷ t) =
     let later : parts_of (spell (next ∷ t)) ≡ [] ∷ escape next ∷ map escape t = ap (λ ps. [] ∷ ps) (parts_of-spell next t) in
     parts_of-escape token (spell (next ∷ t)) [] (escape next ∷ map escape t) later ∙ ap (λ xs. xs ∷ escape next ∷ map escape t) (append-nil (escape token))
 
-unescape-plain : (c : ℕ) (rest : List ℕ) → c ≢ 126 → unescape (c ∷ rest) ≡ c ∷ unescape rest
+unescape-plain : (c : ℕ) (rest : List ℕ) → c ≢ tilde → unescape (c ∷ rest) ≡ c ∷ unescape rest
 unescape-plain c [] no_tilde = refl
-unescape-plain c (d ∷ rest) no_tilde = rw (ne_eqb c 126 no_tilde)
+unescape-plain c (d ∷ rest) no_tilde = rw (ne_eqb c tilde no_tilde)
 
 unescape-escaped : (c : ℕ) (rest : List ℕ) → unescape (escaped_byte c ++ rest) ≡ c ∷ unescape rest
 unescape-escaped c rest =
@@ -211,79 +212,79 @@ tokens_in-spell (token ∷ t) = ap₂ unless_bad (first_bad-spell (token ∷ t))
 
 -- ---- the faults
 
-pub lacks_slash : (text : List ℕ) → text ≢ [] → ((rest : List ℕ) → text ≢ 47 ∷ rest) → LacksSlash text
+pub lacks_slash : (text : List ℕ) → text ≢ [] → ((rest : List ℕ) → text ≢ slash ∷ rest) → LacksSlash text
 lacks_slash [] some no_slash = absurd (some refl)
 lacks_slash (c ∷ rest) some no_slash = (some, λ e. no_slash rest (ap (λ x. x ∷ rest) e))
 
 pub tokens_in-no_slash : (text : List ℕ) → LacksSlash text → tokens_in text ≡ Err NoSlash
 unfolding tokens_in
 tokens_in-no_slash [] lacks = absurd (lacks.0 refl)
-tokens_in-no_slash (c ∷ rest) lacks = rw (ne_eqb c 47 lacks.1)
+tokens_in-no_slash (c ∷ rest) lacks = rw (ne_eqb c slash lacks.1)
 
-pub tokens_in-bad_tilde : (rest : List ℕ) (offset : ℕ) → IsFirstBadTilde (47 ∷ rest) offset → tokens_in (47 ∷ rest) ≡ Err (BadTilde offset)
+pub tokens_in-bad_tilde : (rest : List ℕ) (offset : ℕ) → IsFirstBadTilde (slash ∷ rest) offset → tokens_in (slash ∷ rest) ≡ Err (BadTilde offset)
 unfolding tokens_in
-tokens_in-bad_tilde rest offset first = ap (λ o. unless_bad o (map unescape (parts_of rest))) (first_bad-some (47 ∷ rest) offset first)
+tokens_in-bad_tilde rest offset first = ap (λ o. unless_bad o (map unescape (parts_of rest))) (first_bad-some (slash ∷ rest) offset first)
 
 refused_from_fault : (text : List ℕ) (fault : PointerFault) → fault ≢ OutOfMemory → IsFaultOf fault text → tokens_in text ≡ Err fault
 refused_from_fault text NoSlash known holds = tokens_in-no_slash text holds
 refused_from_fault [] (BadTilde offset) known holds = absurd (omega (arith, holds.0))
 refused_from_fault (c ∷ rest) (BadTilde offset) known holds =
-    let slash : c ∷ rest ≡ 47 ∷ rest = ap (λ x. x ∷ rest) holds.0 in
-    ap tokens_in slash ∙ tokens_in-bad_tilde rest offset (subst (λ xs. IsFirstBadTilde xs offset) slash holds.1)
+    let whole : c ∷ rest ≡ slash ∷ rest = ap (λ x. x ∷ rest) holds.0 in
+    ap tokens_in whole ∙ tokens_in-bad_tilde rest offset (subst (λ xs. IsFirstBadTilde xs offset) whole holds.1)
 refused_from_fault text OutOfMemory known holds = absurd (known refl)
 
 fault_from_refused : (text : List ℕ) (fault : PointerFault) → tokens_in text ≡ Err fault → (fault ≢ OutOfMemory) × IsFaultOf fault text
 unfolding tokens_in
 fault_from_refused [] fault e = cc
-fault_from_refused (c ∷ rest) fault e = split (eqb c 47) refl (first_bad_tilde (c ∷ rest)) refl fault e
+fault_from_refused (c ∷ rest) fault e = split (eqb c slash) refl (first_bad_tilde (c ∷ rest)) refl fault e
   where
-    split : (b : Bool) → eqb c 47 ≡ b → (o : Option ℕ) → first_bad_tilde (c ∷ rest) ≡ o → (fault : PointerFault) → cond b (unless_bad o (map unescape (parts_of rest))) (Err NoSlash) ≡ Err fault → (fault ≢ OutOfMemory) × IsFaultOf fault (c ∷ rest)
-    split true slash None is fault e = cc
-    split true slash (Some offset) is fault e =
+    split : (b : Bool) → eqb c slash ≡ b → (o : Option ℕ) → first_bad_tilde (c ∷ rest) ≡ o → (fault : PointerFault) → cond b (unless_bad o (map unescape (parts_of rest))) (Err NoSlash) ≡ Err fault → (fault ≢ OutOfMemory) × IsFaultOf fault (c ∷ rest)
+    split true is_slash None is fault e = cc
+    split true is_slash (Some offset) is fault e =
         let found : BadTilde offset ≡ fault = cc in
-        subst (λ f. (f ≢ OutOfMemory) × IsFaultOf f (c ∷ rest)) found ((λ same. cc), (eqb-true c 47 slash, first_bad-found (c ∷ rest) offset is))
+        subst (λ f. (f ≢ OutOfMemory) × IsFaultOf f (c ∷ rest)) found ((λ same. cc), (eqb-true c slash is_slash, first_bad-found (c ∷ rest) offset is))
     split false other o is fault e =
         let found : NoSlash ≡ fault = cc in
-        subst (λ f. (f ≢ OutOfMemory) × IsFaultOf f (c ∷ rest)) found ((λ same. cc), ((λ none. cc), λ is. true≢false (sym (eq-eqb c 47 is) ∙ other)))
+        subst (λ f. (f ≢ OutOfMemory) × IsFaultOf f (c ∷ rest)) found ((λ same. cc), ((λ none. cc), λ is. true≢false (sym (eq-eqb c slash is) ∙ other)))
 
 -- ---- what is read is a spelling
 
 parts_of-some : (rest : List ℕ) → (part : List ℕ) × (parts : Tokens) × (parts_of rest ≡ part ∷ parts)
 parts_of-some [] = ([], [], refl)
-parts_of-some (c ∷ rest) = let (part, parts, is) = parts_of-some rest in split (eqb c 47) part parts is
+parts_of-some (c ∷ rest) = let (part, parts, is) = parts_of-some rest in split (eqb c slash) part parts is
   where
     split : (b : Bool) (part : List ℕ) (parts : Tokens) → parts_of rest ≡ part ∷ parts → (p : List ℕ) × (ps : Tokens) × (cond b ([] ∷ parts_of rest) (on_first c (parts_of rest)) ≡ p ∷ ps)
     split true part parts is = ([], parts_of rest, refl)
     split false part parts is = (c ∷ part, parts, ap (on_first c) is)
 
 abbrev Respells : List ℕ → Type 0
-Respells rest = spell (map unescape (parts_of rest)) ≡ 47 ∷ rest
+Respells rest = spell (map unescape (parts_of rest)) ≡ slash ∷ rest
 
 -- one more byte that is written as it is
-respell-plain : (c : ℕ) (rest : List ℕ) → c ≢ 126 → c ≢ 47 → Respells rest → Respells (c ∷ rest)
+respell-plain : (c : ℕ) (rest : List ℕ) → c ≢ tilde → c ≢ slash → Respells rest → Respells (c ∷ rest)
 respell-plain c rest no_tilde no_slash again =
     let (part, parts, is) = parts_of-some rest in
-    let later : 47 ∷ (escape (unescape part) ++ spell (map unescape parts)) ≡ 47 ∷ rest = ap (λ ps. spell (map unescape ps)) (sym is) ∙ again in
+    let later : slash ∷ (escape (unescape part) ++ spell (map unescape parts)) ≡ slash ∷ rest = ap (λ ps. spell (map unescape ps)) (sym is) ∙ again in
     let tail : escape (unescape part) ++ spell (map unescape parts) ≡ rest = cc in
     let first : escape (unescape (c ∷ part)) ≡ c ∷ escape (unescape part) = ap escape (unescape-plain c part no_tilde) ∙ ap (λ xs. xs ++ escape (unescape part)) (escaped_byte-plain c no_tilde no_slash) in
-    rw (ne_eqb c 47 no_slash, is) (ap (λ xs. 47 ∷ (xs ++ spell (map unescape parts))) first ∙ ap (λ xs. 47 ∷ c ∷ xs) tail)
+    rw (ne_eqb c slash no_slash, is) (ap (λ xs. slash ∷ (xs ++ spell (map unescape parts))) first ∙ ap (λ xs. slash ∷ c ∷ xs) tail)
 
 -- one more escape
-respell-escape : (c d : ℕ) (rest : List ℕ) → escaped_byte c ≡ 126 ∷ d ∷ [] → d ≢ 47 → ((part : List ℕ) → unescape (126 ∷ d ∷ part) ≡ c ∷ unescape part) → Respells rest → Respells (126 ∷ d ∷ rest)
+respell-escape : (c d : ℕ) (rest : List ℕ) → escaped_byte c ≡ tilde ∷ d ∷ [] → d ≢ slash → ((part : List ℕ) → unescape (tilde ∷ d ∷ part) ≡ c ∷ unescape part) → Respells rest → Respells (tilde ∷ d ∷ rest)
 respell-escape c d rest written no_slash read again =
     let (part, parts, is) = parts_of-some rest in
-    let later : 47 ∷ (escape (unescape part) ++ spell (map unescape parts)) ≡ 47 ∷ rest = ap (λ ps. spell (map unescape ps)) (sym is) ∙ again in
+    let later : slash ∷ (escape (unescape part) ++ spell (map unescape parts)) ≡ slash ∷ rest = ap (λ ps. spell (map unescape ps)) (sym is) ∙ again in
     let tail : escape (unescape part) ++ spell (map unescape parts) ≡ rest = cc in
-    let first : escape (unescape (126 ∷ d ∷ part)) ≡ 126 ∷ d ∷ escape (unescape part) = ap escape (read part) ∙ ap (λ xs. xs ++ escape (unescape part)) written in
-    let split : parts_of (126 ∷ d ∷ rest) ≡ (126 ∷ d ∷ part) ∷ parts = rw (ne_eqb d 47 no_slash, is) in
-    ap (λ ps. spell (map unescape ps)) split ∙ ap (λ xs. 47 ∷ (xs ++ spell (map unescape parts))) first ∙ ap (λ xs. 47 ∷ 126 ∷ d ∷ xs) tail
+    let first : escape (unescape (tilde ∷ d ∷ part)) ≡ tilde ∷ d ∷ escape (unescape part) = ap escape (read part) ∙ ap (λ xs. xs ++ escape (unescape part)) written in
+    let split : parts_of (tilde ∷ d ∷ rest) ≡ (tilde ∷ d ∷ part) ∷ parts = rw (ne_eqb d slash no_slash, is) in
+    ap (λ ps. spell (map unescape ps)) split ∙ ap (λ xs. slash ∷ (xs ++ spell (map unescape parts))) first ∙ ap (λ xs. slash ∷ tilde ∷ d ∷ xs) tail
 
-respell-tilde : (d : ℕ) (rest : List ℕ) → starts_badly 126 (d ∷ rest) ≡ false → Respells rest → Respells (126 ∷ d ∷ rest)
-respell-tilde d rest good again = split (eqb d 48) (eqb d 49) refl refl
+respell-tilde : (d : ℕ) (rest : List ℕ) → starts_badly tilde (d ∷ rest) ≡ false → Respells rest → Respells (tilde ∷ d ∷ rest)
+respell-tilde d rest good again = split (eqb d digit_zero) (eqb d digit_one) refl refl
   where
-    split : (a b : Bool) → eqb d 48 ≡ a → eqb d 49 ≡ b → Respells (126 ∷ d ∷ rest)
-    split true b e _ = subst (λ d. Respells (126 ∷ d ∷ rest)) (sym (eqb-true d 48 e)) (respell-escape 126 48 rest refl (λ x. omega arith) (λ part. refl) again)
-    split false true _ e = subst (λ d. Respells (126 ∷ d ∷ rest)) (sym (eqb-true d 49 e)) (respell-escape 47 49 rest refl (λ x. omega arith) (λ part. refl) again)
+    split : (a b : Bool) → eqb d digit_zero ≡ a → eqb d digit_one ≡ b → Respells (tilde ∷ d ∷ rest)
+    split true b e _ = subst (λ d. Respells (tilde ∷ d ∷ rest)) (sym (eqb-true d digit_zero e)) (respell-escape tilde digit_zero rest refl (λ x. omega arith) (λ part. refl) again)
+    split false true _ e = subst (λ d. Respells (tilde ∷ d ∷ rest)) (sym (eqb-true d digit_one e)) (respell-escape slash digit_one rest refl (λ x. omega arith) (λ part. refl) again)
     split false false e f = absurd (grind (arith, nat_tests))
 
 respells : (rest : List ℕ) → first_bad_tilde rest ≡ None → Respells rest
@@ -294,7 +295,7 @@ respells (c ∷ d ∷ rest) none =
     let next = respells (d ∷ rest) ((first_bad-cons c (d ∷ rest) none).1) in
     let after = respells rest ((first_bad-cons d rest ((first_bad-cons c (d ∷ rest) none).1)).1) in
     cases_byte (λ c. starts_badly c (d ∷ rest) ≡ false → Respells (c ∷ d ∷ rest)) c
-    (λ good. respell-tilde d rest good after) (λ _. ap (λ xs. 47 ∷ xs) next) (λ no_tilde no_slash _. respell-plain c (d ∷ rest) no_tilde no_slash next)
+    (λ good. respell-tilde d rest good after) (λ _. ap (λ xs. slash ∷ xs) next) (λ no_tilde no_slash _. respell-plain c (d ∷ rest) no_tilde no_slash next)
     ((first_bad-cons c (d ∷ rest) none).0)
 
 ok_parts : (o : Option ℕ) (tokens t : Tokens) → unless_bad o tokens ≡ Ok t → (o ≡ None) × (tokens ≡ t)
@@ -304,12 +305,12 @@ ok_parts (Some offset) tokens t e = cc
 spell_from_tokens_in : (text : List ℕ) (t : Tokens) → tokens_in text ≡ Ok t → text ≡ spell t
 unfolding tokens_in
 spell_from_tokens_in [] t e = let none : [] ≡ t = cc in ap spell none
-spell_from_tokens_in (c ∷ rest) t e = split (eqb c 47) refl e
+spell_from_tokens_in (c ∷ rest) t e = split (eqb c slash) refl e
   where
-    split : (b : Bool) → eqb c 47 ≡ b → cond b (unless_bad (first_bad_tilde (c ∷ rest)) (map unescape (parts_of rest))) (Err NoSlash) ≡ Ok t → c ∷ rest ≡ spell t
+    split : (b : Bool) → eqb c slash ≡ b → cond b (unless_bad (first_bad_tilde (c ∷ rest)) (map unescape (parts_of rest))) (Err NoSlash) ≡ Ok t → c ∷ rest ≡ spell t
     split true is_slash e =
         let p = ok_parts (first_bad_tilde (c ∷ rest)) (map unescape (parts_of rest)) t e in
-        ap (λ x. x ∷ rest) (eqb-true c 47 is_slash) ∙ sym (respells rest ((first_bad-cons c rest p.0).1)) ∙ ap spell p.1
+        ap (λ x. x ∷ rest) (eqb-true c slash is_slash) ∙ sym (respells rest ((first_bad-cons c rest p.0).1)) ∙ ap spell p.1
     split false no_slash e = cc
 
 -- ---- the laws

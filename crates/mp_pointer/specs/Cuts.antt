@@ -2,6 +2,7 @@
 -- list that `cut` gives of these two; `IsKept` is what is always so of them.
 use Rattle.std.specs.Prelude.{◌≡◌, ◌≢◌, ◌<◌, ◌∷◌, ℕ, suc, List, [], length, slice_range, slice_index, Bool, IsTrue, ⊤}
 use Rattle.std.specs.Str.{IsUtf8}
+use Rattle.mp_pointer.specs.Bytes.{slash, tilde}
 
 -- what follows the slash at `start` up to the first end, what follows the slash there up to the next, and so on
 abbrev pub cut : ℕ → List ℕ → List ℕ → List (List ℕ)
@@ -12,11 +13,11 @@ cut start (end ∷ ends) bytes = slice_range bytes (suc start) end ∷ cut end e
 abbrev pub AreCuts : ℕ → List ℕ → List ℕ → Type 0
 AreCuts start [] bytes = start ≡ length bytes
 AreCuts start (end ∷ ends) bytes =
-    (start < end) × (slice_range bytes start end ≡ 47 ∷ slice_range bytes (suc start) end) × IsUtf8 (slice_range bytes (suc start) end) × AreCuts end ends bytes
+    (start < end) × (slice_range bytes start end ≡ slash ∷ slice_range bytes (suc start) end) × IsUtf8 (slice_range bytes (suc start) end) × AreCuts end ends bytes
 
 -- neither `~` nor `/` is in it
 abbrev pub IsPlain : List ℕ → Type 0
-IsPlain text = (k : ℕ) → k < length text → (slice_index text k ≢ 126) × (slice_index text k ≢ 47)
+IsPlain text = (k : ℕ) → k < length text → (slice_index text k ≢ tilde) × (slice_index text k ≢ slash)
 
 abbrev pub EachPlain : List (List ℕ) → Type 0
 EachPlain [] = ⊤

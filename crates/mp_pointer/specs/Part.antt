@@ -4,12 +4,13 @@ use Rattle.std.specs.Int.Digits.{digits_of}
 use Rattle.std.specs.Str.{bytes_eq}
 use Rattle.mp_tree.specs.Document.{Document, null, flag, whole, string, list, object, Items, no_items, item, Members, no_members, member, find}
 use Rattle.mp_tree.specs.Elements.{count_of}
+use Rattle.mp_pointer.specs.Bytes.{digit_zero}
 use Rattle.mp_pointer.specs.Spelling.{Tokens}
 
 -- the decimal spelling of an index, without leading zeros
 unfoldable pub numeral : ℕ → List ℕ
-numeral zero = 48 ∷ []
-numeral (suc n) = map (λ digit. 48 + digit) (digits_of 10 (suc n))
+numeral zero = digit_zero ∷ []
+numeral (suc n) = map (λ digit. digit_zero + digit) (digits_of 10 (suc n))
 
 -- the element whose index the token spells, where the first is counted as i
 abbrev pub element_from : ℕ → List ℕ → Items → Option Document

@@ -2,6 +2,7 @@
 use Rattle.std.specs.Prelude.{◌≡◌, ◌≢◌, ◌+◌, ◌<◌, ◌==◌, ◌&&◌, ◌||◌, ℕ, suc, codes, List, [], ◌∷◌, ◌++◌, map, slice_index, Bool, false, not, if◌then◌else◌, Option, None, Some, option_map, Result, Ok, Err, ⊤}
 use Rattle.std.specs.Cmp.Lexicographic.{pointwise}
 use Rattle.std.specs.List.{flat_map}
+use Rattle.mp_pointer.specs.Bytes.{slash, tilde, digit_zero, digit_one}
 use Rattle.mp_pointer.specs.declared.fault.PointerFault.{PointerFault}
 use Rattle.mp_pointer.specs.declared.fault.PointerFault.TheVariants.{NoSlash, BadTilde, OutOfMemory}
 
@@ -23,24 +24,24 @@ IsProperPrefix t u = (next : List ℕ) × (rest : Tokens) × (u ≡ t ++ next �
 
 -- `~` is written `~0` and `/` is written `~1`
 abbrev pub escaped_byte : ℕ → List ℕ
-escaped_byte c = if c == 126 then codes "~0" else (if c == 47 then codes "~1" else c ∷ [])
+escaped_byte c = if c == tilde then codes "~0" else (if c == slash then codes "~1" else c ∷ [])
 
 abbrev pub escape : List ℕ → List ℕ
 escape token = flat_map escaped_byte token
 
 -- section 3: each token after a `/`
 abbrev pub spell : Tokens → List ℕ
-spell tokens = flat_map (λ token. 47 ∷ escape token) tokens
+spell tokens = flat_map (λ token. slash ∷ escape token) tokens
 
 -- ---- texts that are no spelling (past the end of a text `slice_index` gives 0)
 
 -- a text that is not empty and does not begin with `/`
 abbrev pub LacksSlash : List ℕ → Type 0
-LacksSlash text = (text ≢ []) × (slice_index text 0 ≢ 47)
+LacksSlash text = (text ≢ []) × (slice_index text 0 ≢ slash)
 
 -- a `~` that no `0` and no `1` follows
 abbrev pub IsBadTilde : List ℕ → ℕ → Type 0
-IsBadTilde text offset = (slice_index text offset ≡ 126) × (slice_index text (offset + 1) ≢ 48) × (slice_index text (offset + 1) ≢ 49)
+IsBadTilde text offset = (slice_index text offset ≡ tilde) × (slice_index text (offset + 1) ≢ digit_zero) × (slice_index text (offset + 1) ≢ digit_one)
 
 pub record IsFirstBadTilde (text : List ℕ) (offset : ℕ) : Type 0 where
   pub here : IsBadTilde text offset
@@ -49,7 +50,7 @@ pub record IsFirstBadTilde (text : List ℕ) (offset : ℕ) : Type 0 where
 -- why the text is no pointer; want of memory says nothing of it
 abbrev pub IsFaultOf : PointerFault → List ℕ → Type 0
 IsFaultOf NoSlash text = LacksSlash text
-IsFaultOf (BadTilde offset) text = (slice_index text 0 ≡ 47) × IsFirstBadTilde text offset
+IsFaultOf (BadTilde offset) text = (slice_index text 0 ≡ slash) × IsFirstBadTilde text offset
 IsFaultOf OutOfMemory text = ⊤
 
 -- ---- the tokens that a text spells
@@ -58,7 +59,7 @@ IsFaultOf OutOfMemory text = ⊤
 abbrev pub unescape : List ℕ → List ℕ
 unescape [] = []
 unescape (c ∷ []) = c ∷ []
-unescape (c ∷ d ∷ rest) = if c == 126 then (if d == 49 then 47 else 126) ∷ unescape rest else c ∷ unescape (d ∷ rest)
+unescape (c ∷ d ∷ rest) = if c == tilde then (if d == digit_one then slash else tilde) ∷ unescape rest else c ∷ unescape (d ∷ rest)
 
 -- the parts of a text between its slashes
 abbrev pub on_first : ℕ → Tokens → Tokens
@@ -67,16 +68,16 @@ on_first c (part ∷ parts) = (c ∷ part) ∷ parts
 
 abbrev pub parts_of : List ℕ → Tokens
 parts_of [] = [] ∷ []
-parts_of (c ∷ rest) = if c == 47 then [] ∷ parts_of rest else on_first c (parts_of rest)
+parts_of (c ∷ rest) = if c == slash then [] ∷ parts_of rest else on_first c (parts_of rest)
 
 -- a text that begins with `0` or `1`
 abbrev pub is_escape : List ℕ → Bool
 is_escape [] = false
-is_escape (c ∷ rest) = (c == 48) || (c == 49)
+is_escape (c ∷ rest) = (c == digit_zero) || (c == digit_one)
 
 -- c is a `~` that no `0` and no `1` follows
 abbrev pub starts_badly : ℕ → List ℕ → Bool
-starts_badly c rest = (c == 126) && not (is_escape rest)
+starts_badly c rest = (c == tilde) && not (is_escape rest)
 
 abbrev pub first_bad_tilde : List ℕ → Option ℕ
 first_bad_tilde [] = None
@@ -89,4 +90,4 @@ unless_bad (Some offset) tokens = Err (BadTilde offset)
 -- the tokens that the text spells, or the first fault: no slash, or a bad tilde at its offset
 unfoldable pub tokens_in : List ℕ → Result Tokens PointerFault
 tokens_in [] = Ok []
-tokens_in (c ∷ rest) = if c == 47 then unless_bad (first_bad_tilde (c ∷ rest)) (map unescape (parts_of rest)) else Err NoSlash
+tokens_in (c ∷ rest) = if c == slash then unless_bad (first_bad_tilde (c ∷ rest)) (map unescape (parts_of rest)) else Err NoSlash

@@ -1,3 +1,4 @@
+//! The part of a document that a pointer names (RFC 6901 section 4), read or lent for writing.
 ghost use Rattle.std.specs.Prelude.{◌≡◌, ◌≢◌, ◌^◌, ◌≤◌, ◌↔◌, ℕ, IsTrue, slice_index, option_map, MatchOption, string_bytes};
 ghost use Rattle.std.specs.Borrow.{sem};
 ghost use Rattle.mp_tree.specs.View.{document};

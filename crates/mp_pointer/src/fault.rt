@@ -1,3 +1,4 @@
+//! Why a text is no pointer.
 ghost use Rattle.std.specs.Prelude.{◌≡◌};
 
 use std::alloc::{AllocError, AllocFailed};

@@ -1,12 +1,12 @@
 //! JSON Pointer (RFC 6901): pointers as lists of tokens, their spelling, and the part of a document that one names.
 #![tactic(auto)]
 
-pub mod editing;
-pub mod evaluating;
-pub mod fault;
+mod editing;
+mod evaluating;
+mod fault;
 pub mod laws;
 mod lending;
-pub mod pointer;
+mod pointer;
 mod spelling;
 #[cfg(test)]
 mod tests;

@@ -1,3 +1,4 @@
+//! Pointers: lists of tokens, and their spelling (RFC 6901 section 3).
 ghost use Rattle.std.specs.Prelude.{◌≡◌, ◌≢◌, ◌≤◌, ◌-◌, ◌↔◌, ◌++◌, ◌∷◌, [], length, map, take, get_or, slice_get, IsTrue, IfOk, IfErr, OnOk, OnErr, MatchResult, Ok, Err, string_bytes};
 ghost use Rattle.std.specs.Option.{option_copied};
 ghost use Rattle.mp_pointer.specs.Spelling.{BeginsWith, spell, tokens_in, IsFaultOf, IsProperPrefix};

@@ -1,5 +1,6 @@
 // From a spelling to its tokens and back.
 ghost use Rattle.std.specs.Prelude.{◌≡◌, ◌≢◌, ◌+◌, ◌++◌, ◌∷◌, ◌<◌, ◌↔◌, ◌⊎◌, ℕ, length, slice_index, IsTrue, MatchOption, IfOk, OnOk, None, string_bytes};
+ghost use Rattle.mp_pointer.specs.Bytes.{slash, tilde};
 ghost use Rattle.mp_pointer.specs.Cuts.{IsPlain};
 ghost use Rattle.mp_pointer.specs.Spelling.{escape, spell, first_bad_tilde, IsBadTilde, IsFirstBadTilde};
 
@@ -27,23 +28,23 @@ fn is_escape(text: &[u8], offset: usize) -> bool
 // The pointer that is spelled by a slash and then `rest`.
 pub(crate) fn pointer_after(alloc: Global, rest: &str) -> Result<Pointer, AllocError>
     requires { first_bad_tilde rest.now ≡ None }
-    ensures { IfOk result (λ p. spell p ≡ 47 ∷ rest.now) }
+    ensures { IfOk result (λ p. spell p ≡ slash ∷ rest.now) }
 {
     let mut pointer = Pointer::with_room(alloc, rest.len().saturating_add(1))?;
     let mut rest = rest;
     'parts: while let Some((part, more)) = rest.split_once('/') {
-        push_unescaped(&mut pointer, part, alloc)?;
+        push_unescaped(alloc, &mut pointer, part)?;
         rest = more;
     }
-    push_unescaped(&mut pointer, rest, alloc)?;
+    push_unescaped(alloc, &mut pointer, rest)?;
     Ok(pointer)
 }
 
 // Adds the token that is spelled between two slashes.
-fn push_unescaped(pointer: &mut Pointer, spelled: &str, alloc: Global) -> Result<(), AllocError>
-    requires between { (k : ℕ) → k < length spelled.now → slice_index spelled.now k ≢ 47 }
+fn push_unescaped(alloc: Global, pointer: &mut Pointer, spelled: &str) -> Result<(), AllocError>
+    requires between { (k : ℕ) → k < length spelled.now → slice_index spelled.now k ≢ slash }
     requires escapes { first_bad_tilde spelled.now ≡ None }
-    ensures { OnOk result (spell pointer.new ≡ spell pointer.old ++ 47 ∷ spelled.now) }
+    ensures { OnOk result (spell pointer.new ≡ spell pointer.old ++ slash ∷ spelled.now) }
 {
     if is_plain(spelled) {
         return pointer.push(spelled);
@@ -64,7 +65,7 @@ pub(crate) fn is_plain(text: &str) -> bool
 }
 
 fn unescape(alloc: Global, spelled: &str) -> Result<String, AllocError>
-    requires between { (k : ℕ) → k < length spelled.now → slice_index spelled.now k ≢ 47 }
+    requires between { (k : ℕ) → k < length spelled.now → slice_index spelled.now k ≢ slash }
     requires escapes { first_bad_tilde spelled.now ≡ None }
     ensures { IfOk result (λ token. escape (string_bytes token) ≡ spelled.now) }
 {
@@ -104,7 +105,7 @@ pub(crate) fn push_escaped(text: &mut String, token: &str) -> Result<(), AllocEr
 }
 
 fn push_without_tildes(text: &mut String, token: &str) -> Result<(), AllocError>
-    requires { (k : ℕ) → k < length token.now → slice_index token.now k ≢ 126 }
+    requires { (k : ℕ) → k < length token.now → slice_index token.now k ≢ tilde }
     ensures { OnOk result (string_bytes text.new ≡ string_bytes text.old ++ escape token.now) }
 {
     let mut rest = token;

@@ -3,6 +3,7 @@ pub use Rattle.mp_tree.proofs.Decisions.{decide_name, decide_path, decide_docume
 pub use Rattle.mp_tree.proofs.Depths.{members_depth-put, members_depth-without, value-depth}
 pub use Rattle.mp_tree.proofs.Elements.{IsDocument-list_of, all_before, append-documents, append_nothing, count-take, count_of-append, count_of-items, count_of-set, depth-append, documents-append, items-append, items-set, list_of-items, nth-here, nth-items, nth-set, nth_past, nth_split, same_parts, set_item}
 pub use Rattle.mp_tree.proofs.EqualLooks.{equal_looks, is_here, IsDocument-find, same_plain}
+pub use Rattle.mp_tree.proofs.Looks.{name_above, nothing_or, same_look, some_part}
 pub use Rattle.mp_tree.proofs.MapEdits.{IsMap-members, members-cons, find-members, members-inserted, members-removed}
 pub use Rattle.mp_tree.proofs.Maps.{find-here, find-put, find-without, find-below, IsBelow-trans, IsMap-put, IsMap-without, members_same, find-put_other, find-put_same}
 pub use Rattle.mp_tree.proofs.Meaning.{IsDocument-document, document-Null, document-Flag, document-Whole, document-Text, document-Items, document-Members}

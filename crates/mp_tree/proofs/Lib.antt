@@ -8,6 +8,7 @@ pub mod Facts
 pub mod FromData
 pub mod IntoData
 pub mod Lists
+pub mod Looks
 pub mod MapBuilding
 pub mod MapEdits
 pub mod MapLaws

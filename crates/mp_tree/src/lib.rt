@@ -4,16 +4,17 @@
 mod building;
 mod comparing;
 mod converting;
-pub mod doc;
+mod doc;
 pub mod laws;
+// Public, since a proof by hand in mp_pointer names the contracts of its functions.
 pub mod lending;
 mod measuring;
-pub mod reading;
+mod reading;
 mod serializing;
 #[cfg(test)]
 mod tests;
-pub mod whole;
-pub mod writing;
+mod whole;
+mod writing;
 
 pub use doc::Doc;
 pub use lending::{items_mut, members_mut};

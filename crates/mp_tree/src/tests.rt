@@ -1,3 +1,4 @@
+//! Worked values: texts that are read, refused and written, copies, equality and depth.
 use crate::{Doc, DocsFault, ReadFault, Whole, read_doc, read_docs, write_doc, write_text};
 use std::alloc::{AllocError, Global};
 use std::test::Fail;

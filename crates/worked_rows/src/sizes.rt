@@ -155,40 +155,18 @@ fn empty_names_are_names(rt: HostRuntime) -> Result<(), Fail> {
     let alloc = rt.alloc();
     let command = Command::Get(String::from_str(alloc, "/")?);
     check(&rt, &command, br#"[{"":{"":1}}]"#, r#"{"":1}"#, 0);
-    for (command, input, line, status) in [
-        (
-            Command::Patch,
-            r#"[{"":1},[{"op":"copy","from":"/","path":"/a"},{"op":"remove","path":"/"}]]"#,
-            r#"{"a":1}"#,
-            0,
-        ),
-        (
-            Command::Merge,
-            r#"[{"":1},{"":{"":null}}]"#,
-            r#"{"":{}}"#,
-            0,
-        ),
-        (
-            Command::Join,
-            r#"[{"":{"":1}},{"":{"":2}}]"#,
-            r#"conflict: patches 0 and 1 at "//""#,
-            1,
-        ),
-        (
-            Command::Replay,
-            r#"[{},{"":{"":1}},{"":{"a":2}}]"#,
-            r#"{"":{"":1,"a":2}}"#,
-            0,
-        ),
-        (
-            Command::Rewrite,
-            r#"[{"":1},{"":null}]"#,
-            r#"[{"op":"test","path":"/","value":1},{"op":"remove","path":"/"}]"#,
-            0,
-        ),
-    ] {
-        check(&rt, &command, input.as_bytes(), line, status);
-    }
+    let input = br#"[{"":1},[{"op":"copy","from":"/","path":"/a"},{"op":"remove","path":"/"}]]"#;
+    check(&rt, &Command::Patch, input, r#"{"a":1}"#, 0);
+    let input = br#"[{"":1},{"":{"":null}}]"#;
+    check(&rt, &Command::Merge, input, r#"{"":{}}"#, 0);
+    let input = br#"[{"":{"":1}},{"":{"":2}}]"#;
+    let line = r#"conflict: patches 0 and 1 at "//""#;
+    check(&rt, &Command::Join, input, line, 1);
+    let input = br#"[{},{"":{"":1}},{"":{"a":2}}]"#;
+    check(&rt, &Command::Replay, input, r#"{"":{"":1,"a":2}}"#, 0);
+    let input = br#"[{"":1},{"":null}]"#;
+    let line = r#"[{"op":"test","path":"/","value":1},{"op":"remove","path":"/"}]"#;
+    check(&rt, &Command::Rewrite, input, line, 0);
     Ok(())
 }
 

@@ -16,7 +16,8 @@ use Rattle.mp_merge.proofs.Collections.Elements.{Contains-nil, no_member}
 use Rattle.mp_merge.proofs.Clashes.Exchange.{object_above}
 use Rattle.mp_merge.proofs.Collections.Growth.{IsRestOf, rest_after_one}
 use Rattle.mp_tree.proofs.Facts.{decide_document, find-here, same_plain}
-use Rattle.mp_merge.proofs.Paths.Rising.{BeginsAbove, Lists, lists_none, lists_root, lists_both, name_above, same_rising, under_all}
+use Rattle.mp_tree.proofs.Facts.{name_above}
+use Rattle.mp_merge.proofs.Paths.Rising.{BeginsAbove, Lists, lists_none, lists_root, lists_both, same_rising, under_all}
 
 -- ---- one path alone
 

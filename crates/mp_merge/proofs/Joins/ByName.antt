@@ -10,7 +10,7 @@ use Rattle.mp_merge.specs.Laws.{CompatibleByNames, CompatibleIfEqual, IsJoinAt, 
 use Rattle.mp_merge.proofs.Clashes.ByName.{clash_at_root, compatible-self, compatible-sym}
 use Rattle.mp_merge.proofs.Collections.Elements.{Contains-head, Contains-tail, Contains-cases, Contains-one}
 use Rattle.mp_merge.proofs.Joins.Laws.{compatible_from_join, join_is_idempotent}
-use Rattle.mp_merge.proofs.Paths.Looks.{nothing_or, same_look}
+use Rattle.mp_tree.proofs.Facts.{nothing_or, same_look}
 
 -- ---- compatibility
 

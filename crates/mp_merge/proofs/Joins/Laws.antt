@@ -11,7 +11,7 @@ use Rattle.mp_merge.specs.Laws.{ClashWithAJoin, ClashesWithAMember, JoinIsIdempo
 use Rattle.mp_merge.specs.Lists.{PairwiseCompatible, AreWithin}
 use Rattle.mp_merge.specs.Private.Unions.{union}
 use Rattle.mp_merge.proofs.Collections.Elements.{Contains-nil, Contains-head, Contains-tail, Contains-cases, Contains-one, some_or_all}
-use Rattle.mp_merge.proofs.Paths.Looks.{nothing_or}
+use Rattle.mp_tree.proofs.Facts.{nothing_or}
 use Rattle.mp_merge.proofs.Joins.Union.{IsDocument-union, depth-union, join-one, union_is_join, union_joins_first}
 
 -- some patch has something at the path, or none has

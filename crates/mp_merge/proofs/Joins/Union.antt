@@ -12,7 +12,7 @@ use Rattle.mp_merge.specs.Private.Unions.{earlier_or, union_over, union_with, un
 use Rattle.mp_merge.proofs.Application.ByName.{IsMap-target_members}
 use Rattle.mp_merge.proofs.Application.Depth.{depth-find}
 use Rattle.mp_merge.proofs.Collections.Elements.{Contains-head, Contains-tail, Contains-cases, Contains-one}
-use Rattle.mp_merge.proofs.Paths.Looks.{same_look}
+use Rattle.mp_tree.proofs.Facts.{same_look}
 
 -- ---- the union is a document
 

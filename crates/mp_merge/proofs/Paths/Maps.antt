@@ -10,7 +10,7 @@ use Rattle.mp_merge.specs.Application.{target_members, merge_patch, after_patch}
 use Rattle.mp_merge.proofs.Application.Looks.{look-target_members}
 use Rattle.mp_merge.proofs.Application.ByName.{find-merge_patch_members, IsMap-target_members}
 use Rattle.mp_merge.proofs.Clashes.Exchange.{object_above}
-use Rattle.mp_merge.proofs.Paths.Looks.{nothing_or}
+use Rattle.mp_tree.proofs.Facts.{nothing_or}
 
 -- a map stands at each proper prefix of the path
 abbrev pub MapsAbove : Option Document → Path → Type 0

@@ -109,14 +109,6 @@ from_under n v (w ∷ ws) at = elim (Contains-cases (n ∷ w) v (under_all n ws)
   | inr there ↦ let rest = from_under n v ws there in (rest.0, Contains-tail w rest.0 ws rest.1, rest.2)
 ]
 
--- a name that the members have is above each name that is below them all
-pub name_above : (n k : List ℕ) (w : Path) (ps : Members) → IsBelow n ps → look_of (find k ps) w ≢ nothing → name_cmp n k ≡ Less
-name_above n k w no_members below here = absurd (here refl)
-name_above n k w (member m p ps) below here =
-    cases_same k m
-    (λ same. ap (name_cmp n) same ∙ below.0)
-    (λ other. name_above n k w ps below.1 (λ none. here (ap (λ b. look_of (cond b (Some p) (find k ps)) w) other ∙ none)))
-
 -- ---- the rising list of all paths of which a fact holds
 
 pub record Lists (P : Path → Type 0) (places : List Path) : Type 0 where

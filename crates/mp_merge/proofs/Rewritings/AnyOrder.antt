@@ -19,7 +19,7 @@ use Rattle.mp_merge.proofs.Rewritings.EditPlaces.{Differs, differs_at_edit, edit
 use Rattle.mp_merge.proofs.Rewritings.Steps.{Fits, leaves}
 use Rattle.mp_merge.proofs.Collections.Elements.{Contains-nil, Contains-head, Contains-tail, Contains-cases}
 use Rattle.mp_merge.proofs.Rewritings.Guards.{guards_run}
-use Rattle.mp_merge.proofs.Paths.Looks.{same_look}
+use Rattle.mp_tree.proofs.Facts.{same_look}
 use Rattle.mp_merge.proofs.Paths.Maps.{MapsAbove, at_path, look-at_path, look-end, to_maps_above, IsDocument-at_path, part-at_path, at_path-merge_patch, Compared, same, longer, shorter, compared}
 use Rattle.mp_merge.proofs.Rewritings.Unique.{no_repeats}
 use Rattle.mp_merge.proofs.Application.Looks.{left_of}

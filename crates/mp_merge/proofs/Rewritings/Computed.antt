@@ -14,7 +14,8 @@ use Rattle.mp_merge.specs.Rewriting.{guard_of, guards, part_left, edit_to, edit,
 use Rattle.mp_merge.proofs.Rewritings.EditPlaces.{differs_at_edit, edit_where_differs, left_by-no_map}
 use Rattle.mp_merge.proofs.Collections.Elements.{Contains-nil, Contains-head, Contains-tail, Contains-one}
 use Rattle.mp_merge.proofs.Paths.Maps.{MapsAbove, at_path, part-at_path}
-use Rattle.mp_merge.proofs.Paths.Rising.{BeginsAbove, Lists, lists_both, name_above, under_all}
+use Rattle.mp_tree.proofs.Facts.{name_above}
+use Rattle.mp_merge.proofs.Paths.Rising.{BeginsAbove, Lists, lists_both, under_all}
 use Rattle.mp_merge.proofs.Application.Looks.{left_of}
 
 -- the edit places of a part of a patch and a part of a document that stand at s

@@ -6,7 +6,7 @@ use Rattle.mp_merge.specs.Application.{merge_patch}
 use Rattle.mp_merge.specs.EditPlace.{IsEditPlace, Changes, sets, clears, enters}
 use Rattle.mp_merge.specs.Outcome.{left_by}
 use Rattle.mp_merge.proofs.Clashes.Exchange.{object_above}
-use Rattle.mp_merge.proofs.Paths.Looks.{same_look}
+use Rattle.mp_tree.proofs.Facts.{same_look}
 use Rattle.mp_merge.proofs.Outcome.{says-below_plain}
 use Rattle.mp_merge.proofs.Paths.Maps.{MapsAbove, to_maps_above, from_maps_above, nothing_below, Gap, maps_or_gap}
 use Rattle.mp_merge.proofs.Application.Looks.{says, or_else, left_of, look-merge_patch, says-has, Reach, has, below, alone, reach}

@@ -2,12 +2,12 @@
 use Rattle.std.proofs.Common.{◌≡◌, ◌≢◌, ◌≤◌, ◌+◌, inr, ℕ, List, [], ◌∷◌, ◌++◌, length, Option, Some, None, IfSome, refl, sym, ap, ◌∙◌, subst, arith, append_assoc}
 use Rattle.mp_tree.specs.Document.{Document, null, flag, whole, string, list, object, Members, find, IsDocument, depth, depth_limit}
 use Rattle.mp_tree.specs.Look.{Path, Look, nothing, an_object, plain, look, look_of}
-use Rattle.mp_tree.proofs.Facts.{is_here}
+use Rattle.mp_tree.proofs.Facts.{is_here, some_part}
 use Rattle.mp_pointer.specs.Part.{part}
 use Rattle.mp_patch.specs.Operation.{Operation, add, remove, replace, ChangesContainer, AddsTo, to_map, RemovesFrom, from_map, Step}
 use Rattle.mp_patch.specs.Refusal.{HasNoPlace, LacksPlace}
 use Rattle.mp_patch.specs.Run.{IsRefused}
-use Rattle.mp_patch.proofs.Facts.{unrefused, replaces_freely}
+use Rattle.mp_patch.proofs.Facts.{unrefused, removes_freely, replaces_freely}
 use Rattle.mp_merge.specs.Application.{target_members}
 use Rattle.mp_merge.specs.Rewriting.{edit_to}
 use Rattle.mp_merge.proofs.Rewritings.ChangedPath.{with_name, with_at, at_path-with_at, maps-with_at, made, made_is, differ_at, with_at-push}
@@ -24,13 +24,6 @@ is_map (Some (whole z)) is = absurd (cc)
 is_map (Some (string s)) is = absurd (cc)
 is_map (Some (list ds)) is = absurd (cc)
 is_map (Some (object ms)) is = refl
-
-some_part : (o : Option Document) → look_of o [] ≢ nothing → (z : Document) × (o ≡ Some z)
-some_part None here = absurd (here refl)
-some_part (Some z) here = (z, refl)
-
-differ : (o : Option Document) (z : Document) → o ≡ Some z → o ≡ None → ⊥
-differ o z some none = cc
 
 module _ (x : Document) (good : IsDocument x) where
   -- what stands at the end of a path under maps
@@ -79,11 +72,8 @@ place_there x w maps (s, n, is, lacks) =
     let front = to_maps_above s (Some x) (λ u m rest begins. from_maps_above w (Some x) maps u m (rest ++ n ∷ []) (is ∙ ap (λ r. r ++ n ∷ []) begins ∙ append_assoc u (m ∷ rest) (n ∷ []))) in
     subst (LacksPlace n) (part-at_path s x front ∙ map) lacks
 
-added_freely : (x : Document) (w : Path) (v : Document) → MapsAbove (Some x) w → length w + depth v ≤ depth_limit → ¬ IsRefused x (add w v)
-added_freely x w v maps fits = unrefused x (add w v) (place_there x w maps, ((λ deep. omega (arith, deep, fits)), tt))
-
-removed_freely : (x z : Document) (w : Path) → part x w ≡ Some z → w ≢ [] → ¬ IsRefused x (remove w)
-removed_freely x z w there deeper = unrefused x (remove w) (deeper, (differ (part x w) z there, tt))
+adds_freely : (x : Document) (w : Path) (v : Document) → MapsAbove (Some x) w → length w + depth v ≤ depth_limit → ¬ IsRefused x (add w v)
+adds_freely x w v maps fits = unrefused x (add w v) (place_there x w maps, ((λ deep. omega (arith, deep, fits)), tt))
 
 abbrev Leads : Document → Operation → Document → Type 0
 Leads x o y = ¬ IsRefused x o × Step x o y
@@ -99,7 +89,7 @@ module _ (x : Document) (w : Path) where
   adds : (v : Document) → Fits x w (Some v) → look x w ≡ nothing → Leads x (add w v) (made (with_at w (Some v) (Some x)))
   adds v fits none =
       let end = some_last w (λ root. is_here x (ap (look x) (sym root) ∙ none)) in (
-        added_freely x w v fits.maps fits.within,
+        adds_freely x w v fits.maps fits.within,
         inr (subst (λ u. ChangesContainer (AddsTo v) u x (made (with_at u (Some v) (Some x)))) (sym end.2)
             (changes_map x fits.good end.0 end.1 (subst (MapsAbove (Some x)) end.2 fits.maps) (AddsTo v) (Some v) (to_map (holder x fits.good end.0 end.1 (subst (MapsAbove (Some x)) end.2 fits.maps)) refl refl))),
       )
@@ -124,7 +114,7 @@ module _ (x : Document) (w : Path) where
       let end = some_last w left.0 in
       let maps = subst (MapsAbove (Some x)) end.2 fits.maps in
       let found : find end.1 (holder x fits.good end.0 end.1 maps) ≡ Some z.0 = sym (at_path-push end.0 end.1 (Some x)) ∙ ap (at_path (Some x)) (sym end.2) ∙ z.2 in (
-        removed_freely x z.0 w z.1 left.0,
+        removes_freely x z.0 w z.1 left.0,
         subst (λ u. ChangesContainer RemovesFrom u x (made (with_at u None (Some x)))) (sym end.2)
             (changes_map x fits.good end.0 end.1 maps RemovesFrom None (from_map (holder x fits.good end.0 end.1 maps) z.0 found refl refl)),
       )

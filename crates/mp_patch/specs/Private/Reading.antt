@@ -9,9 +9,9 @@ use Rattle.mp_patch.specs.declared.fault.Refusal.{Refusal}
 use Rattle.mp_patch.specs.declared.fault.Refusal.TheVariants.{By, OutOfMemory}
 
 -- want of memory says nothing
-abbrev pub IsOpFault : Refusal FormCause → Document → Type 0
-IsOpFault (By cause) d = IsFaulty cause d
-IsOpFault OutOfMemory d = ⊤
+abbrev pub IsElementFault : Refusal FormCause → Document → Type 0
+IsElementFault (By cause) d = IsFaulty cause d
+IsElementFault OutOfMemory d = ⊤
 
 -- ---- what the reading of a map has found where it gives the map up
 

@@ -2,6 +2,7 @@ use Rattle.std.proofs.Common.{◌≡◌, [], ◌∷◌, ◌++◌, Some, take, st
 use Rattle.std.specs.List.{slice_get}
 use Rattle.std.specs.Option.{option_copied}
 use lib.Utf8.{encode}
+use Rattle.mp_pointer.specs.Bytes.{slash}
 use Rattle.mp_pointer.specs.Spelling.{escape, spell}
 use Rattle.mp_pointer.proofs.Spellings.{spell-push}
 use Rattle.mp_pointer.proofs.TokenLists.{take_token}
@@ -14,6 +15,6 @@ loop-number-preserved c =
     let i = c.loop-number.number in
     let token = c.unwrap.result.now in
     let here : slice_get t i ≡ Some token = sym c.token.ensures ∙ ap option_copied c.unwrap.ensures in
-    let slash : string_bytes c.push.new.self ≡ string_bytes c.loop-number.text ++ 47 ∷ [] = c.in_ok-push.ensures.bytes in
-    c.in_ok-push_escaped.ensures ∙ ap (λ xs. xs ++ escape token) slash ∙ append_assoc (string_bytes c.loop-number.text) (47 ∷ []) (escape token)
-    ∙ ap (λ xs. xs ++ 47 ∷ escape token) c.loop-number.invariant ∙ sym (ap spell (take_token t i token here) ∙ spell-push (take i t) token (escape token) refl)
+    let opened : string_bytes c.push.new.self ≡ string_bytes c.loop-number.text ++ slash ∷ [] = c.in_ok-push.ensures.bytes in
+    c.in_ok-push_escaped.ensures ∙ ap (λ xs. xs ++ escape token) opened ∙ append_assoc (string_bytes c.loop-number.text) (slash ∷ []) (escape token)
+    ∙ ap (λ xs. xs ++ slash ∷ escape token) c.loop-number.invariant ∙ sym (ap spell (take_token t i token here) ∙ spell-push (take i t) token (escape token) refl)
