@@ -65,7 +65,7 @@ impl Replica {
     }
 
     /// The document that the replica shows.
-    pub fn shown(&self, alloc: Global) -> Result<Doc, AllocError>
+    pub fn current_doc(&self, alloc: Global) -> Result<Doc, AllocError>
         ensures { IfOk result (λ shown. MatchOption self.now.joined
             (document shown ≡ document self.now.start)
             (λ j. document shown ≡ merge_patch (Some (document self.now.start)) (document j))) }

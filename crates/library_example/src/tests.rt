@@ -93,7 +93,7 @@ fn a_replica_joins_what_is_of_its_start(rt: HostRuntime) -> Result<(), Fail> {
         joined: None,
     };
     assert_eq!(rt;
-        write_doc(rt.alloc(), &replica.shown(rt.alloc())?)?.as_str(),
+        write_doc(rt.alloc(), &replica.current_doc(rt.alloc())?)?.as_str(),
         START
     );
     for (epoch, text, wanted) in ENVELOPES {
@@ -112,7 +112,7 @@ fn a_replica_joins_what_is_of_its_start(rt: HostRuntime) -> Result<(), Fail> {
         }
     }
     assert_eq!(rt;
-        write_doc(rt.alloc(), &replica.shown(rt.alloc())?)?.as_str(),
+        write_doc(rt.alloc(), &replica.current_doc(rt.alloc())?)?.as_str(),
         SHOWN
     );
     Ok(())

@@ -122,7 +122,7 @@ impl Write for Page {
     }
 }
 
-fn fed(text: &[u8], piece: usize, odd: Odd) -> Feed<'_> {
+fn feed_of(text: &[u8], piece: usize, odd: Odd) -> Feed<'_> {
     Feed {
         rest: text,
         piece,
@@ -182,7 +182,7 @@ fn expect_line(
         let result = run_over(
             alloc,
             command,
-            fed(input, piece, NONE),
+            feed_of(input, piece, NONE),
             blank_page(alloc, piece, NONE),
             blank_page(alloc, piece, NONE),
         );
@@ -237,7 +237,7 @@ fn each_read_may_fail(rt: HostRuntime) {
     let alloc = rt.alloc();
     for mishap in [Mishap::Fails, Mishap::IsInterrupted] {
         for call in 1..48 {
-            let reader = fed(INPUT.as_bytes(), 1, Odd { call, mishap });
+            let reader = feed_of(INPUT.as_bytes(), 1, Odd { call, mishap });
             let result = run_over(
                 alloc,
                 &Command::Merge,
@@ -262,7 +262,7 @@ fn each_read_may_fail(rt: HostRuntime) {
 #[test]
 fn each_read_is_counted(rt: HostRuntime) {
     let alloc = rt.alloc();
-    let reader = fed(INPUT.as_bytes(), 1, NONE);
+    let reader = feed_of(INPUT.as_bytes(), 1, NONE);
     let result = run_over(
         alloc,
         &Command::Merge,
@@ -314,7 +314,7 @@ fn each_write_may_fail(rt: HostRuntime) {
             let result = run_over(
                 alloc,
                 &Command::Merge,
-                fed(INPUT.as_bytes(), 100, NONE),
+                feed_of(INPUT.as_bytes(), 100, NONE),
                 out,
                 blank_page(alloc, 1, NONE),
             );
@@ -337,7 +337,7 @@ fn the_flush_may_fail(rt: HostRuntime) {
         let result = run_over(
             alloc,
             &Command::Merge,
-            fed(INPUT.as_bytes(), 100, NONE),
+            feed_of(INPUT.as_bytes(), 100, NONE),
             out,
             blank_page(alloc, 1, NONE),
         );
@@ -362,7 +362,7 @@ fn a_refusal_may_fail_to_be_written(rt: HostRuntime) {
     let result = run_over(
         alloc,
         &Command::Join,
-        fed(input.as_bytes(), 100, NONE),
+        feed_of(input.as_bytes(), 100, NONE),
         blank_page(alloc, 1, NONE),
         err,
     );
@@ -372,7 +372,7 @@ fn a_refusal_may_fail_to_be_written(rt: HostRuntime) {
 }
 
 /// `[5`, spaces and `]`: `length` bytes in all.
-fn spaced(alloc: Global, length: usize) -> Result<Vec<u8>, AllocError> {
+fn spaces_of_length(alloc: Global, length: usize) -> Result<Vec<u8>, AllocError> {
     let mut bytes = Vec::new(alloc);
     bytes.extend_from_slice(b"[5")?;
     for _ in 3..length {
@@ -385,11 +385,11 @@ fn spaced(alloc: Global, length: usize) -> Result<Vec<u8>, AllocError> {
 #[test]
 fn long_inputs_are_refused(rt: HostRuntime) -> Result<(), Fail> {
     let alloc = rt.alloc();
-    let longest = spaced(alloc, 1_048_576)?;
+    let longest = spaces_of_length(alloc, 1_048_576)?;
     expect_line(&rt, &Command::Merge, longest.as_slice(), 0, "5\n");
-    let longer = spaced(alloc, 1_048_577)?;
+    let longer = spaces_of_length(alloc, 1_048_577)?;
     for piece in [1, 1000, usize::MAX] {
-        let reader = fed(longer.as_slice(), piece, NONE);
+        let reader = feed_of(longer.as_slice(), piece, NONE);
         let result = run_over(
             alloc,
             &Command::Merge,

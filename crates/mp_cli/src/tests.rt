@@ -31,7 +31,10 @@ fn faults_say_what_happened(rt: HostRuntime) -> Result<(), Fail> {
     Ok(())
 }
 
-fn asked(alloc: Global, line: &str) -> Result<Result<Command, CommandFault>, AllocError> {
+fn command_asked_for(
+    alloc: Global,
+    line: &str,
+) -> Result<Result<Command, CommandFault>, AllocError> {
     let mut words = Vec::new(alloc);
     for word in line.split(' ') {
         words.push(String::from_str(alloc, word)?)?;
@@ -40,7 +43,7 @@ fn asked(alloc: Global, line: &str) -> Result<Result<Command, CommandFault>, All
 }
 
 fn expect_pointer(rt: &(impl Abort + AllocGlobal), line: &str, pointer: &str) {
-    let found = asked(rt.alloc(), line).expect(rt, "memory for a line");
+    let found = command_asked_for(rt.alloc(), line).expect(rt, "memory for a line");
     match &found {
         Ok(Command::Get(word)) => assert_eq!(rt; word.as_str(), pointer),
         _ => assert!(rt; false, "{line}"),
@@ -50,8 +53,18 @@ fn expect_pointer(rt: &(impl Abort + AllocGlobal), line: &str, pointer: &str) {
 #[test]
 fn words_ask_for_commands(rt: HostRuntime) -> Result<(), Fail> {
     let alloc = rt.alloc();
-    assert!(rt; matches!(asked(alloc, "mergejoin merge")?, Ok(Command::Merge)));
-    assert!(rt; matches!(asked(alloc, "mergejoin join")?, Ok(Command::Join)));
+    assert!(rt;
+        matches!(
+            command_asked_for(alloc, "mergejoin merge")?,
+            Ok(Command::Merge)
+        )
+    );
+    assert!(rt;
+        matches!(
+            command_asked_for(alloc, "mergejoin join")?,
+            Ok(Command::Join)
+        )
+    );
     for (line, pointer) in [
         ("mergejoin get /a", "/a"),
         ("mergejoin get foo~2", "foo~2"),
@@ -80,7 +93,7 @@ fn words_that_ask_for_nothing(rt: HostRuntime) -> Result<(), Fail> {
         "mergejoin get --/a",
     ] {
         assert!(rt;
-            matches!(asked(alloc, line)?, Err(CommandFault::Usage(_))),
+            matches!(command_asked_for(alloc, line)?, Err(CommandFault::Usage(_))),
             "{line}"
         );
     }
@@ -88,7 +101,7 @@ fn words_that_ask_for_nothing(rt: HostRuntime) -> Result<(), Fail> {
 }
 
 fn expect_help(rt: &(impl Abort + AllocGlobal), line: &str, parts: &[&str]) {
-    let found = asked(rt.alloc(), line).expect(rt, "memory for a line");
+    let found = command_asked_for(rt.alloc(), line).expect(rt, "memory for a line");
     match &found {
         Err(CommandFault::Help(text)) => {
             for part in parts {

@@ -129,7 +129,7 @@ fn check_text<R: Abort + AllocGlobal>(rt: &R, doc: &Doc, text: &str) {
 }
 
 // So many lists, one in another.
-fn nested(alloc: Global, count: u8) -> Result<Doc, AllocError> {
+fn nested_doc(alloc: Global, count: u8) -> Result<Doc, AllocError> {
     let mut doc = Doc::Items(Vec::new(alloc));
     for _ in 1..count {
         let mut outer = Vec::new(alloc);
@@ -227,14 +227,14 @@ fn depths_have_a_limit(rt: HostRuntime) -> Result<(), Fail> {
     let start = Doc::Items(Vec::new(rt.alloc()));
     let mut shallow = JsonPatch::new(rt.alloc());
     let end = Pointer::parse(rt.alloc(), "/-")?;
-    shallow.push(Op::Add(end, nested(rt.alloc(), 125)?))?;
+    shallow.push(Op::Add(end, nested_doc(rt.alloc(), 125)?))?;
     let deepest = apply(rt.alloc(), &start, &shallow)?;
     assert!(rt; deepest.fits(126), "at most 126");
     assert!(rt; !deepest.fits(125), "126");
 
     let mut deep = JsonPatch::new(rt.alloc());
     let end = Pointer::parse(rt.alloc(), "/-")?;
-    deep.push(Op::Add(end, nested(rt.alloc(), 126)?))?;
+    deep.push(Op::Add(end, nested_doc(rt.alloc(), 126)?))?;
     let too_deep = ApplyFault::Refused {
         op: 0,
         cause: Cause::TooDeep,
@@ -242,9 +242,9 @@ fn depths_have_a_limit(rt: HostRuntime) -> Result<(), Fail> {
     assert_eq!(rt; apply(rt.alloc(), &start, &deep).err(), Some(too_deep));
 
     let mut whole = JsonPatch::new(rt.alloc());
-    whole.push(Op::Replace(Pointer::empty(rt.alloc()), nested(rt.alloc(), 126)?))?;
+    whole.push(Op::Replace(Pointer::empty(rt.alloc()), nested_doc(rt.alloc(), 126)?))?;
     let replaced = apply(rt.alloc(), &start, &whole)?;
-    assert!(rt; replaced.same(&nested(rt.alloc(), 126)?), "the value");
+    assert!(rt; replaced.same(&nested_doc(rt.alloc(), 126)?), "the value");
     Ok(())
 }
 

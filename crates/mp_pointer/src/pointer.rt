@@ -103,12 +103,12 @@ impl Pointer {
         if self.is_plain {
             String::from_str(alloc, self.text.as_str())
         } else {
-            self.escaped(alloc)
+            self.escape_tokens(alloc)
         }
     }
 
     // The spelling, token by token.
-    fn escaped(&self, alloc: Global) -> Result<String, AllocError>
+    fn escape_tokens(&self, alloc: Global) -> Result<String, AllocError>
         ensures { IfOk result (λ text. string_bytes text ≡ spell self.now) }
     {
         let mut text = String::new(alloc);

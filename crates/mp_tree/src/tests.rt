@@ -4,7 +4,7 @@ use std::alloc::{AllocError, Global};
 use std::test::Fail;
 
 // `count` times `[`, what stands inside, and `count` times `]`.
-fn nested(alloc: Global, count: u8, inside: &str) -> Result<String, AllocError> {
+fn nested_text(alloc: Global, count: u8, inside: &str) -> Result<String, AllocError> {
     let mut text = String::new(alloc);
     for _ in 0..count {
         text.push('[')?;
@@ -88,14 +88,14 @@ fn nesting_has_a_limit(rt: HostRuntime) -> Result<(), Fail> {
         (126, "1.5", Some(ReadFault::NotWhole)),
         (127, "1.5", Some(ReadFault::NotWhole)),
     ] {
-        let text = nested(rt.alloc(), count, inside)?;
+        let text = nested_text(rt.alloc(), count, inside)?;
         assert_eq!(rt;
             doc_of(rt.alloc(), text.as_str()).err(),
             fault,
             "{count} {inside}"
         );
     }
-    let deepest = nested(rt.alloc(), 126, "")?;
+    let deepest = nested_text(rt.alloc(), 126, "")?;
     let doc = doc_of(rt.alloc(), deepest.as_str())?;
     assert_eq!(rt; write_doc(rt.alloc(), &doc)?.as_str(), deepest.as_str());
     Ok(())

@@ -97,12 +97,12 @@ fn merge_into_again(rt: HostRuntime) -> Result<(), Fail> {
 }
 
 /// The two patches of `CLASHING`, twice.
-fn clashing(alloc: Global) -> Option<(Vec<Doc>, Vec<Doc>)> {
+fn clashing_lists(alloc: Global) -> Option<(Vec<Doc>, Vec<Doc>)> {
     Some((docs_of(alloc, CLASHING)?, docs_of(alloc, CLASHING)?))
 }
 
 fn watch_conflict(alloc: Global) -> Option<Seen> {
-    let (patches, before) = clashing(alloc)?;
+    let (patches, before) = clashing_lists(alloc)?;
     let [p, q] = patches.as_slice() else {
         return None;
     };
@@ -138,7 +138,7 @@ fn join(rt: HostRuntime) -> Result<(), Fail> {
 }
 
 fn watch_join_of_clashing(alloc: Global) -> Option<Seen> {
-    let (patches, before) = clashing(alloc)?;
+    let (patches, before) = clashing_lists(alloc)?;
     let [p, q] = patches.as_slice() else {
         return None;
     };
@@ -197,7 +197,7 @@ fn join_all(rt: HostRuntime) -> Result<(), Fail> {
 }
 
 fn watch_join_all_of_clashing(alloc: Global) -> Option<Seen> {
-    let (patches, _) = clashing(alloc)?;
+    let (patches, _) = clashing_lists(alloc)?;
     let given = mp_merge::join_all(alloc, patches.as_slice());
     Some(of_clash(given, (0, 1), PLACES))
 }

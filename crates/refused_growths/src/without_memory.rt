@@ -234,7 +234,7 @@ fn fault_line(rt: HostRuntime) -> Result<(), Fail> {
 
 /// `Counted::new`, `calls`, `failures`, `bytes` and `into_device`.
 #[test]
-fn counted(rt: HostRuntime) -> Result<(), Fail> {
+fn counted_devices(rt: HostRuntime) -> Result<(), Fail> {
     let input = Counted::new(5);
     let counts = input.calls() == 0 && input.failures() == 0 && input.bytes() == 0;
     tell(

@@ -65,7 +65,7 @@ fn bytes_that_are_no_text(rt: HostRuntime) {
 }
 
 /// `depth` times `[`, then `depth` times `]`.
-fn nested(rt: &HostRuntime, depth: usize) -> Result<String, Fail> {
+fn nested_text(rt: &HostRuntime, depth: usize) -> Result<String, Fail> {
     let mut text = String::new(rt.alloc());
     for _ in 0..depth {
         text.push_str("[")?;
@@ -78,10 +78,10 @@ fn nested(rt: &HostRuntime, depth: usize) -> Result<String, Fail> {
 
 #[test]
 fn nesting_has_a_limit(rt: HostRuntime) -> Result<(), Fail> {
-    let deepest = nested(&rt, 127)?;
-    let inner = nested(&rt, 126)?;
+    let deepest = nested_text(&rt, 127)?;
+    let inner = nested_text(&rt, 126)?;
     check(&rt, &Command::Merge, deepest.as_bytes(), inner.as_str(), 0);
-    let too_deep = nested(&rt, 128)?;
+    let too_deep = nested_text(&rt, 128)?;
     check(
         &rt,
         &Command::Merge,

@@ -9,7 +9,7 @@ use std::process::Abort;
 use std::test::Fail;
 
 /// The texts of the numbers `from` up to `end`, each between `before` and `after`, with commas between two.
-fn counted(
+fn number_texts(
     alloc: Global,
     from: usize,
     end: usize,
@@ -27,7 +27,7 @@ fn counted(
 }
 
 /// This text, this often.
-fn repeated(alloc: Global, piece: &str, count: usize) -> Result<String, AllocError> {
+fn repeated_text(alloc: Global, piece: &str, count: usize) -> Result<String, AllocError> {
     let mut text = String::new(alloc);
     for _ in 0..count {
         text.push_str(piece)?;
@@ -38,8 +38,8 @@ fn repeated(alloc: Global, piece: &str, count: usize) -> Result<String, AllocErr
 #[test]
 fn three_hundred_elements(rt: HostRuntime) -> Result<(), Fail> {
     let alloc = rt.alloc();
-    let all = counted(alloc, 0, 300, "", "")?;
-    let rest = counted(alloc, 1, 300, "", "")?;
+    let all = number_texts(alloc, 0, 300, "", "")?;
+    let rest = number_texts(alloc, 1, 300, "", "")?;
     let input = format!(in alloc; "[[{all}]]")?;
     let last = Command::Get(String::from_str(alloc, "/299")?);
     check(&rt, &last, input.as_bytes(), "299", 0);
@@ -58,23 +58,23 @@ fn three_hundred_elements(rt: HostRuntime) -> Result<(), Fail> {
 #[test]
 fn three_hundred_names(rt: HostRuntime) -> Result<(), Fail> {
     let alloc = rt.alloc();
-    let olds = counted(alloc, 100, 400, "\"", "\":0")?;
-    let nulls = counted(alloc, 100, 400, "\"", "\":null")?;
-    let news = counted(alloc, 100, 400, "\"", "\":[1]")?;
+    let olds = number_texts(alloc, 100, 400, "\"", "\":0")?;
+    let nulls = number_texts(alloc, 100, 400, "\"", "\":null")?;
+    let news = number_texts(alloc, 100, 400, "\"", "\":[1]")?;
     let mut doc = read_doc(alloc, format!(in alloc; "{{{olds}}}")?.as_bytes())?;
     let change = read_doc(alloc, format!(in alloc; "{{{news}}}")?.as_bytes())?;
     merge_into(alloc, &mut doc, &change)?;
     assert!(rt; doc.same(&change));
     let input = format!(in alloc; "[{{{olds}}},{{{nulls}}}]")?;
     check(&rt, &Command::Merge, input.as_bytes(), "{}", 0);
-    let tests = counted(
+    let tests = number_texts(
         alloc,
         100,
         400,
         "{\"op\":\"test\",\"path\":\"/",
         "\",\"value\":0}",
     )?;
-    let edits = counted(alloc, 100, 400, "{\"op\":\"remove\",\"path\":\"/", "\"}")?;
+    let edits = number_texts(alloc, 100, 400, "{\"op\":\"remove\",\"path\":\"/", "\"}")?;
     let line = format!(in alloc; "[{tests},{edits}]")?;
     check(&rt, &Command::Rewrite, input.as_bytes(), line.as_str(), 0);
     Ok(())
@@ -83,7 +83,7 @@ fn three_hundred_names(rt: HostRuntime) -> Result<(), Fail> {
 #[test]
 fn many_operations(rt: HostRuntime) -> Result<(), Fail> {
     let alloc = rt.alloc();
-    let adds = counted(
+    let adds = number_texts(
         alloc,
         0,
         255,
@@ -91,7 +91,7 @@ fn many_operations(rt: HostRuntime) -> Result<(), Fail> {
         "}",
     )?;
     let input = format!(in alloc; "[[],[{adds},{{\"op\":\"remove\",\"path\":\"/0\"}}]]")?;
-    let rest = counted(alloc, 1, 255, "", "")?;
+    let rest = number_texts(alloc, 1, 255, "", "")?;
     check(
         &rt,
         &Command::Patch,
@@ -113,8 +113,8 @@ fn many_operations(rt: HostRuntime) -> Result<(), Fail> {
 #[test]
 fn many_patches(rt: HostRuntime) -> Result<(), Fail> {
     let alloc = rt.alloc();
-    let patches = counted(alloc, 1_000, 2_100, "{\"", "\":0}")?;
-    let all = counted(alloc, 1_000, 2_100, "\"", "\":0")?;
+    let patches = number_texts(alloc, 1_000, 2_100, "{\"", "\":0}")?;
+    let all = number_texts(alloc, 1_000, 2_100, "\"", "\":0")?;
     let whole = format!(in alloc; "{{{all}}}")?;
     let input = format!(in alloc; "[{patches}]")?;
     check(&rt, &Command::Join, input.as_bytes(), whole.as_str(), 0);
@@ -130,8 +130,8 @@ fn many_patches(rt: HostRuntime) -> Result<(), Fail> {
 fn long_pointers_are_followed(rt: HostRuntime) -> Result<(), Fail> {
     let alloc = rt.alloc();
     // One token that is spelled in 5,000 bytes.
-    let spelled = repeated(alloc, "a~0~1", 1_000)?;
-    let name = repeated(alloc, "a~/", 1_000)?;
+    let spelled = repeated_text(alloc, "a~0~1", 1_000)?;
+    let name = repeated_text(alloc, "a~/", 1_000)?;
     let text = format!(in alloc; "/{spelled}")?;
     let pointer = Pointer::parse(alloc, text.as_str())?;
     assert_eq!(rt; pointer.token(0), Some(name.as_str()));
@@ -139,9 +139,9 @@ fn long_pointers_are_followed(rt: HostRuntime) -> Result<(), Fail> {
     let input = format!(in alloc; "[{{\"{name}\":7}}]")?;
     check(&rt, &Command::Get(text), input.as_bytes(), "7", 0);
     // 120 tokens.
-    let text = repeated(alloc, "/0", 120)?;
-    let opened = repeated(alloc, "[", 120)?;
-    let closed = repeated(alloc, "]", 120)?;
+    let text = repeated_text(alloc, "/0", 120)?;
+    let opened = repeated_text(alloc, "[", 120)?;
+    let closed = repeated_text(alloc, "]", 120)?;
     let doc = read_doc(alloc, format!(in alloc; "{opened}7{closed}")?.as_bytes())?;
     let pointer = Pointer::parse(alloc, text.as_str())?;
     assert_eq!(rt; pointer.len(), 120);
@@ -174,11 +174,11 @@ fn empty_names_are_names(rt: HostRuntime) -> Result<(), Fail> {
 #[test]
 fn the_deepest_document_is_read(rt: HostRuntime) -> Result<(), Fail> {
     let alloc = rt.alloc();
-    let opened = repeated(alloc, "{\"a\":", 126)?;
-    let closed = repeated(alloc, "}", 126)?;
+    let opened = repeated_text(alloc, "{\"a\":", 126)?;
+    let closed = repeated_text(alloc, "}", 126)?;
     let one = format!(in alloc; "{opened}1{closed}")?;
     let two = format!(in alloc; "{opened}2{closed}")?;
-    let path = repeated(alloc, "/a", 126)?;
+    let path = repeated_text(alloc, "/a", 126)?;
     let input = format!(in alloc; "[{one},{two}]")?;
     check(&rt, &Command::Merge, input.as_bytes(), two.as_str(), 0);
     let line = format!(in alloc; "conflict: patches 0 and 1 at \"{path}\"")?;

@@ -6,7 +6,7 @@ use Rattle.mp_pointer.specs.Bytes.{slash}
 use Rattle.mp_pointer.specs.Spelling.{escape, spell}
 use Rattle.mp_pointer.proofs.Spellings.{spell-push}
 use Rattle.mp_pointer.proofs.TokenLists.{take_token}
-use Rattle.mp_pointer.proofs.pointer.Pointer.escaped.Goals as goal
+use Rattle.mp_pointer.proofs.pointer.Pointer.escape_tokens.Goals as goal
 
 pub loop-number-preserved : goal.loop-number-preserved
 unfolding encode
