@@ -1,6 +1,6 @@
 //! The run of the program: its input is read, answered and written.
 ghost use Rattle.std.specs.Prelude.{◌≡◌, ◌≢◌, ◌↔◌, ◌<◌, ◌≤◌, ℕ, List, IsErrOf, IfOk, IfErr, OnOk, OnErr};
-ghost use Rattle.mp_cli.specs.Answered.{IsAnswered};
+ghost use Rattle.mp_cli.specs.Answered.{answered_by, IsAnswered};
 ghost use Rattle.mp_cli.specs.Lines.{Answered};
 ghost use Rattle.mp_cli.specs.Counted.{calls_of, failures_of, bytes_of};
 ghost use Rattle.mp_cli.specs.Run.{ReadsBytes, ReadsWhole, WritesPart, WritesWhole, BreaksOff, Delivers};
@@ -98,13 +98,9 @@ pub fn run<R: Read, W: Write, E: Write>(
         → (out.new ≡ out.old) × (err.new ≡ err.old)) }
 {
     let bytes = read_whole(alloc, input)?;
-    let Answer { text, status } = answer(alloc, command, bytes.as_slice())?;
-    if status == 0 {
-        write_whole(text.as_bytes(), out)?;
-    } else {
-        write_whole(text.as_bytes(), err)?;
-    }
-    Ok(status)
+    let answer = answer(alloc, command, bytes.as_slice())?;
+    deliver(&answer, out, err)?;
+    Ok(answer.status)
 }
 
 /// The bytes of the reader up to its end.
@@ -132,6 +128,27 @@ fn read_whole<R: Read>(alloc: Global, input: &mut Counted<R>) -> Result<Vec<u8>,
         bytes.extend_from_slice(&piece[..count])?;
     }
     unreachable!()
+}
+
+/// Writes the answer's text to the writer of its status, and flushes that.
+fn deliver<W: Write, E: Write>(
+    answer: &Answer,
+    out: &mut Counted<W>,
+    err: &mut Counted<E>,
+) -> Result<(), RunFault>
+    requires fresh_out { calls_of out.old ≡ 0 }
+    requires fresh_err { calls_of err.old ≡ 0 }
+    ensures delivered { OnOk result
+        (Delivers W.contents E.contents (answered_by answer.now) out.old out.new err.old err.new) }
+    ensures broken_off { OnErr result
+        (BreaksOff W.contents E.contents (answered_by answer.now) out.old out.new err.old err.new) }
+    ensures fault { IfErr result (λ fault. fault ≡ RunFault.WriteFailed) }
+{
+    if answer.status == 0 {
+        write_whole(answer.text.as_bytes(), out)
+    } else {
+        write_whole(answer.text.as_bytes(), err)
+    }
 }
 
 /// Writes the whole text, and flushes.

@@ -1,14 +1,14 @@
 -- Rising lists of paths: two with the same members are equal, and one under a name goes before one under the names above it.
-use Rattle.std.proofs.Common.{◌≡◌, ◌≢◌, ◌⊎◌, inl, inr, ◌↔◌, ℕ, List, [], ◌∷◌, ◌++◌, map, Less, Equal, cond, Some, refl, sym, ap, ap₂, ◌∙◌, subst}
+use Rattle.std.proofs.Common.{◌≡◌, ◌⊎◌, inl, inr, ◌↔◌, ℕ, List, [], ◌∷◌, ◌++◌, map, Less, Equal, refl, sym, ap, ap₂, ◌∙◌, subst}
 use Rattle.std.proofs.lemmas.Cmp.{lists_total, nat_list_cmp_total, tied_itself}
 use Rattle.std.proofs.lemmas.List.Elements.{Contains-append_left, Contains-append_right, Contains-append_cases}
 use Rattle.std.specs.Cmp.{IsTotalOrder}
 use Rattle.std.specs.List.{Contains, AllByRecursion}
 use Rattle.std.specs.List.Sorted.{IsStrictlySortedBy}
 use Rattle.std.specs.Ordering.{ordering_then}
-use Rattle.mp_tree.specs.Document.{Members, no_members, member, name_cmp, find, IsBelow}
-use Rattle.mp_tree.specs.Look.{Path, nothing, look_of}
-use Rattle.mp_tree.proofs.Facts.{cases_same, name_cmp-self}
+use Rattle.mp_tree.specs.Document.{name_cmp}
+use Rattle.mp_tree.specs.Look.{Path}
+use Rattle.mp_tree.proofs.Facts.{name_cmp-self}
 use Rattle.mp_merge.specs.Clash.{path_cmp}
 use Rattle.mp_merge.proofs.Collections.Elements.{Contains-nil, Contains-head, Contains-tail, Contains-cases, Contains-one}
 

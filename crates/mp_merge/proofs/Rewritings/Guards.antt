@@ -6,7 +6,7 @@ use Rattle.mp_tree.specs.Look.{Path, Look, nothing, an_object, plain, look}
 use Rattle.mp_pointer.specs.Part.{part}
 use Rattle.mp_patch.specs.Operation.{Operation, test}
 use Rattle.mp_patch.specs.Refusal.{RefusedBy}
-use Rattle.mp_patch.specs.Run.{IsRefused, Runs}
+use Rattle.mp_patch.specs.Run.{Runs}
 use Rattle.mp_patch.proofs.Facts.{tests_freely}
 use Rattle.mp_merge.specs.Laws.{GuardedList, RefusedGuardTells}
 use Rattle.mp_merge.specs.Rewriting.{edit, guard_of, guards, edit_to, part_left}

@@ -9,7 +9,6 @@ use Rattle.mp_tree.specs.View.{document}
 use Rattle.mp_tree.specs.declared.doc.Doc.{Doc}
 use Rattle.mp_patch.specs.Operation.{Operation}
 use Rattle.mp_patch.specs.Run.{IsFaultOf}
-use Rattle.mp_patch.specs.View.{operations_of}
 use Rattle.mp_patch.specs.declared.fault.ApplyFault.{ApplyFault}
 use Rattle.mp_patch.specs.declared.fault.ApplyFault.TheVariants.{Refused}
 use Rattle.mp_patch.specs.declared.fault.ApplyFault.TheVariants.{OutOfMemory as NoMemoryToApply}
