@@ -1,5 +1,6 @@
 pub mod Application
 pub mod Clash
+pub mod Converged
 pub mod Convergence
 pub mod EditPlace
 pub mod Faults

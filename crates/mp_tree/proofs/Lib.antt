@@ -1,3 +1,4 @@
+pub mod ArrayTexts
 pub mod Ascending
 pub mod Decisions
 pub mod Depths
@@ -17,8 +18,11 @@ pub mod Meaning
 pub mod Names
 pub mod Passed
 pub mod ReadDocuments
+pub mod ReadTexts
 pub mod ReadValues
 pub mod RoundTrip
 pub mod SameParts
 pub mod Texts
+pub mod Throughout
+pub mod UnescapedTexts
 pub mod Wholes

@@ -1,6 +1,6 @@
 -- What a `Doc` means, variant by variant, and what each such document is.
-use Rattle.std.proofs.Common.{◌≡◌, List, [], ◌∷◌, map, Bool, IsUtf8, String, Vec, BTreeMap, Global, string_bytes, refl, sym, ap, ◌∙◌, subst, rules}
-use Rattle.mp_tree.specs.Document.{Document, null, flag, whole, string, list, object, IsDocument, AreDocuments, IsMap, HasTexts, ItemsHaveTexts, MembersHaveTexts, IsInRange, AreInRange, MembersAreInRange, Items as Elements, no_items, item, Members, no_members, put}
+use Rattle.std.proofs.Common.{◌≡◌, ◌≤◌, ℕ, ℤ, List, [], ◌∷◌, map, Bool, IsUtf8, String, Vec, BTreeMap, Global, string_bytes, refl, sym, ap, ◌∙◌, subst, rules}
+use Rattle.mp_tree.specs.Document.{Document, null, flag, whole, string, list, object, IsDocument, AreDocuments, IsMap, IsWhole, IsInRange, HasTexts, IsReadable, depth, depth_limit, Throughout, ThroughoutItems, ThroughoutMembers, Items as Elements, no_items, item, Members, no_members, put}
 use Rattle.mp_tree.specs.Laws.{DocsAreDocuments}
 use Rattle.mp_tree.specs.View.{number_of, byte_entries, members_of, document, document_step, items}
 use Rattle.mp_tree.specs.Private.Entries.{members}
@@ -8,8 +8,8 @@ use Rattle.mp_tree.specs.declared.whole.Whole.{Whole}
 use Rattle.mp_tree.specs.declared.doc.Doc.{Doc, Null, Flag, Text, Items, Members as Map, map-Doc, fold-roll-Doc, ind-Doc, the_lemmas}
 use Rattle.mp_tree.specs.declared.doc.Doc.TheOpen.{Doc-F}
 use Rattle.std.proofs.lemmas.Str.{IsUtf8-string_bytes}
-use Rattle.mp_tree.proofs.EachMember.{each_after_put}
 use Rattle.mp_tree.proofs.Maps.{IsMap-put}
+use Rattle.mp_tree.proofs.Throughout.{Throughout-put}
 
 byte_entries-map : {V W : Type 0} (f : V → W) (es : List (String Global × V)) → byte_entries (map (λ e. (e.0, f e.1)) es) ≡ map (λ e. (string_bytes e.0, f e.1)) es
 byte_entries-map f [] = refl
@@ -68,31 +68,28 @@ IsDocument-opened scalar = tt
 pub IsDocument-document : (d : Doc) → IsDocument (document d)
 IsDocument-document = by_parts IsDocument IsDocument-opened
 
--- ---- each number is within the number rule
+-- ---- what holds of each `Whole` and of each `String` holds throughout the document
 
-IsInRange-opened : (y : Doc-F (Paired IsInRange)) → IsInRange (opened IsInRange y)
-IsInRange-opened (Doc-F.Whole n) = (n.at_least, n.at_most)
-IsInRange-opened (Doc-F.Items v) = items_hold IsInRange AreInRange tt (λ d ds here rest. (here, rest)) v.items
-IsInRange-opened (Doc-F.Members m) =
-    let put_in_range = each_after_put (λ n d. IsInRange d) MembersAreInRange (λ n d ms. (λ h. h, λ h. h)) in
-    members_hold IsInRange MembersAreInRange tt (λ n d ms. put_in_range (string_bytes n) d ms) m.entries
-IsInRange-opened scalar = tt
+module _ (N : ℤ → Type 0) (S : List ℕ → Type 0) (numbers : (n : Whole) → N (number_of n)) (texts : (s : String Global) → S (string_bytes s)) where
+  opened_throughout : (y : Doc-F (Paired (Throughout N S))) → Throughout N S (opened (Throughout N S) y)
+  opened_throughout (Doc-F.Whole n) = numbers n
+  opened_throughout (Doc-F.Text s) = texts s
+  opened_throughout (Doc-F.Items v) = items_hold (Throughout N S) (ThroughoutItems N S) tt (λ d ds here rest. (here, rest)) v.items
+  opened_throughout (Doc-F.Members m) =
+      members_hold (Throughout N S) (ThroughoutMembers N S) tt (λ n d ms here rest. Throughout-put N S (string_bytes n) d ms (texts n) here rest) m.entries
+  opened_throughout scalar = tt
+
+  document_throughout : (d : Doc) → Throughout N S (document d)
+  document_throughout = by_parts (Throughout N S) opened_throughout
 
 pub IsInRange-document : (d : Doc) → IsInRange (document d)
-IsInRange-document = by_parts IsInRange IsInRange-opened
-
--- ---- each text and each name is UTF-8
-
-HasTexts-opened : (y : Doc-F (Paired HasTexts)) → HasTexts (opened HasTexts y)
-HasTexts-opened (Doc-F.Text s) = IsUtf8-string_bytes s
-HasTexts-opened (Doc-F.Items v) = items_hold HasTexts ItemsHaveTexts tt (λ d ds here rest. (here, rest)) v.items
-HasTexts-opened (Doc-F.Members m) =
-    let put_with_text = each_after_put (λ n d. IsUtf8 n × HasTexts d) MembersHaveTexts (λ n d ms. (λ h. ((h.0, h.1), h.2), λ h. (h.0.0, h.0.1, h.1))) in
-    members_hold HasTexts MembersHaveTexts tt (λ n d ms here rest. put_with_text (string_bytes n) d ms (IsUtf8-string_bytes n, here) rest) m.entries
-HasTexts-opened scalar = tt
+IsInRange-document = document_throughout IsWhole (λ s. Unit {0}) (λ n. (n.at_least, n.at_most)) (λ s. tt)
 
 pub HasTexts-document : (d : Doc) → HasTexts (document d)
-HasTexts-document = by_parts HasTexts HasTexts-opened
+HasTexts-document = document_throughout (λ z. Unit {0}) IsUtf8 (λ n. tt) IsUtf8-string_bytes
 
 pub docs_are_documents : DocsAreDocuments
 docs_are_documents d = (IsDocument-document d, HasTexts-document d, IsInRange-document d)
+
+pub IsReadable-document : (d : Doc) → depth (document d) ≤ depth_limit → IsReadable (document d)
+IsReadable-document d within = record { is_document = IsDocument-document d; has_texts = HasTexts-document d; in_range = IsInRange-document d; within = within }

@@ -7,17 +7,17 @@ use Rattle.mp_tree.specs.Text.{document_from, items_from, members_from, whole_nu
 use Rattle.mp_tree.proofs.Maps.{IsMap-put}
 
 -- what holds of a value holds of what it is mapped to
-if_mapped : {X Y : Type 0} (f : X → Y) (P : X → Type 0) (Q : Y → Type 0) (o : Option X) → ((x : X) → P x → Q (f x)) → IfSome o P → IfSome (option_map f o) Q
+pub if_mapped : {X Y : Type 0} (f : X → Y) (P : X → Type 0) (Q : Y → Type 0) (o : Option X) → ((x : X) → P x → Q (f x)) → IfSome o P → IfSome (option_map f o) Q
 if_mapped f P Q None keeps good = tt
 if_mapped f P Q (Some x) keeps good = keeps x good
 
-if_both : {X Y Z : Type 0} (f : X → Y → Z) (P : X → Type 0) (Q : Y → Type 0) (R : Z → Type 0) (o : Option X) (r : Option Y) → ((x : X) (y : Y) → P x → Q y → R (f x y)) → IfSome o P → IfSome r Q
+pub if_both : {X Y Z : Type 0} (f : X → Y → Z) (P : X → Type 0) (Q : Y → Type 0) (R : Z → Type 0) (o : Option X) (r : Option Y) → ((x : X) (y : Y) → P x → Q y → R (f x y)) → IfSome o P → IfSome r Q
     → IfSome (option_and_then (λ x. option_map (f x) r) o) R
 if_both f P Q R None r keeps good other = tt
 if_both f P Q R (Some x) r keeps good other = if_mapped (f x) Q R r (λ y fine. keeps x y good fine) other
 
 mutual
-  from_data : (x : Data) → IfSome (document_from x) IsDocument
+  pub from_data : (x : Data) → IfSome (document_from x) IsDocument
   from_data json.null = tt
   from_data (json.boolean b) = tt
   from_data (json.number n) = if_mapped whole (λ z. Unit {0}) IsDocument (whole_number n) (λ z is. tt) (elim (whole_number n) as (λ o. IfSome o (λ z. Unit {0})) [ None ↦ tt | Some z ↦ tt ])

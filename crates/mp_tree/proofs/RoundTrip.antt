@@ -23,8 +23,8 @@ use Rattle.serde_json.specs.Read.{number_of, of_json, of_items, of_members, max_
 use Rattle.serde_json.specs.Written.{number_text, outline, items_outline, members_outline, comma_if, items_text, members_text}
 use Rattle.serde_json.proofs.Numbers.{number_of-decimal, number_of-negative}
 use Rattle.serde_json.proofs.Texts.{print-outline}
-use Rattle.mp_tree.specs.Document.{Document, null, flag, whole, string, list, object, Items, no_items, item, Members, no_members, member, name_cmp, IsWhole, IsInRange, AreInRange, MembersAreInRange, IsDocument, AreDocuments, IsMap, IsBelow, HasTexts, ItemsHaveTexts, MembersHaveTexts, depth}
-use Rattle.mp_tree.specs.Laws.{ReadsBack, EqualTexts}
+use Rattle.mp_tree.specs.Document.{Document, null, flag, whole, string, list, object, Items, no_items, item, Members, no_members, member, name_cmp, IsWhole, IsInRange, IsDocument, AreDocuments, IsMap, IsBelow, HasTexts, IsReadable, Throughout, ThroughoutItems, ThroughoutMembers, depth, depth_limit}
+use Rattle.mp_tree.specs.Laws.{ReadsBack, ReadsUtf8Back, EqualTexts}
 use Rattle.mp_tree.specs.Text.{document_from, data_of, items_data, members_data, text, read, reading}
 use Rattle.mp_tree.proofs.Names.{below_is_above}
 use Rattle.mp_tree.proofs.Texts.{depth-data_of, document_from-data_of}
@@ -44,7 +44,7 @@ bound_above n h = omega (arith, ints)
 bound_below : (n : ℕ) → negsuc (2 ^ 63 - 1) ≤ℤ negsuc n → n < 2 ^ 63
 bound_below n h = omega (arith, ints)
 
-has_number : (z : ℤ) → IsWhole z → IsNumber (number_text (of_integer z))
+pub has_number : (z : ℤ) → IsWhole z → IsNumber (number_text (of_integer z))
 has_number (pos n) h = IsNumber-decimal n (bound_above n h.1)
 has_number (negsuc n) h = IsNumber-negative n (bound_below n h.0)
 
@@ -78,7 +78,7 @@ mutual
   members_depth-outline (json.member n x xs) = ap₂ max (depth-outline x) (members_depth-outline xs)
 
 mutual
-  has_numbers : (d : Document) → IsInRange d → HasNumbers (outline (data_of d))
+  pub has_numbers : (d : Document) → IsInRange d → HasNumbers (outline (data_of d))
   has_numbers null h = tt
   has_numbers (flag b) h = tt
   has_numbers (whole z) h = has_number z h
@@ -86,13 +86,13 @@ mutual
   has_numbers (list ds) h = items_have_numbers ds h
   has_numbers (object ms) h = members_have_numbers ms h
 
-  items_have_numbers : (ds : Items) → AreInRange ds → ItemsHaveNumbers (items_outline (items_data ds))
+  items_have_numbers : (ds : Items) → ThroughoutItems IsWhole (λ s. Unit {0}) ds → ItemsHaveNumbers (items_outline (items_data ds))
   items_have_numbers no_items h = tt
   items_have_numbers (item d ds) h = (has_numbers d h.0, items_have_numbers ds h.1)
 
-  members_have_numbers : (ms : Members) → MembersAreInRange ms → MembersHaveNumbers (members_outline (members_data ms))
+  members_have_numbers : (ms : Members) → ThroughoutMembers IsWhole (λ s. Unit {0}) ms → MembersHaveNumbers (members_outline (members_data ms))
   members_have_numbers no_members h = tt
-  members_have_numbers (member n d ms) h = (has_numbers d h.0, members_have_numbers ms h.1)
+  members_have_numbers (member n d ms) h = (has_numbers d h.1, members_have_numbers ms h.2)
 
 -- ---- members that are read one after another, each above those before it
 
@@ -141,17 +141,17 @@ mutual
   reads_outline (list ds) range good = ap (option_map json.array) (reads_items ds range good)
   reads_outline (object ms) range good = ap (option_map json.object) (reads_members ms json.no_members range good (none_under ms))
 
-  reads_items : (ds : Items) → AreInRange ds → AreDocuments ds → of_items (items_outline (items_data ds)) ≡ Some (items_data ds)
+  reads_items : (ds : Items) → ThroughoutItems IsWhole (λ s. Unit {0}) ds → AreDocuments ds → of_items (items_outline (items_data ds)) ≡ Some (items_data ds)
   reads_items no_items range good = refl
   reads_items (item d ds) range good = rw (reads_outline d range.0 good.0, reads_items ds range.1 good.1)
 
-  reads_members : (ms : Members) (found : json.Members) → MembersAreInRange ms → IsMap ms → AllUnder found ms → of_members (members_outline (members_data ms)) found ≡ Some (append found (members_data ms))
+  reads_members : (ms : Members) (found : json.Members) → ThroughoutMembers IsWhole (λ s. Unit {0}) ms → IsMap ms → AllUnder found ms → of_members (members_outline (members_data ms)) found ≡ Some (append found (members_data ms))
   reads_members no_members found range good under = ap Some (sym (append-none found))
   reads_members (member n d ms) found range good under =
       let x = data_of d in
       let last = put_last found n x under.0 in
-      let rest = reads_members ms (append found (json.member n x json.no_members)) range.1 good.2 (all_under_more found n x ms under.1 good.1) in
-      rw (reads_outline d range.0 good.0, last) (rest ∙ ap Some (append_one found n x (members_data ms)))
+      let rest = reads_members ms (append found (json.member n x json.no_members)) range.2 good.2 (all_under_more found n x ms under.1 good.1) in
+      rw (reads_outline d range.1 good.0, last) (rest ∙ ap Some (append_one found n x (members_data ms)))
 
 -- ---- the text is UTF-8
 
@@ -163,7 +163,7 @@ one : (x : ℕ) (xs : List ℕ) → IsUtf8 (x ∷ []) → IsUtf8 xs → IsUtf8 (
 one x xs = IsUtf8-append (x ∷ []) xs
 
 mutual
-  IsUtf8-text : (d : Document) → IsInRange d → HasTexts d → IsUtf8 (text d)
+  pub IsUtf8-text : (d : Document) → IsInRange d → HasTexts d → IsUtf8 (text d)
   IsUtf8-text null range texts = IsUtf8-are_ascii _ refl
   IsUtf8-text (flag b) range texts = IsUtf8-boolean b
   IsUtf8-text (whole z) range texts = IsUtf8-number z range
@@ -171,34 +171,37 @@ mutual
   IsUtf8-text (list ds) range texts = one 91 _ (IsUtf8-are_ascii (91 ∷ []) refl) (IsUtf8-items false ds range texts)
   IsUtf8-text (object ms) range texts = one 123 _ (IsUtf8-are_ascii (123 ∷ []) refl) (IsUtf8-members false ms range texts)
 
-  IsUtf8-items : (later : Bool) (ds : Items) → AreInRange ds → ItemsHaveTexts ds → IsUtf8 (items_text later (items_data ds))
+  IsUtf8-items : (later : Bool) (ds : Items) → ThroughoutItems IsWhole (λ s. Unit {0}) ds → ThroughoutItems (λ z. Unit {0}) IsUtf8 ds → IsUtf8 (items_text later (items_data ds))
   IsUtf8-items later no_items range texts = IsUtf8-are_ascii (93 ∷ []) refl
   IsUtf8-items later (item d ds) range texts = IsUtf8-append _ _ (IsUtf8-comma later) (IsUtf8-append _ _ (IsUtf8-text d range.0 texts.0) (IsUtf8-items true ds range.1 texts.1))
 
-  IsUtf8-members : (later : Bool) (ms : Members) → MembersAreInRange ms → MembersHaveTexts ms → IsUtf8 (members_text later (members_data ms))
+  IsUtf8-members : (later : Bool) (ms : Members) → ThroughoutMembers IsWhole (λ s. Unit {0}) ms → ThroughoutMembers (λ z. Unit {0}) IsUtf8 ms → IsUtf8 (members_text later (members_data ms))
   IsUtf8-members later no_members range texts = IsUtf8-are_ascii (125 ∷ []) refl
   IsUtf8-members later (member n d ms) range texts =
-      let value = IsUtf8-append _ _ (IsUtf8-text d range.0 texts.1) (IsUtf8-members true ms range.1 texts.2) in
+      let value = IsUtf8-append _ _ (IsUtf8-text d range.1 texts.1) (IsUtf8-members true ms range.2 texts.2) in
       IsUtf8-append _ _ (IsUtf8-comma later) (IsUtf8-append _ _ (IsUtf8-quoted n texts.0) (one 58 _ (IsUtf8-are_ascii (58 ∷ []) refl) value))
 
 -- ---- the round trip
 
-reads_tokens : (d : Document) → IsInRange d → depth d ≤ max_depth → serde_json.read (text d) ≡ of_json (outline (data_of d))
-reads_tokens d range shallow_document =
+-- the tokens are all that is read of bytes that are UTF-8
+pub reads_same_tokens : (bytes : List ℕ) (d : Document) → IsUtf8 bytes → tokens bytes ≡ tokens (text d) → IsInRange d → IsDocument d → depth d ≤ max_depth → reading bytes ≡ Some (data_of d)
+reads_same_tokens bytes d utf8 same range good within =
     let j = outline (data_of d) in
     let printed : tokens (text d) ≡ json_tokens j = ap tokens (sym (print-outline (data_of d))) ∙ tokens-print (json_tokens j) (ArePrintable-json_tokens j (has_numbers d range)) in
     let nests : tree.depth j ≤ max_depth = omega (arith, depth-outline (data_of d), depth-data_of d) in
-    ap (λ o. option_and_then of_json (option_and_then (λ p. json_text.if_last p.0 p.1) o)) (ap (json_text.value max_depth) (printed ∙ sym (append-nil (json_tokens j))) ∙ value-json_tokens j max_depth [] nests)
+    let whole_text : serde_json.read bytes ≡ Some (data_of d) =
+    ap (λ o. option_and_then of_json (option_and_then (λ p. json_text.if_last p.0 p.1) o)) (ap (json_text.value max_depth) (same ∙ printed ∙ sym (append-nil (json_tokens j))) ∙ value-json_tokens j max_depth [] nests)
+    ∙ reads_outline d range good in
+    rw (is_utf8-from_IsUtf8 bytes utf8) whole_text
+
+pub read-utf8 : ReadsUtf8Back
+read-utf8 d good range within utf8 = ap (option_and_then document_from) (reads_same_tokens (text d) d utf8 refl range good (omega arith)) ∙ document_from-data_of d good
 
 pub read-text : ReadsBack
-read-text d good texts range shallow_document =
-    let whole_text : serde_json.read (text d) ≡ Some (data_of d) = reads_tokens d range (omega arith) ∙ reads_outline d range good in
-    let is : reading (text d) ≡ Some (data_of d) = rw (is_utf8-from_IsUtf8 (text d) (IsUtf8-text d range texts)) whole_text in
-    ap (option_and_then document_from) is ∙ document_from-data_of d good
+read-text d can = read-utf8 d can.is_document can.in_range can.within (IsUtf8-text d can.in_range can.has_texts)
 
 some_same : {A : Type 0} (a b : A) → Some a ≡ Some b → a ≡ b
 some_same a b same = cc
 
 pub same-text : EqualTexts
-same-text d e good texts range shallow_document good' texts' range' shallow' =
-    (λ same. ap text same, λ same. some_same d e (sym (read-text d good texts range shallow_document) ∙ ap read same ∙ read-text e good' texts' range' shallow'))
+same-text d e can could = (λ same. ap text same, λ same. some_same d e (sym (read-text d can) ∙ ap read same ∙ read-text e could))

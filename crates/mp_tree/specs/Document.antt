@@ -1,6 +1,6 @@
 -- What a JSON document is (RFC 8259 section 3, with whole numbers alone): null, a truth value, a whole number,
 -- a text, a list of documents, or a finite map from names to documents. Texts and names are UTF-8 bytes.
-use Rattle.std.specs.Prelude.{◌≡◌, ◌≤ℤ◌, ◌^◌, ◌-◌, ℕ, suc, max, ℤ, pos, negsuc, List, Bool, cond, Option, None, Some, ⊤, IsUtf8}
+use Rattle.std.specs.Prelude.{◌≡◌, ◌≤◌, ◌≤ℤ◌, ◌^◌, ◌-◌, ℕ, suc, max, ℤ, pos, negsuc, List, Bool, cond, Option, None, Some, ⊤, IsUtf8}
 use Rattle.std.specs.declared.cmp.Ordering.{Ordering}
 use Rattle.std.specs.declared.cmp.Ordering.TheVariants.{Less}
 use Rattle.std.specs.Ordering.{nat_cmp, match_ordering, is_eq}
@@ -73,7 +73,7 @@ abbrev mutual
   IsMap no_members = ⊤
   IsMap (member n d ms) = IsDocument d × IsBelow n ms × IsMap ms
 
--- ---- depth and range
+-- ---- depth, numbers and texts
 
 -- 0 for a scalar; one more than the deepest part for a list or an object, and 1 for an empty one
 abbrev mutual
@@ -101,38 +101,35 @@ depth_limit = 126
 abbrev pub IsWhole : ℤ → Type 0
 IsWhole z = (negsuc (2 ^ 63 - 1) ≤ℤ z) × (z ≤ℤ pos (2 ^ 64 - 1))
 
--- each number is within the number rule
+-- N holds of each number, and S of each text and of each name
 abbrev mutual
-  pub IsInRange : Document → Type 0
-  IsInRange null = ⊤
-  IsInRange (flag b) = ⊤
-  IsInRange (whole z) = IsWhole z
-  IsInRange (string s) = ⊤
-  IsInRange (list ds) = AreInRange ds
-  IsInRange (object ms) = MembersAreInRange ms
+  pub Throughout : (ℤ → Type 0) → (List ℕ → Type 0) → Document → Type 0
+  Throughout N S null = ⊤
+  Throughout N S (flag b) = ⊤
+  Throughout N S (whole z) = N z
+  Throughout N S (string s) = S s
+  Throughout N S (list ds) = ThroughoutItems N S ds
+  Throughout N S (object ms) = ThroughoutMembers N S ms
 
-  pub AreInRange : Items → Type 0
-  AreInRange no_items = ⊤
-  AreInRange (item d ds) = IsInRange d × AreInRange ds
+  pub ThroughoutItems : (ℤ → Type 0) → (List ℕ → Type 0) → Items → Type 0
+  ThroughoutItems N S no_items = ⊤
+  ThroughoutItems N S (item d ds) = Throughout N S d × ThroughoutItems N S ds
 
-  pub MembersAreInRange : Members → Type 0
-  MembersAreInRange no_members = ⊤
-  MembersAreInRange (member n d ms) = IsInRange d × MembersAreInRange ms
+  pub ThroughoutMembers : (ℤ → Type 0) → (List ℕ → Type 0) → Members → Type 0
+  ThroughoutMembers N S no_members = ⊤
+  ThroughoutMembers N S (member n d ms) = S n × Throughout N S d × ThroughoutMembers N S ms
+
+-- each number is within the number rule
+abbrev pub IsInRange : Document → Type 0
+IsInRange = Throughout IsWhole (λ s. ⊤)
 
 -- each text and each name is UTF-8
-abbrev mutual
-  pub HasTexts : Document → Type 0
-  HasTexts null = ⊤
-  HasTexts (flag b) = ⊤
-  HasTexts (whole z) = ⊤
-  HasTexts (string s) = IsUtf8 s
-  HasTexts (list ds) = ItemsHaveTexts ds
-  HasTexts (object ms) = MembersHaveTexts ms
+abbrev pub HasTexts : Document → Type 0
+HasTexts = Throughout (λ z. ⊤) IsUtf8
 
-  pub ItemsHaveTexts : Items → Type 0
-  ItemsHaveTexts no_items = ⊤
-  ItemsHaveTexts (item d ds) = HasTexts d × ItemsHaveTexts ds
-
-  pub MembersHaveTexts : Members → Type 0
-  MembersHaveTexts no_members = ⊤
-  MembersHaveTexts (member n d ms) = IsUtf8 n × HasTexts d × MembersHaveTexts ms
+-- what can be read: its objects are maps, its texts UTF-8, its numbers and its depth within the rules
+pub record IsReadable (d : Document) : Type 0 where
+  pub is_document : IsDocument d
+  pub has_texts : HasTexts d
+  pub in_range : IsInRange d
+  pub within : depth d ≤ depth_limit

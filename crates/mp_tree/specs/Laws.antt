@@ -1,8 +1,12 @@
 -- Laws over documents alone. Each is the contract of a function of the module `laws` that runs nothing.
-use Rattle.std.specs.Prelude.{◌≡◌, ◌≢◌, ◌≤◌, ◌↔◌, ℕ, List, true, None, Some}
-use Rattle.mp_tree.specs.Document.{Document, Members, IsDocument, IsMap, HasTexts, IsInRange, depth, depth_limit, find, is_name, put, without}
+use Rattle.std.specs.Prelude.{◌≡◌, ◌≢◌, ◌≤◌, ◌↔◌, ℕ, List, true, None, Some, Ok, IsUtf8}
+use Rattle.std.specs.List.{All}
+use Rattle.mp_tree.specs.Arrays.{IsArrayOf}
+use Rattle.mp_tree.specs.Document.{Document, Items, Members, IsDocument, IsMap, HasTexts, IsInRange, IsReadable}
+use Rattle.mp_tree.specs.Document.{depth, depth_limit, find, is_name, put, without}
+use Rattle.mp_tree.specs.Elements.{items_of, list_of}
 use Rattle.mp_tree.specs.Look.{Path, look}
-use Rattle.mp_tree.specs.Text.{read, text}
+use Rattle.mp_tree.specs.Text.{document_in, documents_in, read, text}
 use Rattle.mp_tree.specs.View.{document, number_of}
 use Rattle.mp_tree.specs.declared.doc.Doc.{Doc}
 use Rattle.mp_tree.specs.declared.whole.Whole.{Whole}
@@ -12,14 +16,35 @@ use Rattle.mp_tree.specs.declared.whole.Whole.{Whole}
 abbrev pub DocsAreDocuments : Type 0
 DocsAreDocuments = (d : Doc) → IsDocument (document d) × HasTexts (document d) × IsInRange (document d)
 
+-- ---- texts
+
+-- what is read can be read
+abbrev pub ReadsReadable : Type 0
+ReadsReadable = (bytes : List ℕ) (d : Document) → document_in bytes ≡ Ok d → IsReadable d
+
+-- and so can each element of an array that is read
+abbrev pub ReadsReadables : Type 0
+ReadsReadables = (bytes : List ℕ) (ds : Items) → documents_in bytes ≡ Ok ds → All IsReadable (list_of ds)
+
 -- what is written is read back
 abbrev pub ReadsBack : Type 0
-ReadsBack = (d : Document) → IsDocument d → HasTexts d → IsInRange d → depth d ≤ depth_limit → read (text d) ≡ Some d
+ReadsBack = (d : Document) → IsReadable d → read (text d) ≡ Some d
 
--- two such documents are equal exactly if their texts are
+-- so are the elements of an array of texts, with white space around each
+abbrev pub ArraysReadBack : Type 0
+ArraysReadBack = (ds : List Document) (bytes : List ℕ) → All IsReadable ds → IsArrayOf ds bytes
+    → documents_in bytes ≡ Ok (items_of ds)
+
+-- that the texts within are UTF-8 is asked of what is written alone, as a `String` is
+abbrev pub ReadsUtf8Back : Type 0
+ReadsUtf8Back = (d : Document) → IsDocument d → IsInRange d → depth d ≤ depth_limit → IsUtf8 (text d)
+    → read (text d) ≡ Some d
+
+-- two documents that can be read are equal exactly if their texts are
 abbrev pub EqualTexts : Type 0
-EqualTexts = (d e : Document) → IsDocument d → HasTexts d → IsInRange d → depth d ≤ depth_limit
-    → IsDocument e → HasTexts e → IsInRange e → depth e ≤ depth_limit → (d ≡ e) ↔ (text d ≡ text e)
+EqualTexts = (d e : Document) → IsReadable d → IsReadable e → (d ≡ e) ↔ (text d ≡ text e)
+
+-- ---- looks and numbers
 
 -- the looks at every path decide what a document is
 abbrev pub EqualLooks : Type 0

@@ -1,3 +1,4 @@
+pub mod Arrays
 pub mod Document
 pub mod Elements
 pub mod Laws

@@ -53,12 +53,12 @@ elements (list ds) = Ok ds
 elements _ = Err NotAnArray
 
 -- of a document, where all numbers were whole
-abbrev whole_or_fault : Option Document → Result Items DocsFault
+abbrev pub whole_or_fault : Option Document → Result Items DocsFault
 whole_or_fault None = Err NotWhole
 whole_or_fault (Some d) = elements d
 
 -- of a reading, where there was one
-abbrev read_or_fault : Option Data → Result Items DocsFault
+abbrev pub read_or_fault : Option Data → Result Items DocsFault
 read_or_fault None = Err NotJson
 read_or_fault (Some d) = whole_or_fault (document_from d)
 
@@ -73,12 +73,12 @@ abbrev pub shallow_document : Document → Result Document ReadFault
 shallow_document d = if nat_le (depth d) depth_limit then Ok d else Err fault.TooDeep
 
 -- of a document, where all numbers were whole
-abbrev whole_document : Option Document → Result Document ReadFault
+abbrev pub whole_document : Option Document → Result Document ReadFault
 whole_document None = Err fault.NotWhole
 whole_document (Some d) = shallow_document d
 
 -- of a reading, where there was one
-abbrev document_read : Option Data → Result Document ReadFault
+abbrev pub document_read : Option Data → Result Document ReadFault
 document_read None = Err fault.NotJson
 document_read (Some d) = whole_document (document_from d)
 

@@ -1,5 +1,5 @@
 //! Laws over documents alone: each function runs nothing, and its contract is the law.
-ghost use Rattle.mp_tree.specs.Laws.{DocsAreDocuments, ReadsBack, EqualTexts, EqualLooks, EqualNumbers, SameNames, SetsOneName, RemovesOneName, EqualMaps};
+ghost use Rattle.mp_tree.specs.Laws.{DocsAreDocuments, ReadsReadable, ReadsReadables, ReadsBack, ReadsUtf8Back, ArraysReadBack, EqualTexts, EqualLooks, EqualNumbers, SameNames, SetsOneName, RemovesOneName, EqualMaps};
 
 /// Each `Doc` means a document: each object in it is a finite map, its texts and names are UTF-8, and its numbers are
 /// from -2^63 to 2^64 - 1. So the laws over documents speak of every `Doc`.
@@ -7,12 +7,30 @@ pub fn docs_are_documents()
     ensures { DocsAreDocuments }
 {}
 
-/// What is written for a document of depth at most 126 is read back as that document.
-pub fn texts_read_back()
-    ensures { ReadsBack }
+/// What is read can be read: its objects are finite maps, its texts and names are UTF-8, its numbers are whole and from
+/// -2^63 to 2^64 - 1, and it is at most 126 deep; and so is each element of an array that is read. So the laws over
+/// documents speak of all that is read.
+pub fn readings_are_documents()
+    ensures document { ReadsReadable }
+    ensures elements { ReadsReadables }
 {}
 
-/// Two documents of depth at most 126 are equal exactly if their texts are.
+/// What is written for a document is read back as that document, where its objects are finite maps, its texts and names
+/// are UTF-8, its numbers are whole and from -2^63 to 2^64 - 1, and it is at most 126 deep. Of the texts it is enough
+/// that what is written is UTF-8, as every `String` is.
+pub fn texts_read_back()
+    ensures readable { ReadsBack }
+    ensures utf8 { ReadsUtf8Back }
+{}
+
+/// Texts of such documents in an array, with commas between them and white space around each, are read as these
+/// documents, though the array nests one deeper than each: so a program may make its input of texts that it has.
+pub fn arrays_read_back()
+    ensures { ArraysReadBack }
+{}
+
+/// Two documents are equal exactly if their texts are, where their objects are finite maps, their texts and names are
+/// UTF-8, their numbers are whole and from -2^63 to 2^64 - 1, and both are at most 126 deep.
 pub fn equal_texts()
     ensures { EqualTexts }
 {}

@@ -1,9 +1,9 @@
 -- Contracts, words of specs/ and the laws that the body names: nothing else is cited but lists of the standard library.
-use Rattle.std.proofs.Common.{◌≡◌, List, map, Some, Ok, Err, Result, IfErr, IsErrAnd, MatchResult, refl, sym, ap, ◌∙◌, subst, rules}
+use Rattle.std.proofs.Common.{◌≡◌, List, [], map, Some, Ok, Err, Result, IfErr, IsErrAnd, MatchResult, inl, inr, refl, sym, ap, ◌∙◌, subst, rules}
 use Rattle.std.proofs.lemmas.Result.{MatchResult-at_ok}
 use Rattle.std.proofs.lemmas.List.Elements.{All-contains_itself, All-map, All-weaker}
 use Rattle.std.specs.List.{All, Contains}
-use Rattle.mp_tree.specs.Document.{Document, IsDocument}
+use Rattle.mp_tree.specs.Document.{Document, IsDocument, depth_limit}
 use Rattle.mp_tree.specs.Laws.{DocsAreDocuments}
 use Rattle.mp_tree.specs.View.{document}
 use Rattle.mp_tree.specs.declared.doc.Doc.{Doc}
@@ -13,18 +13,21 @@ use Rattle.mp_patch.specs.declared.fault.ApplyFault.{ApplyFault}
 use Rattle.mp_patch.specs.declared.fault.ApplyFault.TheVariants.{Refused}
 use Rattle.mp_patch.specs.declared.fault.ApplyFault.TheVariants.{OutOfMemory as NoMemoryToApply}
 use Rattle.mp_merge.specs.Application.{merge_patch}
-use Rattle.mp_merge.specs.Faults.{told_of_list, told_of_patch}
-use Rattle.mp_merge.specs.Replicas.{AreReplicas, AreReplicaDocs}
+use Rattle.mp_merge.specs.Converged.{IsConverged, IsConvergeFault}
 use Rattle.mp_merge.specs.Convergence.{Converge, LeadsTo, ReachesEnd, ReplicasConverge}
+use Rattle.mp_merge.specs.Faults.{told_of_list, told_of_patch}
 use Rattle.mp_merge.specs.Join.{IsJoin}
-use Rattle.mp_merge.specs.Laws.{HasOneRewriting}
-use Rattle.mp_merge.specs.Lists.{HaveSameMembers, IsJoinAllFault, IsReplayFault}
+use Rattle.mp_merge.specs.Laws.{HasOneRewriting, OutcomeExists}
+use Rattle.mp_merge.specs.Lists.{AreWithin, HaveSameMembers, IsJoinAllFault, IsReplayFault, PairwiseCompatible}
 use Rattle.mp_merge.specs.Outcome.{IsOutcome}
+use Rattle.mp_merge.specs.Replicas.{AreReplicas}
 use Rattle.mp_merge.specs.Rewriting.{IsRewriting}
 use Rattle.mp_merge.specs.declared.converging.Converged.{Converged}
 use Rattle.mp_merge.specs.declared.fault.ConvergeFault.{ConvergeFault}
 use Rattle.mp_merge.specs.declared.fault.ConvergeFault.TheVariants.{OutOfMemory}
 use Rattle.mp_merge.specs.declared.fault.ListFault.{ListFault}
+use Rattle.mp_merge.specs.declared.fault.ListFault.TheVariants.{NoPatches, ConflictOf}
+use Rattle.mp_merge.specs.declared.fault.ListFault.TheVariants.{OutOfMemory as NoMemoryForList}
 use Rattle.mp_merge.proofs.converging.converge.Goals as goal
 
 -- ---- what the calls answer of the patches that a replica received
@@ -44,87 +47,173 @@ patch_fault leads (Refused op cause) refused = absurd (leads.unrefused op cause 
 patch_fault leads NoMemoryToApply refused = refl
 
 -- what a `?` hands on
-handed_on : {told : ConvergeFault} (r : Result Converged ConvergeFault) → IsErrAnd r (λ fault. fault ≡ told) → told ≡ OutOfMemory → IfErr r (λ fault. fault ≡ OutOfMemory)
-handed_on (Ok all) exit memory = tt
-handed_on (Err fault) exit memory = exit ∙ memory
+handed_on : {told : ConvergeFault} (P : ConvergeFault → Type 0) (r : Result Converged ConvergeFault) → IsErrAnd r (λ fault. fault ≡ told) → P told → IfErr r P
+handed_on P (Ok all) exit holds = tt
+handed_on P (Err fault) exit holds = subst P (sym exit) holds
+
+refused_by : {told : ConvergeFault} (P : ConvergeFault → Type 0) (Q : Converged → Type 0) (r : Result Converged ConvergeFault) → IsErrAnd r (λ fault. fault ≡ told) → P told
+    → MatchResult r Q P
+refused_by P Q (Ok all) exit holds = absurd exit
+refused_by P Q (Err fault) exit holds = subst P (sym exit) holds
 
 -- ---- two replicas
 
 same_members : (ps : List Document) → HaveSameMembers ps ps
 same_members ps p = (λ at. at, λ at. at)
 
+all_documents : DocsAreDocuments → (ds : List Doc) → All IsDocument (map document ds)
+all_documents docs ds = All-map IsDocument document ds (All-weaker (Contains ds) (λ d. IsDocument (document d)) (λ d at. (docs d).0) ds (All-contains_itself ds))
+
 -- what both come to
 record Ends (start : Document) (here there : List Document) : Type 0 where
   joined : Document
   at_here : ReachesEnd start joined (merge_patch (Some start) joined) here
   at_there : ReachesEnd start joined (merge_patch (Some start) joined) there
-  leads : HasOneRewriting → (j : Document) (operations : List Operation) → j ≡ joined → IsRewriting start j operations → LeadsTo start (merge_patch (Some start) joined) operations
+  leads : AreWithin depth_limit here → HasOneRewriting → (j : Document) (operations : List Operation) → j ≡ joined → IsRewriting start j operations
+      → LeadsTo start (merge_patch (Some start) joined) operations
 
-ends : DocsAreDocuments → ReplicasConverge → (start : Doc) (here there : List Doc) → AreReplicas (document start) (map document here) (map document there) → Ends (document start) (map document here) (map document there)
+ends : DocsAreDocuments → ReplicasConverge → (start : Doc) (here there : List Doc) → AreReplicas (map document here) (map document there) → Ends (document start) (map document here) (map document there)
 ends docs law start here there are = record {
   joined = all.joined;
   at_here = all.reached (map document here) (same_members (map document here));
   at_there = all.reached (map document there) are.same;
-  leads = λ one j operations is rewriting.
+  leads = λ within one j operations is rewriting.
       let rewritten : IsRewriting (document start) all.joined operations = subst (λ k. IsRewriting (document start) k operations) is rewriting in
       let same : all.operations ≡ operations = one (document start) all.joined all.operations operations all.rewritten rewritten in
-      subst (LeadsTo (document start) (merge_patch (Some (document start)) all.joined)) same (all.leads are.patch_depths);
+      subst (LeadsTo (document start) (merge_patch (Some (document start)) all.joined)) same (all.leads within);
 }
   where
-    all_documents : All IsDocument (map document here)
-    all_documents = All-map IsDocument document here (All-weaker (Contains here) (λ d. IsDocument (document d)) (λ d at. (docs d).0) here (All-contains_itself here))
-
     all : Converge (document start) (map document here)
-    all = law (document start) (map document here) (docs start).0 are.some all_documents are.compatible
+    all = law (document start) (map document here) (docs start).0 are.some (all_documents docs here) are.compatible
 
--- ---- the calls
+-- ---- the calls for any lists
+
+-- where there is a replay, no two patches clash
+compatible : DocsAreDocuments → OutcomeExists → (start : Doc) (ps : List Doc) {r : Result Doc ListFault} {d : Doc} → r ≡ Ok d
+    → MatchResult r (λ e. IsOutcome (document start) (map document ps) (document e)) (λ fault. IsReplayFault fault (map document ps)) → PairwiseCompatible (map document ps)
+compatible docs law start ps {d = d} is says =
+    (law (document start) (map document ps) (docs start).0 (all_documents docs ps)).0 (document d, (docs d).0, MatchResult-at_ok _ _ d is says)
+
+module _ (start : Document) (here there : List Document) where
+  here_refused : (fault : ListFault) → IsReplayFault fault here → IsConvergeFault (told_of_list fault) start here there
+  here_refused NoPatches never = absurd never
+  here_refused (ConflictOf first second places) told = inl told
+  here_refused NoMemoryForList memory = tt
+
+  there_refused : (fault : ListFault) → PairwiseCompatible here → IsReplayFault fault there → IsConvergeFault (told_of_list fault) start here there
+  there_refused NoPatches fine never = absurd never
+  there_refused (ConflictOf first second places) fine told = inr (fine, told)
+  there_refused NoMemoryForList fine memory = tt
+
+  join_refused : (fault : ListFault) → PairwiseCompatible here → PairwiseCompatible there → IsJoinAllFault fault here → IsConvergeFault (told_of_list fault) start here there
+  join_refused NoPatches fine good none = (fine, good, inl none)
+  join_refused (ConflictOf first second places) fine good told = inl told
+  join_refused NoMemoryForList fine good memory = tt
+
+  other_refused : (fault : ListFault) → PairwiseCompatible here → PairwiseCompatible there → IsJoinAllFault fault there → IsConvergeFault (told_of_list fault) start here there
+  other_refused NoPatches fine good none = (fine, good, inr none)
+  other_refused (ConflictOf first second places) fine good told = inr (fine, told)
+  other_refused NoMemoryForList fine good memory = tt
+
+  patch_refused : (fault : ApplyFault) (joined other : Document) (operations : List Operation) → IsJoin here joined → IsJoin there other → IsRewriting start joined operations
+      → IsFaultOf fault start operations → IsConvergeFault (told_of_patch fault) start here there
+  patch_refused (Refused op cause) joined other operations is was edits refused = record {
+    joined = joined;
+    joined_here = is;
+    other = other;
+    joined_there = was;
+    operations = operations;
+    edits = edits;
+    refused = refused;
+  }
+  patch_refused NoMemoryToApply joined other operations is was edits memory = tt
+
+-- ---- the calls of `converge`
+
+pub returns-in_err-replayed_here-clause-calls : goal.returns-in_err-replayed_here-clause-calls
+returns-in_err-replayed_here-clause-calls c =
+    refused_by _ _ c.from_residual.result c.from_residual.ensures.1 (here_refused _ _ _ c.in_err-replayed_here.field-0.0 c.in_err-replayed_here.ensures.outcome)
 
 pub returns-in_err-replayed_here-clause-refused : goal.returns-in_err-replayed_here-clause-refused
-returns-in_err-replayed_here-clause-refused c are =
-    let all = ends c.docs_are_documents.ensures c.replicas_converge.ensures.replicas _ _ _ are in
-    handed_on c.from_residual.result c.from_residual.ensures.1 (ap told_of_list (all.at_here.replays c.in_err-replayed_here.field-0.0 c.in_err-replayed_here.ensures.outcome))
+returns-in_err-replayed_here-clause-refused c are within =
+    let all = ends c.docs_are_documents.ensures c.replicas_converge.ensures.replicas c.args.start.now c.args.here.now c.args.there.now are in
+    handed_on _ c.from_residual.result c.from_residual.ensures.1 (ap told_of_list (all.at_here.replays c.in_err-replayed_here.field-0.0 c.in_err-replayed_here.ensures.outcome))
+
+pub returns-in_err-replayed_there-clause-calls : goal.returns-in_err-replayed_there-clause-calls
+returns-in_err-replayed_there-clause-calls c =
+    let fine = compatible c.docs_are_documents.ensures c.outcome_exists.ensures c.args.start.now c.args.here.now c.in_ok-replayed_here.was c.replay.ensures.outcome in
+    refused_by _ _ c.from_residual-in_err-replayed_there.result c.from_residual-in_err-replayed_there.ensures.1
+    (there_refused _ _ _ c.in_err-replayed_there.field-0.0 fine c.in_err-replayed_there.ensures.outcome)
 
 pub returns-in_err-replayed_there-clause-refused : goal.returns-in_err-replayed_there-clause-refused
-returns-in_err-replayed_there-clause-refused c are =
-    let all = ends c.docs_are_documents.ensures c.replicas_converge.ensures.replicas _ _ _ are in
-    handed_on c.from_residual-in_err-replayed_there.result c.from_residual-in_err-replayed_there.ensures.1
+returns-in_err-replayed_there-clause-refused c are within =
+    let all = ends c.docs_are_documents.ensures c.replicas_converge.ensures.replicas c.args.start.now c.args.here.now c.args.there.now are in
+    handed_on _ c.from_residual-in_err-replayed_there.result c.from_residual-in_err-replayed_there.ensures.1
     (ap told_of_list (all.at_there.replays c.in_err-replayed_there.field-0.0 c.in_err-replayed_there.ensures.outcome))
 
+pub returns-in_err-joined_here-clause-calls : goal.returns-in_err-joined_here-clause-calls
+returns-in_err-joined_here-clause-calls c =
+    let fine = compatible c.docs_are_documents.ensures c.outcome_exists.ensures c.args.start.now c.args.here.now c.in_ok-replayed_here.was c.replay.ensures.outcome in
+    let good = compatible c.docs_are_documents.ensures c.outcome_exists.ensures c.args.start.now c.args.there.now c.in_ok-replayed_there.was c.replay-2.ensures.outcome in
+    refused_by _ _ c.from_residual-in_err-joined_here.result c.from_residual-in_err-joined_here.ensures.1
+    (join_refused _ _ _ c.in_err-joined_here.field-0.0 fine good c.in_err-joined_here.ensures.joined)
+
 pub returns-in_err-joined_here-clause-refused : goal.returns-in_err-joined_here-clause-refused
-returns-in_err-joined_here-clause-refused c are =
-    let all = ends c.docs_are_documents.ensures c.replicas_converge.ensures.replicas _ _ _ are in
-    handed_on c.from_residual-in_err-joined_here.result c.from_residual-in_err-joined_here.ensures.1
+returns-in_err-joined_here-clause-refused c are within =
+    let all = ends c.docs_are_documents.ensures c.replicas_converge.ensures.replicas c.args.start.now c.args.here.now c.args.there.now are in
+    handed_on _ c.from_residual-in_err-joined_here.result c.from_residual-in_err-joined_here.ensures.1
     (ap told_of_list (all.at_here.joins c.in_err-joined_here.field-0.0 c.in_err-joined_here.ensures.joined))
 
+pub returns-in_err-joined_there-clause-calls : goal.returns-in_err-joined_there-clause-calls
+returns-in_err-joined_there-clause-calls c =
+    let fine = compatible c.docs_are_documents.ensures c.outcome_exists.ensures c.args.start.now c.args.here.now c.in_ok-replayed_here.was c.replay.ensures.outcome in
+    let good = compatible c.docs_are_documents.ensures c.outcome_exists.ensures c.args.start.now c.args.there.now c.in_ok-replayed_there.was c.replay-2.ensures.outcome in
+    refused_by _ _ c.from_residual-in_err-joined_there.result c.from_residual-in_err-joined_there.ensures.1
+    (other_refused _ _ _ c.in_err-joined_there.field-0.0 fine good c.in_err-joined_there.ensures.joined)
+
 pub returns-in_err-joined_there-clause-refused : goal.returns-in_err-joined_there-clause-refused
-returns-in_err-joined_there-clause-refused c are =
-    let all = ends c.docs_are_documents.ensures c.replicas_converge.ensures.replicas _ _ _ are in
-    handed_on c.from_residual-in_err-joined_there.result c.from_residual-in_err-joined_there.ensures.1
+returns-in_err-joined_there-clause-refused c are within =
+    let all = ends c.docs_are_documents.ensures c.replicas_converge.ensures.replicas c.args.start.now c.args.here.now c.args.there.now are in
+    handed_on _ c.from_residual-in_err-joined_there.result c.from_residual-in_err-joined_there.ensures.1
     (ap told_of_list (all.at_there.joins c.in_err-joined_there.field-0.0 c.in_err-joined_there.ensures.joined))
 
+pub returns-in_err-patched-clause-calls : goal.returns-in_err-patched-clause-calls
+returns-in_err-patched-clause-calls c =
+    let is = MatchResult-at_ok _ _ c.in_ok-joined_here.joined_here c.in_ok-joined_here.was c.join_all.ensures.joined in
+    let was = MatchResult-at_ok _ _ c.in_ok-joined_there.joined_there c.in_ok-joined_there.was c.join_all-2.ensures.joined in
+    refused_by _ _ c.from_residual-in_err-patched.result c.from_residual-in_err-patched.ensures.1
+    (patch_refused _ _ _ c.in_err-patched.field-0.0 _ _ _ is was c.in_ok-edits.ensures.rewriting c.in_err-patched.ensures.runs)
+
 pub returns-in_err-patched-clause-refused : goal.returns-in_err-patched-clause-refused
-returns-in_err-patched-clause-refused c are =
-    let all = ends c.docs_are_documents.ensures c.replicas_converge.ensures.replicas _ _ _ are in
+returns-in_err-patched-clause-refused c are within =
+    let all = ends c.docs_are_documents.ensures c.replicas_converge.ensures.replicas c.args.start.now c.args.here.now c.args.there.now are in
     let joined = join_is all.at_here c.docs_are_documents.ensures c.in_ok-joined_here.was c.join_all.ensures.joined in
-    let leads = all.leads c.one_rewriting.ensures _ _ joined c.in_ok-edits.ensures.rewriting in
-    handed_on c.from_residual-in_err-patched.result c.from_residual-in_err-patched.ensures.1 (patch_fault leads c.in_err-patched.field-0.0 c.in_err-patched.ensures.runs)
+    let leads = all.leads within c.one_rewriting.ensures _ _ joined c.in_ok-edits.ensures.rewriting in
+    handed_on _ c.from_residual-in_err-patched.result c.from_residual-in_err-patched.ensures.1 (patch_fault leads c.in_err-patched.field-0.0 c.in_err-patched.ensures.runs)
 
 pub returns : goal.returns
 returns c =
     let docs = c.docs_are_documents.ensures in
     let all = ends docs c.replicas_converge.ensures.replicas c.args.start.now c.args.here.now c.args.there.now in
     let start = document c.args.start.now in
-    let Replicas : Type 0 = AreReplicaDocs c.args.start.now c.args.here.now c.args.there.now in
+    let Replicas : Type 0 = AreReplicas (map document c.args.here.now) (map document c.args.there.now) in
     let here = λ (are : Replicas). replay_is (all are).at_here docs c.in_ok-replayed_here.was c.replay.ensures.outcome in
     let joined = λ (are : Replicas). join_is (all are).at_here docs c.in_ok-joined_here.was c.join_all.ensures.joined in
     record {
-      refused = λ are. tt;
+      calls = record {
+        replayed_here = MatchResult-at_ok _ _ _ c.in_ok-replayed_here.was c.replay.ensures.outcome;
+        replayed_there = MatchResult-at_ok _ _ _ c.in_ok-replayed_there.was c.replay-2.ensures.outcome;
+        joined_here = MatchResult-at_ok _ _ _ c.in_ok-joined_here.was c.join_all.ensures.joined;
+        joined_there = MatchResult-at_ok _ _ _ c.in_ok-joined_there.was c.join_all-2.ensures.joined;
+        merged = c.in_ok-merged.ensures.merged;
+        edits = c.in_ok-edits.ensures.rewriting;
+        patched = c.in_ok-patched.ensures.runs;
+      };
       replayed = λ are. here are ∙ sym (replay_is (all are).at_there docs c.in_ok-replayed_there.was c.replay-2.ensures.outcome);
-      merged = λ are. c.in_ok-merged.ensures.merged ∙ ap (merge_patch (Some start)) (joined are) ∙ sym (here are);
-      patched = λ are.
-          let leads = (all are).leads c.one_rewriting.ensures _ _ (joined are) c.in_ok-edits.ensures.rewriting in
-          leads.alone (document c.in_ok-patched.patched) c.in_ok-patched.ensures.runs ∙ sym (here are);
       joined = λ are. joined are ∙ sym (join_is (all are).at_there docs c.in_ok-joined_there.was c.join_all-2.ensures.joined);
-      is_join = search rules;
-      application = c.in_ok-merged.ensures.merged;
+      merged = λ are. c.in_ok-merged.ensures.merged ∙ ap (merge_patch (Some start)) (joined are) ∙ sym (here are);
+      patched = λ are within.
+          let leads = (all are).leads within c.one_rewriting.ensures _ _ (joined are) c.in_ok-edits.ensures.rewriting in
+          leads.alone (document c.in_ok-patched.patched) c.in_ok-patched.ensures.runs ∙ sym (here are);
+      refused = λ are within. tt;
     }

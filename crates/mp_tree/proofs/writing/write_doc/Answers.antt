@@ -2,7 +2,7 @@ use Rattle.std.proofs.Common.{ap, ◌∙◌}
 use Rattle.serde_json.proofs.FreeTexts.{text_of_value}
 use Rattle.mp_tree.specs.Text.{data_of, read}
 use Rattle.mp_tree.specs.View.{document}
-use Rattle.mp_tree.proofs.Meaning.{IsDocument-document, HasTexts-document, IsInRange-document}
+use Rattle.mp_tree.proofs.Meaning.{IsReadable-document}
 use Rattle.mp_tree.proofs.RoundTrip.{read-text}
 use Rattle.mp_tree.proofs.Texts.{has_float-data_of}
 use Rattle.mp_tree.proofs.writing.write_doc.Goals as goal
@@ -17,4 +17,4 @@ returns-in-Ok-clause-text c =
 pub returns-in-Ok-clause-reads_back : goal.returns-in-Ok-clause-reads_back
 returns-in-Ok-clause-reads_back c =
     let d = c.args.doc.now in
-    λ fits. ap read (returns-in-Ok-clause-text c) ∙ read-text (document d) (IsDocument-document d) (HasTexts-document d) (IsInRange-document d) fits
+    λ fits. ap read (returns-in-Ok-clause-text c) ∙ read-text (document d) (IsReadable-document d fits)

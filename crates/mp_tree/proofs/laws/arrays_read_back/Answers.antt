@@ -1,0 +1,5 @@
+use Rattle.mp_tree.proofs.ArrayTexts.{arrays_read_back}
+use Rattle.mp_tree.proofs.laws.arrays_read_back.Goals as goal
+
+pub returns : goal.returns
+returns c = arrays_read_back
