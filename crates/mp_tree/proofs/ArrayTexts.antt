@@ -1,9 +1,9 @@
 -- Texts in an array, with white space around each, are read as the documents that they are of.
-use Rattle.std.proofs.Common.{◌≡◌, ◌≤◌, ◌⊎◌, ℕ, ℤ, suc, max, Bool, true, false, cond, List, [], ◌∷◌, ◌++◌, Some, Ok, IsUtf8, inl, inr, refl, sym, ap, ap₂, ◌∙◌, subst, arith, append_assoc, append-nil}
+use Rattle.std.proofs.Common.{◌≡◌, ◌≤◌, ℕ, Bool, true, false, cond, List, [], ◌∷◌, ◌++◌, map, Some, IsUtf8, inl, inr, refl, sym, ap, ap₂, ◌∙◌, subst, arith, append_assoc, append-nil}
 use Rattle.std.proofs.lemmas.Str.{IsUtf8-append, IsUtf8-nil}
 use Rattle.std.proofs.lemmas.List.Elements.{All-head, All-tail}
 use Rattle.std.specs.List.{All, AllZip, flat_map}
-use Rattle.json.specs.Lex.{Lexeme, token, comma, colon, string_token, lex, between, punctuate, fresh, tokens}
+use Rattle.json.specs.Lex.{Lexeme, token, comma, colon, string_token, lex, between, punctuate, fresh}
 use Rattle.json.specs.Print.{escape, quoted}
 use Rattle.json.specs.Token.{begin_object, end_object, begin_array, end_array, string, boolean, null, bad}
 use Rattle.json.specs.Word.{ends_word, word}
@@ -12,11 +12,11 @@ use Rattle.json.proofs.Printed.Strings.{content-escape, lex-escape}
 use Rattle.json.proofs.Printed.Utf8.{IsUtf8-are_ascii}
 use Rattle.serde_json.specs.Find.{of_integer}
 use Rattle.serde_json.specs.Written.{number_text, comma_if, items_text, members_text}
-use Rattle.mp_tree.specs.Arrays.{IsSpace, IsSpaced, in_brackets, IsArrayOf}
-use Rattle.mp_tree.specs.Document.{Document, null as no_value, flag, whole, string as text_value, list, object, Items, no_items, item, Members, no_members, member, IsWhole, IsInRange, IsReadable, IsDocument, AreDocuments, Throughout, ThroughoutItems, ThroughoutMembers, depth, items_depth, depth_limit}
+use Rattle.mp_tree.specs.Arrays.{IsSpace, IsSpaced, in_brackets}
+use Rattle.mp_tree.specs.Document.{Document, null as no_value, flag, whole, string as text_value, list, object, Items, no_items, item, Members, no_members, member, IsWhole, IsInRange, IsReadable, AreDocuments, ThroughoutItems, ThroughoutMembers, items_depth, depth_limit}
 use Rattle.mp_tree.specs.Elements.{items_of}
 use Rattle.mp_tree.specs.Laws.{ArraysReadBack}
-use Rattle.mp_tree.specs.Text.{text, data_of, items_data, members_data, documents_in, reading}
+use Rattle.mp_tree.specs.Text.{text, data_of, items_data, members_data, reading}
 use Rattle.mp_tree.proofs.RoundTrip.{IsUtf8-text, has_number, reads_same_tokens}
 use Rattle.mp_tree.proofs.Texts.{document_from-data_of}
 
@@ -162,7 +162,7 @@ lex-spaced d s rest compact range spaced ends ended same =
       lexemes = lex-spaces spaced.after rest spaced.space_after ∙ same;
     })
 
-lex-after_first : (ds : List Document) (ss : List (List ℕ)) (r : List ℕ) → All IsReadable ds → AllZip (λ d. IsSpaced (text d)) ds ss → All IsSpace r
+lex-after_first : (ds : List Document) (ss : List (List ℕ)) (r : List ℕ) → All IsReadable ds → AllZip IsSpaced (map text ds) ss → All IsSpace r
     → lex between (after_first ss r) ≡ lex between (items_text true (items_data (items_of ds)))
 unfolding lex
 lex-after_first [] [] r readable are spaces = ap (λ ls. token end_array ∷ ls) (lex-nothing r spaces)
@@ -172,7 +172,7 @@ lex-after_first (d ∷ ds) (s ∷ ss) r readable are spaces =
 lex-after_first [] (s ∷ ss) r readable are spaces = absurd are
 lex-after_first (d ∷ ds) [] r readable are spaces = absurd are
 
-lex-in_brackets : (ds : List Document) (ss : List (List ℕ)) (r : List ℕ) → All IsReadable ds → AllZip (λ d. IsSpaced (text d)) ds ss → All IsSpace r
+lex-in_brackets : (ds : List Document) (ss : List (List ℕ)) (r : List ℕ) → All IsReadable ds → AllZip IsSpaced (map text ds) ss → All IsSpace r
     → lex between (in_brackets ss ++ r) ≡ lex between (text (list (items_of ds)))
 unfolding lex
 lex-in_brackets [] [] r readable are spaces = ap (λ ls. token begin_array ∷ token end_array ∷ ls) (lex-nothing r spaces)
@@ -193,14 +193,14 @@ IsUtf8-spaced bytes spaced utf8 is = subst IsUtf8 (sym is.is)
 IsUtf8-first : (d : Document) (s : List ℕ) → IsReadable d → IsSpaced (text d) s → IsUtf8 s
 IsUtf8-first d s readable = IsUtf8-spaced (text d) s (IsUtf8-text d readable.in_range readable.has_texts)
 
-IsUtf8-more : (ds : List Document) (ss : List (List ℕ)) → All IsReadable ds → AllZip (λ d. IsSpaced (text d)) ds ss → IsUtf8 (flat_map (λ t. 44 ∷ t) ss)
+IsUtf8-more : (ds : List Document) (ss : List (List ℕ)) → All IsReadable ds → AllZip IsSpaced (map text ds) ss → IsUtf8 (flat_map (λ t. 44 ∷ t) ss)
 IsUtf8-more [] [] readable are = IsUtf8-nil
 IsUtf8-more (d ∷ ds) (s ∷ ss) readable are =
     IsUtf8-append (44 ∷ s) _ (IsUtf8-append (44 ∷ []) s (IsUtf8-are_ascii _ refl) (IsUtf8-first d s (All-head IsReadable d ds readable) are.0)) (IsUtf8-more ds ss (All-tail IsReadable d ds readable) are.1)
 IsUtf8-more [] (s ∷ ss) readable are = absurd are
 IsUtf8-more (d ∷ ds) [] readable are = absurd are
 
-IsUtf8-in_brackets : (ds : List Document) (ss : List (List ℕ)) → All IsReadable ds → AllZip (λ d. IsSpaced (text d)) ds ss → IsUtf8 (in_brackets ss)
+IsUtf8-in_brackets : (ds : List Document) (ss : List (List ℕ)) → All IsReadable ds → AllZip IsSpaced (map text ds) ss → IsUtf8 (in_brackets ss)
 IsUtf8-in_brackets [] [] readable are = IsUtf8-are_ascii _ refl
 IsUtf8-in_brackets (d ∷ ds) (s ∷ ss) readable are =
     let elements = IsUtf8-append s _ (IsUtf8-first d s (All-head IsReadable d ds readable) are.0) (IsUtf8-more ds ss (All-tail IsReadable d ds readable) are.1) in
@@ -225,10 +225,10 @@ all_within (d ∷ ds) readable = omega (arith, (All-head IsReadable d ds readabl
 pub arrays_read_back : ArraysReadBack
 arrays_read_back ds bytes readable array =
     let d = list (items_of ds) in
-    let inside = in_brackets array.texts in
+    let inside = in_brackets array.spaced in
     let lexemes : lex between bytes ≡ lex between (text d) =
-    ap (lex between) array.is.is ∙ lex-spaces array.is.before _ array.is.space_before ∙ lex-in_brackets ds array.texts array.is.after readable array.are array.is.space_after in
-    let utf8 = IsUtf8-spaced inside bytes (IsUtf8-in_brackets ds array.texts readable array.are) array.is in
+    ap (lex between) array.is.is ∙ lex-spaces array.is.before _ array.is.space_before ∙ lex-in_brackets ds array.spaced array.is.after readable array.are array.is.space_after in
+    let utf8 = IsUtf8-spaced inside bytes (IsUtf8-in_brackets ds array.spaced readable array.are) array.is in
     let is : reading bytes ≡ Some (data_of d) =
     reads_same_tokens bytes d utf8 (ap (punctuate fresh) lexemes) (all_in_range ds readable) (all_documents ds readable) (omega (arith, all_within ds readable)) in
     rw (is, document_from-data_of d (all_documents ds readable)) refl

@@ -11,3 +11,4 @@ pub use Rattle.mp_tree.proofs.Names.{cases_same, is_name-self, name_cmp-self, sa
 pub use Rattle.mp_tree.proofs.ReadDocuments.{AreDocuments-documents_in}
 pub use Rattle.mp_tree.proofs.SameParts.{members_of_object}
 pub use Rattle.mp_tree.proofs.Texts.{has_float-data_of}
+pub use Rattle.mp_tree.proofs.Throughout.{Throughout-find, Throughout-put, Throughout-weaker, Throughout-without}

@@ -1,5 +1,5 @@
 -- What is read can be read: its texts are UTF-8, its numbers and its depth within the rules.
-use Rattle.std.proofs.Common.{◌≡◌, ◌≤◌, ◌<◌, ◌≤ℤ◌, ◌^◌, ◌-◌, ◌+◌, ◌&&◌, ◌==◌, ℕ, ℤ, zero, suc, pos, negsuc, neg_ℤ, nat_lt, nat_le, max, Bool, true, false, cond, List, [], ◌∷◌, length, drop, Option, None, Some, IfSome, option_map, option_and_then, Ok, Err, IsUtf8, Ordering, Less, Equal, Greater, refl, sym, ap, ◌∙◌, subst, arith}
+use Rattle.std.proofs.Common.{◌≡◌, ◌≤◌, ◌<◌, ◌^◌, ◌&&◌, ℕ, zero, suc, pos, neg_ℤ, nat_lt, nat_le, Bool, true, false, cond, List, [], ◌∷◌, length, Option, None, Some, IfSome, option_and_then, Ok, Err, IsUtf8, Ordering, Less, Equal, Greater, refl, subst, arith}
 use Rattle.std.proofs.lemmas.Bool.{and_parts, leb-true, ltb-true}
 use Rattle.std.proofs.lemmas.Int.{ints}
 use Rattle.std.proofs.lemmas.Str.{IsUtf8-from_is_utf8}
@@ -14,19 +14,18 @@ use Rattle.json.specs.Token as token
 use Rattle.json.specs.Token.{Token}
 use Rattle.serde_json.specs.Data as json
 use Rattle.serde_json.specs.Data.{Data, Num, unsigned, negative, float}
-use Rattle.serde_json.specs.Find.{as_u64, as_i64}
 use Rattle.serde_json.specs.Read as serde_json
 use Rattle.serde_json.specs.Read.{number_of, of_json, of_items, of_members, max_depth}
 use Rattle.serde_json.proofs.Nesting.{depth-read}
-use Rattle.mp_tree.specs.Document.{Document, null, flag, whole, string, list, object, Items, no_items, item, Members, AreDocuments, IsDocument, IsWhole, IsReadable, depth, items_depth, depth_limit, IsInRange, HasTexts, Throughout, ThroughoutItems, ThroughoutMembers, put}
+use Rattle.mp_tree.specs.Document.{Document, null, flag, whole, string, list, object, Items, no_items, item, AreDocuments, IsDocument, IsWhole, IsReadable, depth, items_depth, depth_limit, IsInRange, HasTexts, Throughout, ThroughoutItems, ThroughoutMembers, put}
 use Rattle.mp_tree.specs.Elements.{list_of}
 use Rattle.mp_tree.specs.Laws.{ReadsReadable, ReadsReadables}
-use Rattle.mp_tree.specs.Text.{document_from, items_from, members_from, whole_number, reading, elements, whole_or_fault, read_or_fault, shallow_document, whole_document, document_read, document_in, documents_in}
+use Rattle.mp_tree.specs.Text.{document_from, items_from, members_from, whole_number, reading, elements, whole_or_fault, read_or_fault, shallow_document, whole_document, document_read}
 use Rattle.mp_tree.specs.declared.reading.ReadFault.TheVariants.{TooDeep}
 use Rattle.mp_tree.proofs.ReadDocuments.{from_data, if_mapped, if_both}
 use Rattle.mp_tree.proofs.Texts.{depth-document_from}
 use Rattle.mp_tree.proofs.Throughout.{Throughout-put, Throughout-weaker}
-use Rattle.mp_tree.proofs.UnescapedTexts.{IsText, AreTexts, tokens-texts}
+use Rattle.mp_tree.proofs.UnescapedTexts.{AreTexts, tokens-texts}
 
 -- ---- the value that tokens are
 

@@ -23,7 +23,7 @@ use Rattle.serde_json.specs.Read.{number_of, of_json, of_items, of_members, max_
 use Rattle.serde_json.specs.Written.{number_text, outline, items_outline, members_outline, comma_if, items_text, members_text}
 use Rattle.serde_json.proofs.Numbers.{number_of-decimal, number_of-negative}
 use Rattle.serde_json.proofs.Texts.{print-outline}
-use Rattle.mp_tree.specs.Document.{Document, null, flag, whole, string, list, object, Items, no_items, item, Members, no_members, member, name_cmp, IsWhole, IsInRange, IsDocument, AreDocuments, IsMap, IsBelow, HasTexts, IsReadable, Throughout, ThroughoutItems, ThroughoutMembers, depth, depth_limit}
+use Rattle.mp_tree.specs.Document.{Document, null, flag, whole, string, list, object, Items, no_items, item, Members, no_members, member, name_cmp, IsWhole, IsInRange, IsDocument, AreDocuments, IsMap, IsBelow, HasTexts, ThroughoutItems, ThroughoutMembers, depth}
 use Rattle.mp_tree.specs.Laws.{ReadsBack, ReadsUtf8Back, EqualTexts}
 use Rattle.mp_tree.specs.Text.{document_from, data_of, items_data, members_data, text, read, reading}
 use Rattle.mp_tree.proofs.Names.{below_is_above}

@@ -1,5 +1,5 @@
 -- What holds of each number, text and name of a document holds of those of its parts, and of what a change leaves.
-use Rattle.std.proofs.Common.{◌≡◌, ℕ, ℤ, List, Bool, true, false, cond, Option, None, Some, IfSome, refl}
+use Rattle.std.proofs.Common.{ℕ, ℤ, List, Bool, true, false, cond, Some, IfSome}
 use Rattle.mp_tree.specs.Document.{Document, null, flag, whole, string, list, object, Items, no_items, item, Members, no_members, member, is_name, find, put, without, Throughout, ThroughoutItems, ThroughoutMembers}
 use Rattle.mp_tree.proofs.EachMember.{each_after_put, each_after_without}
 

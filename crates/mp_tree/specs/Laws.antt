@@ -1,5 +1,5 @@
 -- Laws over documents alone. Each is the contract of a function of the module `laws` that runs nothing.
-use Rattle.std.specs.Prelude.{◌≡◌, ◌≢◌, ◌≤◌, ◌↔◌, ℕ, List, true, None, Some, Ok, IsUtf8}
+use Rattle.std.specs.Prelude.{◌≡◌, ◌≢◌, ◌≤◌, ◌↔◌, ℕ, List, map, true, None, Some, Ok, IsUtf8}
 use Rattle.std.specs.List.{All}
 use Rattle.mp_tree.specs.Arrays.{IsArrayOf}
 use Rattle.mp_tree.specs.Document.{Document, Items, Members, IsDocument, IsMap, HasTexts, IsInRange, IsReadable}
@@ -32,7 +32,7 @@ ReadsBack = (d : Document) → IsReadable d → read (text d) ≡ Some d
 
 -- so are the elements of an array of texts, with white space around each
 abbrev pub ArraysReadBack : Type 0
-ArraysReadBack = (ds : List Document) (bytes : List ℕ) → All IsReadable ds → IsArrayOf ds bytes
+ArraysReadBack = (ds : List Document) (bytes : List ℕ) → All IsReadable ds → IsArrayOf (map text ds) bytes
     → documents_in bytes ≡ Ok (items_of ds)
 
 -- that the texts within are UTF-8 is asked of what is written alone, as a `String` is

@@ -23,8 +23,8 @@ pub fn texts_read_back()
     ensures utf8 { ReadsUtf8Back }
 {}
 
-/// Texts of such documents in an array, with commas between them and white space around each, are read as these
-/// documents, though the array nests one deeper than each: so a program may make its input of texts that it has.
+/// The texts of such documents in an array, with commas between them and white space around each, are read as these
+/// documents, though the array nests one deeper than they do: so a program may make its input of texts that it has.
 pub fn arrays_read_back()
     ensures { ArraysReadBack }
 {}
