@@ -5,9 +5,9 @@ use Rattle.mp_tree.specs.Document.{Document, object, list, string, Members, put,
 use Rattle.mp_tree.specs.View.{document, items, members_of}
 use Rattle.mp_tree.specs.Elements.{items_of}
 use Rattle.mp_tree.specs.declared.doc.Doc.{Doc}
-use Rattle.mp_pointer.specs.Spelling.{Tokens, spell, tokens_in}
+use Rattle.mp_pointer.specs.Spelling.{Tokens, spell, IsFaultOf}
 use Rattle.mp_pointer.specs.declared.fault.PointerFault.{PointerFault}
-use Rattle.mp_pointer.proofs.Facts.{reads_spellings}
+use Rattle.mp_pointer.proofs.Facts.{spellings_have_no_fault}
 use Rattle.mp_patch.specs.Form.{NamesOp, Need, path_alone, a_value, an_origin, HasOp, HasNoPointer, Carries, EachForm, IsForm, IsFormFault, IsNoPointer, deepest, needed_members, op_member, path_member, from_member, shape, shapes, text_at, value_depth, value_member}
 use Rattle.mp_patch.specs.Operation.{Operation, add, remove, replace, move, copy, test}
 use Rattle.mp_patch.specs.Private.Faults.{fault_of_element}
@@ -23,11 +23,8 @@ use Rattle.mp_tree.proofs.Facts.{count_of-items, items-append}
 
 -- ---- reading
 
-pub no_pointer : (text : List ℕ) (fault : PointerFault) → tokens_in text ≡ Err fault → IsNoPointer text
-no_pointer text fault refused t is = differ (sym ((reads_spellings text t).1 is) ∙ refused)
-  where
-    differ : Ok t ≡ Err fault → ⊥
-    differ e = cc
+pub no_pointer : (text : List ℕ) (fault : PointerFault) → fault ≢ PointerFault.OutOfMemory → IsFaultOf fault text → IsNoPointer text
+no_pointer text fault known holds t is = known (spellings_have_no_fault t fault (subst (IsFaultOf fault) is holds))
 
 -- what the reading found in a map is the first that is wrong with it
 module _ (ms : Members) where

@@ -1,9 +1,8 @@
 -- Each document is a form of operations, or has a fault.
-use Rattle.std.proofs.Common.{◌≡◌, ◌⊎◌, inl, inr, ℕ, List, [], ◌∷◌, Option, None, Some, Result, Ok, Err, refl, sym, ap, ◌∙◌, subst, option_and_then, codes}
+use Rattle.std.proofs.Common.{◌≡◌, ◌⊎◌, inl, inr, ℕ, List, [], ◌∷◌, Option, None, Some, refl, sym, ap, ◌∙◌, subst, option_and_then, codes}
 use Rattle.mp_tree.specs.Document.{Document, string, list, object, Items, no_items, item, Members, find}
-use Rattle.mp_pointer.specs.Spelling.{Tokens, spell, tokens_in}
-use Rattle.mp_pointer.specs.declared.fault.PointerFault.{PointerFault}
-use Rattle.mp_pointer.proofs.Facts.{reads_spellings}
+use Rattle.mp_pointer.specs.Spelling.{Tokens, spell}
+use Rattle.mp_pointer.proofs.Facts.{spells_or_is_faulty}
 use Rattle.mp_patch.specs.Form.{Carries, EachForm, IsForm, IsFaulty, IsNoPointer, Need, path_alone, a_value, an_origin, NamesOp, needed_members, op_member, path_member, value_member, from_member, text_at, text_of}
 use Rattle.mp_patch.specs.Laws.{IsFormOrFaulty}
 use Rattle.mp_patch.specs.Operation.{Operation, add, remove, replace, move, copy, test}
@@ -18,11 +17,7 @@ use Rattle.mp_patch.proofs.Forms.{map_fault, no_pointer}
 
 -- the tokens that a text spells, where it spells some
 spelled : (text : List ℕ) → ((t : Tokens) × (text ≡ spell t)) ⊎ IsNoPointer text
-spelled text = by (tokens_in text) refl
-  where
-    by : (r : Result Tokens PointerFault) → tokens_in text ≡ r → ((t : Tokens) × (text ≡ spell t)) ⊎ IsNoPointer text
-    by (Ok t) is = inl (t, (reads_spellings text t).0 is)
-    by (Err fault) is = inr (no_pointer text fault is)
+spelled text = elim (spells_or_is_faulty text) [ inl p ↦ inl p | inr bad ↦ inr (no_pointer text bad.0 bad.1 bad.2) ]
 
 -- ---- the operation that a name names
 

@@ -1,10 +1,10 @@
 -- Laws of pointers alone. Each is the contract of a function of the module `laws` that runs nothing.
-use Rattle.std.specs.Prelude.{◌≡◌, ◌≢◌, ◌≤◌, ◌↔◌, ℕ, List, None, Some, Ok, Err}
+use Rattle.std.specs.Prelude.{◌≡◌, ◌≢◌, ◌≤◌, ◌⊎◌, ℕ, List, None, Some}
 use Rattle.mp_tree.specs.Document.{Document, IsDocument, Items, list}
 use Rattle.mp_pointer.specs.Difference.{DifferOnlyAt}
 use Rattle.mp_pointer.specs.Part.{numeral, child, part}
 use Rattle.mp_tree.specs.Elements.{count_of, nth}
-use Rattle.mp_pointer.specs.Spelling.{Tokens, spell, IsFaultOf, tokens_in}
+use Rattle.mp_pointer.specs.Spelling.{Tokens, spell, IsFaultOf}
 use Rattle.mp_pointer.specs.declared.fault.PointerFault.{PointerFault}
 use Rattle.mp_pointer.specs.declared.fault.PointerFault.TheVariants.{OutOfMemory}
 
@@ -12,15 +12,19 @@ use Rattle.mp_pointer.specs.declared.fault.PointerFault.TheVariants.{OutOfMemory
 abbrev pub HasOneSpelling : Type 0
 HasOneSpelling = (s t : Tokens) → spell s ≡ spell t → s ≡ t
 
--- a text is read as the list that it spells, and as no other
-abbrev pub ReadsSpellings : Type 0
-ReadsSpellings = (text : List ℕ) (t : Tokens) → (tokens_in text ≡ Ok t) ↔ (text ≡ spell t)
+-- a text spells a list of tokens, or has a fault (section 3)
+abbrev pub SpellsOrIsFaulty : Type 0
+SpellsOrIsFaulty = (text : List ℕ)
+    → ((t : Tokens) × (text ≡ spell t)) ⊎ ((fault : PointerFault) × (fault ≢ OutOfMemory) × IsFaultOf fault text)
 
--- a text is refused for the fault that it has, and for no other;
--- so it spells one list or has one fault, and not both (section 3)
-abbrev pub RefusesFaults : Type 0
-RefusesFaults = (text : List ℕ) (fault : PointerFault)
-    → (tokens_in text ≡ Err fault) ↔ ((fault ≢ OutOfMemory) × IsFaultOf fault text)
+-- and not both
+abbrev pub SpellingsHaveNoFault : Type 0
+SpellingsHaveNoFault = (t : Tokens) (fault : PointerFault) → IsFaultOf fault (spell t) → fault ≡ OutOfMemory
+
+-- and has one fault alone; want of memory is none of a text
+abbrev pub HasOneFault : Type 0
+HasOneFault = (text : List ℕ) (fault other : PointerFault) → fault ≢ OutOfMemory → other ≢ OutOfMemory
+    → IsFaultOf fault text → IsFaultOf other text → fault ≡ other
 
 -- a token spells one index (RFC 6901 section 4)
 abbrev pub SpellsOneIndex : Type 0

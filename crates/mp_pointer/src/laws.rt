@@ -1,20 +1,24 @@
 //! Laws of pointers alone: each function runs nothing, and its contract is the law.
-ghost use Rattle.mp_pointer.specs.Laws.{EqualsByPart, HasOneSpelling, NamesElements, ReadsSpellings, RefusesFaults, SpellsOneIndex};
+ghost use Rattle.mp_pointer.specs.Laws.{EqualsByPart, HasOneFault, HasOneSpelling, NamesElements, SpellingsHaveNoFault, SpellsOneIndex, SpellsOrIsFaulty};
 
 /// Different lists of tokens have different spellings (RFC 6901 section 3).
 pub fn one_spelling()
     ensures { HasOneSpelling }
 {}
 
-/// A text is read as the list of tokens that it spells, and as no other.
-pub fn spellings_are_read()
-    ensures { ReadsSpellings }
+/// Each text spells a list of tokens or has a fault other than want of memory (RFC 6901 section 3).
+pub fn spells_or_is_faulty()
+    ensures { SpellsOrIsFaulty }
 {}
 
-/// A text is refused for the one fault that it has, and not where it has none. So each text spells one list of tokens
-/// or has one fault, and not both (RFC 6901 section 3).
-pub fn faults_are_refused()
-    ensures { RefusesFaults }
+/// A text that spells a list of tokens has no fault but want of memory.
+pub fn spellings_have_no_fault()
+    ensures { SpellingsHaveNoFault }
+{}
+
+/// A text has one fault at most, want of memory aside. So `Pointer::parse` has one answer to each text.
+pub fn one_fault()
+    ensures { HasOneFault }
 {}
 
 /// A token spells one index at most (RFC 6901 section 4).
