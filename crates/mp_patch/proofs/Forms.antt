@@ -100,15 +100,17 @@ pub fault_there : (fault : Refusal FormCause) (docs : List Doc) (old : List Op) 
     → IsFormFault (fault_of_element k fault) (list (items docs))
 fault_there OutOfMemory docs old k d less here forms faulty = tt
 fault_there (By cause) docs old k d less here forms faulty =
-    let split : docs ≡ take k docs ++ d ∷ drop (k + 1) docs = sym (take-append-drop k docs) ∙ ap (λ r. take k docs ++ r) (drop_more docs k d less ∙ ap (λ x. x ∷ drop (k + 1) docs) (sym here)) in (
-      items (take k docs),
-      document d,
-      items (drop (k + 1) docs),
-      ap list (ap items split ∙ items-append (take k docs) (d ∷ drop (k + 1) docs)),
-      sym (count_of-items (take k docs) ∙ length-take-le k docs (omega arith)),
-      (operations_of old, forms),
-      faulty,
-    )
+    let split : docs ≡ take k docs ++ d ∷ drop (k + 1) docs = sym (take-append-drop k docs) ∙ ap (λ r. take k docs ++ r) (drop_more docs k d less ∙ ap (λ x. x ∷ drop (k + 1) docs) (sym here)) in
+    record {
+      front = items (take k docs);
+      element = document d;
+      back = items (drop (k + 1) docs);
+      is = ap list (ap items split ∙ items-append (take k docs) (d ∷ drop (k + 1) docs));
+      numbered = sym (count_of-items (take k docs) ∙ length-take-le k docs (omega arith));
+      operations = operations_of old;
+      forms = forms;
+      faulty = faulty;
+    }
 
 -- ---- writing
 
