@@ -1,4 +1,5 @@
--- How a JSON Patch is written as a document (RFC 6902 sections 3 and 4): a list of maps, each with the members that its operation needs.
+-- How a JSON Patch is written as a document (RFC 6902 sections 3 and 4): a list of maps, each with the members that
+-- its operation needs.
 use Rattle.std.specs.Prelude.{◌≡◌, ◌≢◌, ◌⊎◌, ◌∷◌, ℕ, codes, max, map, List, [], Option, None, Some, option_and_then, ⊤}
 use Rattle.mp_tree.specs.Document.{Document, string, list, object, Items, no_items, item, Members, find, depth}
 use Rattle.mp_tree.specs.Look.{at_name}
@@ -8,7 +9,8 @@ use Rattle.mp_pointer.specs.Spelling.{Tokens, spell}
 use Rattle.mp_patch.specs.First.{Causes, IsFirst}
 use Rattle.mp_patch.specs.Operation.{Operation, add, remove, replace, move, copy, test}
 use Rattle.mp_patch.specs.declared.fault.FormCause.{FormCause}
-use Rattle.mp_patch.specs.declared.fault.FormCause.TheVariants.{NotAnObject, NoOp, UnknownOp, NoPath, NoFrom, BadPointer, NoValue}
+use Rattle.mp_patch.specs.declared.fault.FormCause.TheVariants.{NotAnObject, NoOp, UnknownOp, NoPath, NoFrom}
+use Rattle.mp_patch.specs.declared.fault.FormCause.TheVariants.{BadPointer, NoValue}
 use Rattle.mp_patch.specs.declared.fault.FormFault.{FormFault}
 use Rattle.mp_patch.specs.declared.fault.FormFault.TheVariants.{NotAnArray, Form, OutOfMemory}
 
