@@ -1,5 +1,10 @@
 //! Laws of pointers alone: each function runs nothing, and its contract is the law.
-ghost use Rattle.mp_pointer.specs.Laws.{EqualsByPart, HasOneFault, HasOneSpelling, NamesElements, SpellingsHaveNoFault, SpellsOneIndex, SpellsOrIsFaulty};
+ghost use Rattle.mp_pointer.specs.Laws.{ComparesTokens, EqualsByPart, HasOneFault, HasOneSpelling, NamesElements, NamesNothingElse, PartsAreDocuments, PartsAreShallower, SpellingsHaveNoFault, SpellsOneIndex, SpellsOrIsFaulty};
+
+/// `==` of pointers is equality of their tokens.
+pub fn equal_tokens()
+    ensures { ComparesTokens }
+{}
 
 /// Different lists of tokens have different spellings (RFC 6901 section 3).
 pub fn one_spelling()
@@ -30,6 +35,21 @@ pub fn one_index()
 /// (RFC 6901 section 4).
 pub fn indices_name_elements()
     ensures { NamesElements }
+{}
+
+/// In a list, a token that spells no index, as `-` or `01`, names nothing (RFC 6901 section 4).
+pub fn other_tokens_name_nothing()
+    ensures { NamesNothingElse }
+{}
+
+/// A part of a document is a document: in it too each object has its names once, in ascending order.
+pub fn parts_are_documents()
+    ensures { PartsAreDocuments }
+{}
+
+/// The depth of a part and the tokens that lead to it are together at most the depth of the document.
+pub fn parts_are_shallower()
+    ensures { PartsAreShallower }
 {}
 
 /// Documents that differ only at one place and have the same part there are equal (RFC 6901 section 4).
