@@ -1,9 +1,12 @@
 -- Laws of patches alone. Each is the contract of a function of the module `laws` that runs nothing.
-use Rattle.std.specs.Prelude.{◌≡◌, ◌≢◌, ◌≤◌, ◌⊎◌, ℕ, List}
+use Rattle.std.specs.Prelude.{◌≡◌, ◌≢◌, ◌≤◌, ◌+◌, ◌⊎◌, ℕ, List, [], length, Some}
 use Rattle.mp_tree.specs.Document.{Document, IsDocument, depth, depth_limit}
+use Rattle.mp_pointer.specs.Part.{part}
+use Rattle.mp_pointer.specs.Spelling.{Tokens, IsProperPrefix}
 use Rattle.mp_patch.specs.Form.{AreForms, IsFormFault, shapes}
-use Rattle.mp_patch.specs.Operation.{Operation, HaveDocuments}
-use Rattle.mp_patch.specs.Run.{Runs, RefusedAt}
+use Rattle.mp_patch.specs.Operation.{Operation, add, remove, replace, move, copy, test, HaveDocuments}
+use Rattle.mp_patch.specs.Refusal.{HasNoPlace, LeavesNoPlace}
+use Rattle.mp_patch.specs.Run.{Runs, IsRefused, RefusedAt}
 use Rattle.mp_patch.specs.View.{operations_of}
 use Rattle.mp_patch.specs.declared.fault.Cause.{Cause}
 use Rattle.mp_patch.specs.declared.fault.FormFault.{FormFault}
@@ -13,6 +16,23 @@ use Rattle.mp_patch.specs.declared.op.Op.{Op}
 -- every list of `Op` is one of these
 abbrev pub PatchesHaveDocuments : Type 0
 PatchesHaveDocuments = (ops : List Op) → HaveDocuments (operations_of ops)
+
+-- when an operation on d is not refused: where what it names is there, and what it adds has a place and fits
+pub record TakesOperations (d : Document) : Type 0 where
+  pub adds : (t : Tokens) (v : Document)
+      → ¬ HasNoPlace d t → length t + depth v ≤ depth_limit → ¬ IsRefused d (add t v)
+  pub removes : (t : Tokens) (x : Document) → part d t ≡ Some x → t ≢ [] → ¬ IsRefused d (remove t)
+  pub replaces : (t : Tokens) (x v : Document)
+      → part d t ≡ Some x → length t + depth v ≤ depth_limit → ¬ IsRefused d (replace t v)
+  pub moves : (f t : Tokens) (x : Document) → part d f ≡ Some x → ¬ IsProperPrefix f t → ¬ LeavesNoPlace d f t
+      → length t + depth x ≤ depth_limit → ¬ IsRefused d (move f t)
+  pub copies : (f t : Tokens) (x : Document) → part d f ≡ Some x → ¬ HasNoPlace d t
+      → length t + depth x ≤ depth_limit → ¬ IsRefused d (copy f t)
+  pub tests : (t : Tokens) (x : Document) → part d t ≡ Some x → ¬ IsRefused d (test t x)
+
+-- section 4, and so it is on every document
+abbrev pub OperationsAreTaken : Type 0
+OperationsAreTaken = (d : Document) → TakesOperations d
 
 -- a patch runs from a document to one end alone (RFC 6902 section 5)
 abbrev pub HasOneEnd : Type 0
