@@ -6,4 +6,5 @@ pub use Rattle.mp_patch.proofs.RunLaws.{has_one_end, runs_unrefused, has_one_ref
 pub use Rattle.mp_patch.proofs.SingleSteps.{removes_freely, replaces_freely, tests_freely}
 pub use Rattle.mp_patch.proofs.SomeForm.{is_form_or_faulty}
 pub use Rattle.mp_patch.proofs.SomeRun.{runs_or_is_refused}
+pub use Rattle.mp_patch.proofs.TakenOperations.{operations_are_taken}
 pub use Rattle.mp_patch.proofs.ValueLaws.{forms_have_documents}

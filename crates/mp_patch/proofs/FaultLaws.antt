@@ -2,8 +2,9 @@
 use Rattle.std.proofs.Common.{◌≡◌, ◌⊎◌, inl, inr, List, [], ◌∷◌, None, refl, sym, ap, ◌∙◌, subst, codes, suc}
 use Rattle.mp_tree.specs.Document.{Document, object, Items, no_items, item, Members}
 use Rattle.mp_tree.specs.Elements.{count_of, append}
+use Rattle.mp_tree.specs.Look.{at_name}
 use Rattle.mp_pointer.specs.Spelling.{spell}
-use Rattle.mp_patch.specs.Form.{Carries, EachForm, IsForm, IsFaulty, HasNoPointer, HasOp, a_value, an_origin, form_causes, needed_members, text_at, value_at}
+use Rattle.mp_patch.specs.Form.{Carries, EachForm, IsForm, IsFaulty, HasNoPointer, HasOp, a_value, an_origin, form_causes, needed_members, text_at}
 use Rattle.mp_patch.specs.Laws.{FormsHaveNoFault, HasOneFault}
 use Rattle.mp_patch.specs.Operation.{Operation}
 use Rattle.mp_patch.specs.declared.fault.FormCause.{FormCause}
@@ -22,8 +23,8 @@ module _ (ms : Members) (o : Operation) (a : Carries ms (needed_members o)) wher
   pointers_good (inl (path, at, bad)) = bad (place_of o) (same_some (text_at (codes "path") (object ms)) path (spell (place_of o)) at (path_text ms o a))
   pointers_good (inr (origin, (text, at, bad))) = let from = from_text ms o a origin in bad from.0 (same_some (text_at (codes "from") (object ms)) text (spell from.0) at from.1)
 
-  has_value : ¬ (HasOp a_value (object ms) × (value_at (codes "value") (object ms) ≡ None))
-  has_value (value, none) = let there = value_there ms o a value in some_none (value_at (codes "value") (object ms)) there.0 there.1 none
+  has_value : ¬ (HasOp a_value (object ms) × (at_name (codes "value") (object ms) ≡ None))
+  has_value (value, none) = let there = value_there ms o a value in some_none (at_name (codes "value") (object ms)) there.0 there.1 none
 
   none_in_form : NoneHolds (form_causes (object ms))
   none_in_form =
@@ -44,10 +45,10 @@ form_at (item d front) x back (o ∷ operations) forms = form_at front x back op
 pub forms_have_no_fault : FormsHaveNoFault
 forms_have_no_fault d operations OutOfMemory forms faulty = refl
 forms_have_no_fault d operations NotAnArray (ds, is, forms) faulty = absurd (faulty ds is)
-forms_have_no_fault d operations (Form op cause) (ds, is, forms) (front, x, back, was, number, before, faulty) =
-    let same = same_elements ds (append front (item x back)) (sym is ∙ was) in
-    let form = form_at front x back operations (subst (λ xs. EachForm xs operations) same forms) in
-    absurd (faultless cause x form.0 form.1 faulty)
+forms_have_no_fault d operations (Form op cause) (ds, is, forms) f =
+    let same = same_elements ds (append f.front (item f.element f.back)) (sym is ∙ f.is) in
+    let form = form_at f.front f.element f.back operations (subst (λ xs. EachForm xs operations) same forms) in
+    absurd (faultless cause f.element form.0 form.1 f.faulty)
 
 -- ---- a document has one fault
 
@@ -78,9 +79,9 @@ has_one_fault d OutOfMemory other one two is also = absurd (one refl)
 has_one_fault d NotAnArray OutOfMemory one two is also = absurd (two refl)
 has_one_fault d (Form op cause) OutOfMemory one two is also = absurd (two refl)
 has_one_fault d NotAnArray NotAnArray one two is also = refl
-has_one_fault d NotAnArray (Form op cause) one two is also = absurd (is (append also.0 (item also.1 also.2)) also.3)
-has_one_fault d (Form op cause) NotAnArray one two is also = absurd (also (append is.0 (item is.1 is.2)) is.3)
-has_one_fault d (Form op cause) (Form number other) one two (front, x, back, was, at, (before, forms), faulty) (other_front, y, other_back, is, there, (other_before, others), also) =
-    let same = same_elements (append front (item x back)) (append other_front (item y other_back)) (sym was ∙ is) in
-    let found = one_element cause other front other_front x y back other_back before other_before same forms others faulty also in
-    ap (λ n. Form n cause) (at ∙ found.0 ∙ sym there) ∙ ap (Form number) found.1
+has_one_fault d NotAnArray (Form op cause) one two is also = absurd (is (append also.front (item also.element also.back)) also.is)
+has_one_fault d (Form op cause) NotAnArray one two is also = absurd (also (append is.front (item is.element is.back)) is.is)
+has_one_fault d (Form op cause) (Form number other) one two f g =
+    let same = same_elements (append f.front (item f.element f.back)) (append g.front (item g.element g.back)) (sym f.is ∙ g.is) in
+    let found = one_element cause other f.front g.front f.element g.element f.back g.back f.operations g.operations same f.forms g.forms f.faulty g.faulty in
+    ap (λ n. Form n cause) (f.numbered ∙ found.0 ∙ sym g.numbered) ∙ ap (Form number) found.1

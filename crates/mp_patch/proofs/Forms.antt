@@ -5,9 +5,9 @@ use Rattle.mp_tree.specs.Document.{Document, object, list, string, Members, put,
 use Rattle.mp_tree.specs.View.{document, items, members_of}
 use Rattle.mp_tree.specs.Elements.{items_of}
 use Rattle.mp_tree.specs.declared.doc.Doc.{Doc}
-use Rattle.mp_pointer.specs.Spelling.{Tokens, spell, tokens_in}
+use Rattle.mp_pointer.specs.Spelling.{Tokens, spell, IsFaultOf}
 use Rattle.mp_pointer.specs.declared.fault.PointerFault.{PointerFault}
-use Rattle.mp_pointer.proofs.Facts.{reads_spellings}
+use Rattle.mp_pointer.proofs.Facts.{spellings_have_no_fault}
 use Rattle.mp_patch.specs.Form.{NamesOp, Need, path_alone, a_value, an_origin, HasOp, HasNoPointer, Carries, EachForm, IsForm, IsFormFault, IsNoPointer, deepest, needed_members, op_member, path_member, from_member, shape, shapes, text_at, value_depth, value_member}
 use Rattle.mp_patch.specs.Operation.{Operation, add, remove, replace, move, copy, test}
 use Rattle.mp_patch.specs.Private.Faults.{fault_of_element}
@@ -23,11 +23,8 @@ use Rattle.mp_tree.proofs.Facts.{count_of-items, items-append}
 
 -- ---- reading
 
-pub no_pointer : (text : List ℕ) (fault : PointerFault) → tokens_in text ≡ Err fault → IsNoPointer text
-no_pointer text fault refused t is = differ (sym ((reads_spellings text t).1 is) ∙ refused)
-  where
-    differ : Ok t ≡ Err fault → ⊥
-    differ e = cc
+pub no_pointer : (text : List ℕ) (fault : PointerFault) → fault ≢ PointerFault.OutOfMemory → IsFaultOf fault text → IsNoPointer text
+no_pointer text fault known holds t is = known (spellings_have_no_fault t fault (subst (IsFaultOf fault) is holds))
 
 -- what the reading found in a map is the first that is wrong with it
 module _ (ms : Members) where
@@ -103,15 +100,17 @@ pub fault_there : (fault : Refusal FormCause) (docs : List Doc) (old : List Op) 
     → IsFormFault (fault_of_element k fault) (list (items docs))
 fault_there OutOfMemory docs old k d less here forms faulty = tt
 fault_there (By cause) docs old k d less here forms faulty =
-    let split : docs ≡ take k docs ++ d ∷ drop (k + 1) docs = sym (take-append-drop k docs) ∙ ap (λ r. take k docs ++ r) (drop_more docs k d less ∙ ap (λ x. x ∷ drop (k + 1) docs) (sym here)) in (
-      items (take k docs),
-      document d,
-      items (drop (k + 1) docs),
-      ap list (ap items split ∙ items-append (take k docs) (d ∷ drop (k + 1) docs)),
-      sym (count_of-items (take k docs) ∙ length-take-le k docs (omega arith)),
-      (operations_of old, forms),
-      faulty,
-    )
+    let split : docs ≡ take k docs ++ d ∷ drop (k + 1) docs = sym (take-append-drop k docs) ∙ ap (λ r. take k docs ++ r) (drop_more docs k d less ∙ ap (λ x. x ∷ drop (k + 1) docs) (sym here)) in
+    record {
+      front = items (take k docs);
+      element = document d;
+      back = items (drop (k + 1) docs);
+      is = ap list (ap items split ∙ items-append (take k docs) (d ∷ drop (k + 1) docs));
+      numbered = sym (count_of-items (take k docs) ∙ length-take-le k docs (omega arith));
+      operations = operations_of old;
+      forms = forms;
+      faulty = faulty;
+    }
 
 -- ---- writing
 

@@ -13,5 +13,6 @@ pub mod SingleSteps
 pub mod SomeForm
 pub mod SomeRun
 pub mod SomeStep
+pub mod TakenOperations
 pub mod ValueLaws
 pub mod WrittenShapes

@@ -1,8 +1,9 @@
 -- What an operation needs is told by its name, and what it needs stands in its form.
 use Rattle.std.proofs.Common.{◌≡◌, ◌==◌, ◌+◌, inl, inr, ℕ, cond, List, get_or, Option, None, Some, option_and_then, refl, sym, ap, ◌∙◌, codes}
 use Rattle.mp_tree.specs.Document.{Document, object, Members}
+use Rattle.mp_tree.specs.Look.{at_name}
 use Rattle.mp_pointer.specs.Spelling.{Tokens, spell}
-use Rattle.mp_patch.specs.Form.{Carries, HasOp, Need, path_alone, a_value, an_origin, NamesOp, needed_members, text_at, text_of, value_at}
+use Rattle.mp_patch.specs.Form.{Carries, HasOp, Need, path_alone, a_value, an_origin, NamesOp, needed_members, text_at, text_of}
 use Rattle.mp_patch.specs.Operation.{Operation, add, remove, replace, move, copy, test}
 
 pub some_none : {X P : Type 0} (o : Option X) (x : X) → o ≡ Some x → o ≡ None → P
@@ -81,11 +82,11 @@ pub from_text : (ms : Members) (o : Operation) → Carries ms (needed_members o)
 from_text ms o a has = from_needed ms o (one_need (need_of o) an_origin (object ms) (has_op ms o a) has) a
 
 -- where a value is needed, it is there
-value_needed : (ms : Members) (o : Operation) → need_of o ≡ a_value → Carries ms (needed_members o) → (v : Document) × (value_at (codes "value") (object ms) ≡ Some v)
+value_needed : (ms : Members) (o : Operation) → need_of o ≡ a_value → Carries ms (needed_members o) → (v : Document) × (at_name (codes "value") (object ms) ≡ Some v)
 value_needed ms (add t v) is a = (v, a.1.1.0)
 value_needed ms (replace t v) is a = (v, a.1.1.0)
 value_needed ms (test t v) is a = (v, a.1.1.0)
 value_needed ms o is a = absurd (let other = is in cc)
 
-pub value_there : (ms : Members) (o : Operation) → Carries ms (needed_members o) → HasOp a_value (object ms) → (v : Document) × (value_at (codes "value") (object ms) ≡ Some v)
+pub value_there : (ms : Members) (o : Operation) → Carries ms (needed_members o) → HasOp a_value (object ms) → (v : Document) × (at_name (codes "value") (object ms) ≡ Some v)
 value_there ms o a has = value_needed ms o (one_need (need_of o) a_value (object ms) (has_op ms o a) has) a

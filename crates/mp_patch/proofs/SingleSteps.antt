@@ -74,7 +74,7 @@ has_place d x t s last is stood place (u, n, ends, lacks) =
 pub root_place : (d : Document) (t : Tokens) → t ≡ [] → ¬ HasNoPlace d t
 root_place d t root (u, n, ends, lacks) = not_empty u n (sym ends ∙ root)
 
-adds_freely : (d : Document) (t : Tokens) (v : Document) → ¬ HasNoPlace d t → length t + depth v ≤ depth_limit → ¬ IsRefused d (add t v)
+pub adds_freely : (d : Document) (t : Tokens) (v : Document) → ¬ HasNoPlace d t → length t + depth v ≤ depth_limit → ¬ IsRefused d (add t v)
 adds_freely d t v place fits = unrefused d (add t v) (place, ((λ deep. omega (arith, deep, fits)), tt))
 
 pub added : (r : Result (Unit {0}) (Refusal Cause)) (fits : Bool) (t s : Tokens) (last : List ℕ) (v d e x y : Document) → (IsTrue fits → length t + depth v ≤ depth_limit) → (length t + depth v ≤ depth_limit → IsTrue fits)

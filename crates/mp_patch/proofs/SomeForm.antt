@@ -1,28 +1,24 @@
 -- Each document is a form of operations, or has a fault.
-use Rattle.std.proofs.Common.{◌≡◌, ◌⊎◌, inl, inr, ℕ, List, [], ◌∷◌, Option, None, Some, Result, Ok, Err, refl, sym, ap, ◌∙◌, subst, option_and_then, codes}
+use Rattle.std.proofs.Common.{◌≡◌, ◌⊎◌, inl, inr, ℕ, suc, List, [], ◌∷◌, Option, None, Some, refl, sym, ap, ◌∙◌, subst, option_and_then, codes}
 use Rattle.mp_tree.specs.Document.{Document, string, list, object, Items, no_items, item, Members, find}
-use Rattle.mp_pointer.specs.Spelling.{Tokens, spell, tokens_in}
-use Rattle.mp_pointer.specs.declared.fault.PointerFault.{PointerFault}
-use Rattle.mp_pointer.proofs.Facts.{reads_spellings}
-use Rattle.mp_patch.specs.Form.{Carries, EachForm, IsForm, IsFaulty, IsNoPointer, Need, path_alone, a_value, an_origin, NamesOp, needed_members, op_member, path_member, value_member, from_member, text_at, text_of}
+use Rattle.mp_pointer.specs.Spelling.{Tokens, spell}
+use Rattle.mp_pointer.proofs.Facts.{spells_or_is_faulty}
+use Rattle.mp_patch.specs.Form.{Carries, EachForm, IsForm, IsFaulty, IsFaultyAt, IsNoPointer, Need, path_alone, a_value, an_origin, NamesOp, needed_members, op_member, path_member, value_member, from_member, text_at, text_of}
 use Rattle.mp_patch.specs.Laws.{IsFormOrFaulty}
 use Rattle.mp_patch.specs.Operation.{Operation, add, remove, replace, move, copy, test}
-use Rattle.mp_tree.specs.Elements.{append, count_of}
+use Rattle.mp_tree.specs.Elements.{append}
 use Rattle.mp_patch.specs.Private.Reading.{IsMapFault}
 use Rattle.mp_patch.specs.declared.fault.FormCause.{FormCause}
 use Rattle.mp_patch.specs.declared.fault.FormCause.TheVariants.{NotAnObject, NoOp, UnknownOp, NoPath, NoFrom, BadPointer, NoValue}
 use Rattle.mp_patch.specs.declared.fault.FormFault.TheVariants as form_fault
 use Rattle.mp_patch.specs.declared.fault.Refusal.TheVariants.{By}
 use Rattle.mp_tree.proofs.Facts.{decide_name}
+use Rattle.mp_patch.proofs.Documents.{same_elements}
 use Rattle.mp_patch.proofs.Forms.{map_fault, no_pointer}
 
 -- the tokens that a text spells, where it spells some
 spelled : (text : List ℕ) → ((t : Tokens) × (text ≡ spell t)) ⊎ IsNoPointer text
-spelled text = by (tokens_in text) refl
-  where
-    by : (r : Result Tokens PointerFault) → tokens_in text ≡ r → ((t : Tokens) × (text ≡ spell t)) ⊎ IsNoPointer text
-    by (Ok t) is = inl (t, (reads_spellings text t).0 is)
-    by (Err fault) is = inr (no_pointer text fault is)
+spelled text = elim (spells_or_is_faulty text) [ inl p ↦ inl p | inr bad ↦ inr (no_pointer text bad.0 bad.1 bad.2) ]
 
 -- ---- the operation that a name names
 
@@ -127,28 +123,30 @@ read_element : (d : Document) → ((o : Operation) × IsForm d o) ⊎ ((cause : 
 read_element (object ms) = read_object ms
 read_element d = inr (NotAnObject, inl (refl, λ ms same. cc))
 
--- the first faulty element, after forms
-record FirstFaulty (ds : Items) : Type 0 where
-  front : Items
-  x : Document
-  back : Items
-  is : ds ≡ append front (item x back)
-  before : (operations : List Operation) × EachForm front operations
-  cause : FormCause
-  faulty : IsFaulty cause x
+-- an element of a list is faulty, after forms
+abbrev SomeFaulty : Items → Type 0
+SomeFaulty ds = (number : ℕ) × (cause : FormCause) × IsFaultyAt number cause (list ds)
 
-read_elements : (ds : Items) → ((operations : List Operation) × EachForm ds operations) ⊎ FirstFaulty ds
+one_later : (d : Document) (o : Operation) (ds : Items) → IsForm d o → SomeFaulty ds → SomeFaulty (item d ds)
+one_later d o ds form (number, cause, f) =
+    let rest : ds ≡ append f.front (item f.element f.back) = same_elements ds _ f.is in (
+      suc number,
+      cause,
+      record { front = item d f.front; element = f.element; back = f.back; is = ap (λ xs. list (item d xs)) rest; numbered = ap suc f.numbered; operations = o ∷ f.operations; forms = (form, f.forms); faulty = f.faulty },
+    )
+
+read_elements : (ds : Items) → ((operations : List Operation) × EachForm ds operations) ⊎ SomeFaulty ds
 read_elements no_items = inl ([], tt)
 read_elements (item d ds) = by (read_element d) (read_elements ds)
   where
-    by : ((o : Operation) × IsForm d o) ⊎ ((cause : FormCause) × IsFaulty cause d) → ((operations : List Operation) × EachForm ds operations) ⊎ FirstFaulty ds → ((operations : List Operation) × EachForm (item d ds) operations) ⊎ FirstFaulty (item d ds)
-    by (inr fault) rest = inr (record { front = no_items; x = d; back = ds; is = refl; before = ([], tt); cause = fault.0; faulty = fault.1 })
+    by : ((o : Operation) × IsForm d o) ⊎ ((cause : FormCause) × IsFaulty cause d) → ((operations : List Operation) × EachForm ds operations) ⊎ SomeFaulty ds → ((operations : List Operation) × EachForm (item d ds) operations) ⊎ SomeFaulty (item d ds)
+    by (inr fault) rest = inr (0, fault.0, record { front = no_items; element = d; back = ds; is = refl; numbered = refl; operations = []; forms = tt; faulty = fault.1 })
     by (inl form) (inl rest) = inl (form.0 ∷ rest.0, (form.1, rest.1))
-    by (inl form) (inr f) = inr (record { front = item d f.front; x = f.x; back = f.back; is = ap (item d) f.is; before = (form.0 ∷ f.before.0, (form.1, f.before.1)); cause = f.cause; faulty = f.faulty })
+    by (inl form) (inr found) = inr (one_later d form.0 ds form.1 found)
 
 pub is_form_or_faulty : IsFormOrFaulty
 is_form_or_faulty (list ds) = elim (read_elements ds) [
   | inl forms ↦ inl (forms.0, (ds, refl, forms.1))
-  | inr f ↦ inr (form_fault.Form (count_of f.front) f.cause, (λ memory. cc), (f.front, f.x, f.back, ap list f.is, refl, f.before, f.faulty))
+  | inr found ↦ inr (form_fault.Form found.0 found.1, (λ memory. cc), found.2)
 ]
 is_form_or_faulty d = inr (form_fault.NotAnArray, (λ memory. cc), λ ds same. cc)

@@ -1,13 +1,16 @@
--- How a JSON Patch is written as a document (RFC 6902 sections 3 and 4): a list of maps, each with the members that its operation needs.
+-- How a JSON Patch is written as a document (RFC 6902 sections 3 and 4): a list of maps, each with the members that
+-- its operation needs.
 use Rattle.std.specs.Prelude.{◌≡◌, ◌≢◌, ◌⊎◌, ◌∷◌, ℕ, codes, max, map, List, [], Option, None, Some, option_and_then, ⊤}
 use Rattle.mp_tree.specs.Document.{Document, string, list, object, Items, no_items, item, Members, find, depth}
+use Rattle.mp_tree.specs.Look.{at_name}
 use Rattle.mp_tree.specs.View.{members_of}
 use Rattle.mp_tree.specs.Elements.{items_of, count_of, append}
 use Rattle.mp_pointer.specs.Spelling.{Tokens, spell}
 use Rattle.mp_patch.specs.First.{Causes, IsFirst}
 use Rattle.mp_patch.specs.Operation.{Operation, add, remove, replace, move, copy, test}
 use Rattle.mp_patch.specs.declared.fault.FormCause.{FormCause}
-use Rattle.mp_patch.specs.declared.fault.FormCause.TheVariants.{NotAnObject, NoOp, UnknownOp, NoPath, NoFrom, BadPointer, NoValue}
+use Rattle.mp_patch.specs.declared.fault.FormCause.TheVariants.{NotAnObject, NoOp, UnknownOp, NoPath, NoFrom}
+use Rattle.mp_patch.specs.declared.fault.FormCause.TheVariants.{BadPointer, NoValue}
 use Rattle.mp_patch.specs.declared.fault.FormFault.{FormFault}
 use Rattle.mp_patch.specs.declared.fault.FormFault.TheVariants.{NotAnArray, Form, OutOfMemory}
 
@@ -73,18 +76,13 @@ NamesOp path_alone name = name ≡ codes "remove"
 NamesOp a_value name = (name ≡ codes "add") ⊎ ((name ≡ codes "replace") ⊎ (name ≡ codes "test"))
 NamesOp an_origin name = (name ≡ codes "move") ⊎ (name ≡ codes "copy")
 
--- what a map has at a name; another document has nothing there
-abbrev pub value_at : List ℕ → Document → Option Document
-value_at name (object ms) = find name ms
-value_at name d = None
-
 abbrev pub text_of : Document → Option (List ℕ)
 text_of (string s) = Some s
 text_of d = None
 
 -- the text that stands at a name
 abbrev pub text_at : List ℕ → Document → Option (List ℕ)
-text_at name d = option_and_then text_of (value_at name d)
+text_at name d = option_and_then text_of (at_name name d)
 
 -- `op` names an operation of this need
 abbrev pub HasOp : Need → Document → Type 0
@@ -107,18 +105,28 @@ form_causes d =
     ∷ (NoPath, text_at (codes "path") d ≡ None)
     ∷ (NoFrom, HasOp an_origin d × (text_at (codes "from") d ≡ None))
     ∷ (BadPointer, HasNoPointer (codes "path") d ⊎ (HasOp an_origin d × HasNoPointer (codes "from") d))
-    ∷ (NoValue, HasOp a_value d × (value_at (codes "value") d ≡ None))
+    ∷ (NoValue, HasOp a_value d × (at_name (codes "value") d ≡ None))
     ∷ []
 
 -- the element is faulty by the first of these that holds
 abbrev pub IsFaulty : FormCause → Document → Type 0
 IsFaulty cause d = IsFirst cause (form_causes d)
 
--- why a document is no patch: for an element, those before it are forms; want of memory says nothing of the document
+-- the element of that number in the list d is faulty by the cause, and those in front of it are forms
+pub record IsFaultyAt (number : ℕ) (cause : FormCause) (d : Document) : Type 0 where
+  pub front : Items
+  pub element : Document
+  pub back : Items
+  pub is : d ≡ list (append front (item element back))
+  pub numbered : number ≡ count_of front
+  pub operations : List Operation
+  pub forms : EachForm front operations
+  pub faulty : IsFaulty cause element
+
+-- why a document is no patch; want of memory says nothing of the document
 abbrev pub IsFormFault : FormFault → Document → Type 0
 IsFormFault NotAnArray d = (ds : Items) → d ≢ list ds
-IsFormFault (Form number cause) d =
-    (front : Items) × (x : Document) × (back : Items) × (d ≡ list (append front (item x back))) × (number ≡ count_of front) × ((operations : List Operation) × EachForm front operations) × IsFaulty cause x
+IsFormFault (Form number cause) d = IsFaultyAt number cause d
 IsFormFault OutOfMemory d = ⊤
 
 -- ---- depth

@@ -1,9 +1,12 @@
 -- Laws of patches alone. Each is the contract of a function of the module `laws` that runs nothing.
-use Rattle.std.specs.Prelude.{◌≡◌, ◌≢◌, ◌≤◌, ◌⊎◌, ℕ, List}
+use Rattle.std.specs.Prelude.{◌≡◌, ◌≢◌, ◌≤◌, ◌+◌, ◌⊎◌, ℕ, List, [], length, Some}
 use Rattle.mp_tree.specs.Document.{Document, IsDocument, depth, depth_limit}
+use Rattle.mp_pointer.specs.Part.{part}
+use Rattle.mp_pointer.specs.Spelling.{Tokens, IsProperPrefix}
 use Rattle.mp_patch.specs.Form.{AreForms, IsFormFault, shapes}
-use Rattle.mp_patch.specs.Operation.{Operation, HaveDocuments}
-use Rattle.mp_patch.specs.Run.{Runs, RefusedAt}
+use Rattle.mp_patch.specs.Operation.{Operation, add, remove, replace, move, copy, test, HaveDocuments}
+use Rattle.mp_patch.specs.Refusal.{HasNoPlace, LeavesNoPlace}
+use Rattle.mp_patch.specs.Run.{Runs, IsRefused, RefusedAt}
 use Rattle.mp_patch.specs.View.{operations_of}
 use Rattle.mp_patch.specs.declared.fault.Cause.{Cause}
 use Rattle.mp_patch.specs.declared.fault.FormFault.{FormFault}
@@ -14,36 +17,59 @@ use Rattle.mp_patch.specs.declared.op.Op.{Op}
 abbrev pub PatchesHaveDocuments : Type 0
 PatchesHaveDocuments = (ops : List Op) → HaveDocuments (operations_of ops)
 
+-- when an operation on d is not refused: where what it names is there, and what it adds has a place and fits
+pub record TakesOperations (d : Document) : Type 0 where
+  pub adds : (t : Tokens) (v : Document)
+      → ¬ HasNoPlace d t → length t + depth v ≤ depth_limit → ¬ IsRefused d (add t v)
+  pub removes : (t : Tokens) (x : Document) → part d t ≡ Some x → t ≢ [] → ¬ IsRefused d (remove t)
+  pub replaces : (t : Tokens) (x v : Document)
+      → part d t ≡ Some x → length t + depth v ≤ depth_limit → ¬ IsRefused d (replace t v)
+  pub moves : (f t : Tokens) (x : Document) → part d f ≡ Some x → ¬ IsProperPrefix f t → ¬ LeavesNoPlace d f t
+      → length t + depth x ≤ depth_limit → ¬ IsRefused d (move f t)
+  pub copies : (f t : Tokens) (x : Document) → part d f ≡ Some x → ¬ HasNoPlace d t
+      → length t + depth x ≤ depth_limit → ¬ IsRefused d (copy f t)
+  pub tests : (t : Tokens) (x : Document) → part d t ≡ Some x → ¬ IsRefused d (test t x)
+
+-- section 4, and so it is on every document
+abbrev pub OperationsAreTaken : Type 0
+OperationsAreTaken = (d : Document) → TakesOperations d
+
 -- a patch runs from a document to one end alone (RFC 6902 section 5)
 abbrev pub HasOneEnd : Type 0
-HasOneEnd = (d e f : Document) (operations : List Operation) → IsDocument d → HaveDocuments operations → Runs d operations e → Runs d operations f → e ≡ f
+HasOneEnd = (d e f : Document) (operations : List Operation) → IsDocument d → HaveDocuments operations
+    → Runs d operations e → Runs d operations f → e ≡ f
 
 -- a patch that runs is not refused
 abbrev pub RunsUnrefused : Type 0
-RunsUnrefused = (d e : Document) (operations : List Operation) (k : ℕ) (cause : Cause) → IsDocument d → HaveDocuments operations → Runs d operations e → ¬ RefusedAt d operations k cause
+RunsUnrefused = (d e : Document) (operations : List Operation) (k : ℕ) (cause : Cause)
+    → IsDocument d → HaveDocuments operations → Runs d operations e → ¬ RefusedAt d operations k cause
 
 -- a patch that does not run is refused
 abbrev pub RunsOrIsRefused : Type 0
 RunsOrIsRefused = (d : Document) (operations : List Operation) → IsDocument d → HaveDocuments operations
-    → ((e : Document) × IsDocument e × Runs d operations e) ⊎ ((k : ℕ) × (cause : Cause) × RefusedAt d operations k cause)
+    → ((e : Document) × IsDocument e × Runs d operations e)
+    ⊎ ((k : ℕ) × (cause : Cause) × RefusedAt d operations k cause)
 
 -- a patch is refused at one operation alone, and by one cause
 abbrev pub HasOneRefusal : Type 0
-HasOneRefusal =
-    (d : Document) (operations : List Operation) (k n : ℕ) (cause other : Cause) → IsDocument d → HaveDocuments operations
+HasOneRefusal = (d : Document) (operations : List Operation) (k n : ℕ) (cause other : Cause)
+    → IsDocument d → HaveDocuments operations
     → RefusedAt d operations k cause → RefusedAt d operations n other → (k ≡ n) × (cause ≡ other)
 
 -- a patch takes no document past the depth rule
 abbrev pub StaysShallow : Type 0
-StaysShallow = (d e : Document) (operations : List Operation) → IsDocument d → HaveDocuments operations → Runs d operations e → depth d ≤ depth_limit → depth e ≤ depth_limit
+StaysShallow = (d e : Document) (operations : List Operation) → IsDocument d → HaveDocuments operations
+    → Runs d operations e → depth d ≤ depth_limit → depth e ≤ depth_limit
 
 -- a document is a form of one list of operations alone
 abbrev pub HasOneReading : Type 0
-HasOneReading = (d : Document) (operations others : List Operation) → AreForms d operations → AreForms d others → operations ≡ others
+HasOneReading = (d : Document) (operations others : List Operation)
+    → AreForms d operations → AreForms d others → operations ≡ others
 
 -- a form that is a document has documents as its values
 abbrev pub FormsHaveDocuments : Type 0
-FormsHaveDocuments = (d : Document) (operations : List Operation) → IsDocument d → AreForms d operations → HaveDocuments operations
+FormsHaveDocuments = (d : Document) (operations : List Operation)
+    → IsDocument d → AreForms d operations → HaveDocuments operations
 
 -- the shapes of operations are forms of them
 abbrev pub ShapesAreForms : Type 0
@@ -51,12 +77,16 @@ ShapesAreForms = (operations : List Operation) → AreForms (shapes operations) 
 
 -- a document that is a form of operations has no fault
 abbrev pub FormsHaveNoFault : Type 0
-FormsHaveNoFault = (d : Document) (operations : List Operation) (fault : FormFault) → AreForms d operations → IsFormFault fault d → fault ≡ OutOfMemory
+FormsHaveNoFault = (d : Document) (operations : List Operation) (fault : FormFault)
+    → AreForms d operations → IsFormFault fault d → fault ≡ OutOfMemory
 
 -- a document is a form of operations, or has a fault
 abbrev pub IsFormOrFaulty : Type 0
-IsFormOrFaulty = (d : Document) → ((operations : List Operation) × AreForms d operations) ⊎ ((fault : FormFault) × (fault ≢ OutOfMemory) × IsFormFault fault d)
+IsFormOrFaulty = (d : Document)
+    → ((operations : List Operation) × AreForms d operations)
+    ⊎ ((fault : FormFault) × (fault ≢ OutOfMemory) × IsFormFault fault d)
 
 -- and has one fault alone; want of memory is none of a document
 abbrev pub HasOneFault : Type 0
-HasOneFault = (d : Document) (fault other : FormFault) → fault ≢ OutOfMemory → other ≢ OutOfMemory → IsFormFault fault d → IsFormFault other d → fault ≡ other
+HasOneFault = (d : Document) (fault other : FormFault) → fault ≢ OutOfMemory → other ≢ OutOfMemory
+    → IsFormFault fault d → IsFormFault other d → fault ≡ other

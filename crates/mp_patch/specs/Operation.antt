@@ -1,6 +1,8 @@
--- The operations of a JSON Patch (RFC 6902 section 4): each says of two documents what their parts are, before and after.
+-- The operations of a JSON Patch (RFC 6902 section 4): each says of two documents what their parts are, before and
+-- after.
 use Rattle.std.specs.Prelude.{◌≡◌, ◌≢◌, ◌⊎◌, ℕ, codes, List, [], ◌∷◌, ◌++◌, Some, ⊤}
-use Rattle.mp_tree.specs.Document.{Document, list, object, Items, no_items, item, Members, find, put, without, IsDocument}
+use Rattle.mp_tree.specs.Document.{Document, list, object, Items, no_items, item, Members, find, put, without}
+use Rattle.mp_tree.specs.Document.{IsDocument}
 use Rattle.mp_pointer.specs.Difference.{DifferOnlyAt}
 use Rattle.mp_pointer.specs.Part.{part, numeral}
 use Rattle.mp_tree.specs.Elements.{count_of, append}
@@ -19,7 +21,8 @@ pub data Operation : Type 0 where
 -- ---- a change in the map or the list that holds a place
 
 -- t is the tokens of a container and then the last token; the container changes as `Change` says, and nothing else does
-pub record ChangesContainer (Change : List ℕ → Document → Document → Type 0) (t : Tokens) (d e : Document) : Type 0 where
+pub record ChangesContainer (Change : List ℕ → Document → Document → Type 0) (t : Tokens)
+    (d e : Document) : Type 0 where
   pub container : Tokens
   pub last : List ℕ
   pub is : t ≡ container ++ last ∷ []
@@ -41,12 +44,15 @@ NamesPlace token front back = (token ≡ numeral (count_of front)) ⊎ ((token �
 -- v is set at a name of a map, or inserted at a place in a list
 pub data AddsTo (v : Document) (token : List ℕ) (before after : Document) : Type 0 where
   to_map : (ms : Members) → before ≡ object ms → after ≡ object (put token v ms) → AddsTo v token before after
-  to_list : (front back : Items) → NamesPlace token front back → before ≡ list (append front back) → after ≡ list (append front (item v back)) → AddsTo v token before after
+  to_list : (front back : Items) → NamesPlace token front back
+      → before ≡ list (append front back) → after ≡ list (append front (item v back)) → AddsTo v token before after
 
 -- a name that a map has goes away, or an element of a list
 pub data RemovesFrom (token : List ℕ) (before after : Document) : Type 0 where
-  from_map : (ms : Members) (x : Document) → find token ms ≡ Some x → before ≡ object ms → after ≡ object (without token ms) → RemovesFrom token before after
-  from_list : (front back : Items) (x : Document) → token ≡ numeral (count_of front) → before ≡ list (append front (item x back)) → after ≡ list (append front back) → RemovesFrom token before after
+  from_map : (ms : Members) (x : Document) → find token ms ≡ Some x
+      → before ≡ object ms → after ≡ object (without token ms) → RemovesFrom token before after
+  from_list : (front back : Items) (x : Document) → token ≡ numeral (count_of front)
+      → before ≡ list (append front (item x back)) → after ≡ list (append front back) → RemovesFrom token before after
 
 -- ---- the operations
 
@@ -62,7 +68,8 @@ Removes t d e = ChangesContainer RemovesFrom t d e
 abbrev pub Replaces : Tokens → Document → Document → Document → Type 0
 Replaces t v d e = ((x : Document) × (part d t ≡ Some x)) × (part e t ≡ Some v) × DifferOnlyAt t d e
 
--- section 4.4: a move to where the part is leaves the document as it is; another one removes the part, and adds it to what is left
+-- section 4.4: a move to where the part is leaves the document as it is; another one removes the part, and adds it to
+-- what is left
 abbrev pub Moves : Tokens → Tokens → Document → Document → Type 0
 Moves f t d e =
     (x : Document) × (part d f ≡ Some x)

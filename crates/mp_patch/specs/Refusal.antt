@@ -7,7 +7,8 @@ use Rattle.mp_pointer.specs.Spelling.{Tokens, IsProperPrefix}
 use Rattle.mp_patch.specs.First.{Causes, IsFirst}
 use Rattle.mp_patch.specs.Operation.{Operation, add, remove, replace, move, copy, test, dash, Removes}
 use Rattle.mp_patch.specs.declared.fault.Cause.{Cause}
-use Rattle.mp_patch.specs.declared.fault.Cause.TheVariants.{IntoItself, RemoveRoot, Missing, NoPlace, TooDeep, TestFailed}
+use Rattle.mp_patch.specs.declared.fault.Cause.TheVariants.{IntoItself, RemoveRoot, Missing, NoPlace, TooDeep}
+use Rattle.mp_patch.specs.declared.fault.Cause.TheVariants.{TestFailed}
 
 -- there is nothing at t
 abbrev pub IsMissing : Document → Tokens → Type 0
@@ -32,7 +33,8 @@ HasNoPlace d t = (s : Tokens) × (n : List ℕ) × (t ≡ s ++ n ∷ []) × Lack
 abbrev pub IsTooDeep : Tokens → Document → Type 0
 IsTooDeep t v = depth_limit < length t + depth v
 
--- section 4.4: a move to where the part is changes nothing; for another one the place is judged in what the removal leaves
+-- section 4.4: a move to where the part is changes nothing; for another one the place is judged in what the removal
+-- leaves
 abbrev pub LeavesNoPlace : Document → Tokens → Tokens → Type 0
 LeavesNoPlace d f t = (f ≢ t) × (left : Document) × Removes f d left × HasNoPlace left t
 

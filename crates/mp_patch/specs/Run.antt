@@ -1,5 +1,5 @@
--- A JSON Patch is applied as a whole (RFC 6902 sections 3 and 5): its operations in order, each to what the one before left,
--- and where one is refused there is no result.
+-- A JSON Patch is applied as a whole (RFC 6902 sections 3 and 5): its operations in order, each to what the one before
+-- left, and where one is refused there is no result.
 use Rattle.std.specs.Prelude.{◌≡◌, ℕ, List, [], ◌∷◌, take, slice_get, Some, ⊤}
 use Rattle.mp_tree.specs.Document.{Document}
 use Rattle.mp_patch.specs.Operation.{Operation, Step}
@@ -18,7 +18,12 @@ Runs d (o ∷ rest) e = ¬ IsRefused d o × (m : Document) × Step d o m × Runs
 
 -- the first k operations lead to a document at which operation k is refused, with that cause
 abbrev pub RefusedAt : Document → List Operation → ℕ → Cause → Type 0
-RefusedAt d operations k cause = (m : Document) × Runs d (take k operations) m × (o : Operation) × (slice_get operations k ≡ Some o) × RefusedBy m o cause
+RefusedAt d operations k cause =
+    (m : Document)
+    × Runs d (take k operations) m
+    × (o : Operation)
+    × (slice_get operations k ≡ Some o)
+    × RefusedBy m o cause
 
 -- why there is no result; want of memory says nothing of the patch
 abbrev pub IsFaultOf : ApplyFault → Document → List Operation → Type 0

@@ -1,9 +1,11 @@
 -- The causes in words, as a line of the program has them.
 use Rattle.std.specs.Prelude.{ℕ, List, codes}
 use Rattle.mp_patch.specs.declared.fault.Cause.{Cause}
-use Rattle.mp_patch.specs.declared.fault.Cause.TheVariants.{IntoItself, RemoveRoot, Missing, NoPlace, TooDeep, TestFailed}
+use Rattle.mp_patch.specs.declared.fault.Cause.TheVariants.{IntoItself, RemoveRoot, Missing, NoPlace, TooDeep}
+use Rattle.mp_patch.specs.declared.fault.Cause.TheVariants.{TestFailed}
 use Rattle.mp_patch.specs.declared.fault.FormCause.{FormCause}
-use Rattle.mp_patch.specs.declared.fault.FormCause.TheVariants.{NotAnObject, NoOp, UnknownOp, NoPath, NoFrom, BadPointer, NoValue}
+use Rattle.mp_patch.specs.declared.fault.FormCause.TheVariants.{NotAnObject, NoOp, UnknownOp, NoPath, NoFrom}
+use Rattle.mp_patch.specs.declared.fault.FormCause.TheVariants.{BadPointer, NoValue}
 
 -- why an element of a document is no operation
 abbrev pub form_text : FormCause → List ℕ

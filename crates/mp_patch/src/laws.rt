@@ -1,9 +1,15 @@
 //! Laws of patches alone: each function runs nothing, and its contract is the law.
-ghost use Rattle.mp_patch.specs.Laws.{FormsHaveDocuments, FormsHaveNoFault, HasOneEnd, HasOneFault, HasOneReading, HasOneRefusal, IsFormOrFaulty, PatchesHaveDocuments, RunsOrIsRefused, RunsUnrefused, ShapesAreForms, StaysShallow};
+ghost use Rattle.mp_patch.specs.Laws.{FormsHaveDocuments, FormsHaveNoFault, HasOneEnd, HasOneFault, HasOneReading, HasOneRefusal, IsFormOrFaulty, OperationsAreTaken, PatchesHaveDocuments, RunsOrIsRefused, RunsUnrefused, ShapesAreForms, StaysShallow};
 
 /// The values of a patch are documents: so the other laws speak of every `JsonPatch`.
 pub fn patches_have_documents()
     ensures { PatchesHaveDocuments }
+{}
+
+/// An operation is not refused where what it names is there, and what it adds has a place and fits (RFC 6902 section 4).
+/// `Cause` lists what else refuses one.
+pub fn operations_are_taken()
+    ensures { OperationsAreTaken }
 {}
 
 /// A patch leads from a document to one end alone (RFC 6902 section 5).

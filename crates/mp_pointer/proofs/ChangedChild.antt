@@ -4,7 +4,8 @@ use Rattle.std.specs.Ordering.{match_ordering}
 use Rattle.std.specs.Str.{bytes_eq}
 use Rattle.mp_tree.specs.Document.{Document, list, object, Items, no_items, item, Members, member, no_members, name_cmp, is_name, find, put, IsMap}
 use Rattle.mp_tree.proofs.Facts.{same_from_cmp, find-below, IsBelow-trans, set_item, count_of-set, nth-set, find-put_same, find-put_other}
-use Rattle.mp_pointer.specs.Part.{child, element_from, numeral, kind_here, names, elements, names_of}
+use Rattle.mp_pointer.specs.Difference.{kind_here, names, elements, names_of}
+use Rattle.mp_pointer.specs.Part.{child, element_from, numeral}
 use Rattle.mp_tree.specs.Elements.{nth}
 use Rattle.mp_pointer.proofs.Indices.{elsewhere, child-numeral}
 use Rattle.mp_pointer.proofs.Parts.{child-object, child-list}

@@ -7,7 +7,8 @@ use Rattle.mp_tree.specs.declared.doc.Doc.{Doc}
 use Rattle.mp_tree.proofs.Facts.{IsDocument-document}
 use Rattle.mp_pointer.specs.Lending.{PartBecomes}
 use Rattle.mp_pointer.specs.Private.Child.{one_token}
-use Rattle.mp_pointer.specs.Part.{part, kind}
+use Rattle.mp_pointer.specs.Difference.{kind}
+use Rattle.mp_pointer.specs.Part.{part}
 use Rattle.mp_pointer.specs.Spelling.{Tokens, BeginsWith}
 use Rattle.mp_pointer.proofs.PartKinds.{cases_begins, equals_by_part}
 use Rattle.mp_pointer.proofs.Parts.{part-append, kind-append, DifferOnlyAt-root}

@@ -18,7 +18,7 @@ use Rattle.mp_tree.specs.Document.{Document, Items, no_items, item, list}
 use Rattle.mp_tree.specs.View.{document}
 use Rattle.mp_tree.specs.declared.doc.Doc.{Doc}
 use Rattle.mp_pointer.specs.Bytes.{digit_zero, digit_one}
-use Rattle.mp_pointer.specs.Laws.{NamesElements}
+use Rattle.mp_pointer.specs.Laws.{NamesElements, NamesNothingElse}
 use Rattle.mp_pointer.specs.Part.{numeral, element_from, child}
 use Rattle.mp_tree.specs.Elements.{count_of, nth}
 use Rattle.mp_tree.proofs.Facts.{nth_past}
@@ -155,6 +155,9 @@ item_at xs i (Some x) read = sym (slice_get_read xs (length xs) i x.now refl rea
 
 pub names_elements : NamesElements
 names_elements i ds = (child-numeral (numeral i) i ds refl, λ past. child-numeral (numeral i) i ds refl ∙ nth_past i ds past)
+
+pub names_nothing_else : NamesNothingElse
+names_nothing_else token ds other = child-no_index token ds (λ i is. absurd (other i is))
 
 -- the index that a token spells, where it names an element
 pub element_found : (i : ℕ) (token : List ℕ) (ds : Items) (x : Document) → element_from i token ds ≡ Some x → (j : ℕ) × (token ≡ numeral (i + j)) × (nth j ds ≡ Some x)

@@ -8,7 +8,7 @@ use Rattle.std.proofs.lemmas.Str.{IsUtf8-append, IsUtf8-nil, IsUtf8-from_ascii, 
 use Rattle.std.specs.List.{slice_get, slice_range}
 use Rattle.std.specs.Str.{IsUtf8, IsCharBoundary}
 use Rattle.mp_pointer.specs.Bytes.{slash}
-use Rattle.mp_pointer.specs.Cuts.{cut, AreCuts, EachPlain, IsPlain}
+use Rattle.mp_pointer.specs.Private.Cuts.{cut, AreCuts, EachPlain, IsPlain}
 use Rattle.mp_pointer.specs.Spelling.{spell}
 use Rattle.mp_pointer.proofs.Spellings.{escape-plain}
 

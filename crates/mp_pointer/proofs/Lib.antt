@@ -6,6 +6,7 @@ pub mod FollowedBorrows
 pub mod Indices
 pub mod KeptTokens
 pub mod LentParts
+pub mod Parser
 pub mod PartDepths
 pub mod PartDocuments
 pub mod PartKinds

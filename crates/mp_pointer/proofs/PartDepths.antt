@@ -5,8 +5,9 @@ use Rattle.std.specs.Str.{bytes_eq}
 use Rattle.mp_tree.specs.Document.{Document, null, flag, whole, string, list, object, Items, no_items, item, Members, no_members, member, find, IsDocument, AreDocuments, IsMap, depth, items_depth, members_depth}
 use Rattle.mp_tree.specs.Elements.{nth}
 use Rattle.mp_tree.proofs.Facts.{cases_same, is_name-self, find-below, value-depth}
-use Rattle.mp_pointer.specs.Difference.{DifferOnlyAt}
-use Rattle.mp_pointer.specs.Part.{Kind, absent, scalar, names, elements, part, child, element_from, numeral, kind, kind_here, kind_of}
+use Rattle.mp_pointer.specs.Difference.{DifferOnlyAt, Kind, absent, scalar, names, elements, kind, kind_here, kind_of}
+use Rattle.mp_pointer.specs.Part.{part, child, element_from, numeral}
+use Rattle.mp_pointer.specs.Laws.{PartsAreShallower}
 use Rattle.mp_pointer.specs.Spelling.{Tokens}
 use Rattle.mp_pointer.proofs.Indices.{child-numeral}
 use Rattle.mp_pointer.proofs.PartKinds.{cases_begins}
@@ -31,7 +32,7 @@ child-depth token (string s) y is = cc
 child-depth token (list ds) y is = omega (arith, element-depth 0 token ds y is)
 child-depth token (object ms) y is = omega (arith, value-depth token ms y is)
 
-pub part-depth : (u : Tokens) (d x : Document) → part d u ≡ Some x → length u + depth x ≤ depth d
+pub part-depth : PartsAreShallower
 part-depth [] d x is = let same : d ≡ x = cc in omega (arith, ap depth same)
 part-depth (token ∷ u) d x is = through (child token d) refl (λ e. part-depth u e x) is
   where

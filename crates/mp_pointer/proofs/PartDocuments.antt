@@ -5,8 +5,9 @@ use Rattle.std.specs.Str.{bytes_eq}
 use Rattle.mp_tree.specs.Document.{Document, null, flag, whole, string, list, object, Items, no_items, item, Members, no_members, member, name_cmp, find, IsBelow, IsDocument, AreDocuments, IsMap}
 use Rattle.mp_tree.specs.Elements.{nth}
 use Rattle.mp_tree.proofs.Facts.{cases_same, is_name-self, find-below, IsDocument-find}
-use Rattle.mp_pointer.specs.Difference.{DifferOnlyAt}
-use Rattle.mp_pointer.specs.Part.{Kind, absent, scalar, names, elements, part, child, element_from, numeral, kind, kind_here, kind_of, names_of}
+use Rattle.mp_pointer.specs.Difference.{DifferOnlyAt, Kind, absent, scalar, names, elements, kind, kind_here, kind_of, names_of}
+use Rattle.mp_pointer.specs.Part.{part, child, element_from, numeral}
+use Rattle.mp_pointer.specs.Laws.{PartsAreDocuments}
 use Rattle.mp_pointer.specs.Spelling.{Tokens}
 use Rattle.mp_pointer.proofs.Indices.{child-numeral}
 use Rattle.mp_pointer.proofs.PartKinds.{cases_begins}
@@ -31,7 +32,7 @@ child-document token (string s) y good is = cc
 child-document token (list ds) y good is = element-document 0 token ds y good is
 child-document token (object ms) y good is = subst (λ o. IfSome o IsDocument) is (IsDocument-find token ms good)
 
-pub part-document : (u : Tokens) (d x : Document) → IsDocument d → part d u ≡ Some x → IsDocument x
+pub part-document : PartsAreDocuments
 part-document [] d x good is = let same : d ≡ x = cc in subst IsDocument same good
 part-document (token ∷ u) d x good is = through (child token d) refl (λ e. part-document u e x) is
   where

@@ -3,7 +3,8 @@ use Rattle.std.proofs.Common.{◌≡◌, ℕ, suc, List, [], ◌∷◌, ◌++◌
 use Rattle.mp_tree.specs.Document.{Document, null, flag, whole, string, list, object, Items, no_items, item, Members, no_members, member, find, is_name, IsBelow, IsDocument, AreDocuments, IsMap}
 use Rattle.mp_tree.proofs.Facts.{find-below, cases_same, is_name-self}
 use Rattle.mp_pointer.specs.Laws.{EqualsByPart}
-use Rattle.mp_pointer.specs.Part.{Kind, scalar, numeral, part, kind, kind_here, kind_of, names_of}
+use Rattle.mp_pointer.specs.Difference.{Kind, scalar, kind, kind_here, kind_of, names_of}
+use Rattle.mp_pointer.specs.Part.{numeral, part}
 use Rattle.mp_tree.specs.Elements.{count_of, nth}
 use Rattle.mp_pointer.specs.Spelling.{Tokens, BeginsWith}
 use Rattle.mp_pointer.proofs.Indices.{child-numeral}

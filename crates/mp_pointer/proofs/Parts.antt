@@ -2,8 +2,8 @@
 use Rattle.std.proofs.Common.{◌≡◌, ℕ, List, [], ◌∷◌, ◌++◌, Option, None, Some, option_and_then, refl, sym, ap, ◌∙◌, ◌≢◌, ap₂, true≢false}
 use Rattle.mp_tree.specs.Document.{is_name, Document, list, object, Items, Members, find}
 use Rattle.mp_tree.proofs.Facts.{cases_same, is_name-self}
-use Rattle.mp_pointer.specs.Difference.{DifferOnlyAt}
-use Rattle.mp_pointer.specs.Part.{child, element_from, part, kind, kind_here, kind_of}
+use Rattle.mp_pointer.specs.Difference.{DifferOnlyAt, kind, kind_here, kind_of}
+use Rattle.mp_pointer.specs.Part.{child, element_from, part}
 use Rattle.mp_pointer.specs.Spelling.{Tokens, BeginsWith}
 
 pub child-object : (token : List ℕ) (ms : Members) → child token (object ms) ≡ find token ms

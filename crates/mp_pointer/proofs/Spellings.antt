@@ -1,10 +1,12 @@
 -- Spellings: a list of tokens is read back from its spelling, and each text that is read is a spelling.
-use Rattle.std.proofs.Common.{◌≡◌, ◌≢◌, ℕ, zero, suc, ◌+◌, ◌<◌, List, [], ◌∷◌, ◌++◌, length, get_or, map, Bool, true, false, cond, eqb, Option, None, Some, option_map, Result, Ok, Err, refl, sym, ap, ap₂, ◌∙◌, subst, arith, append_assoc, append-nil, ne_eqb, eqb-true, eq-eqb, true≢false}
+use Rattle.std.proofs.Common.{◌≡◌, ◌≢◌, ◌⊎◌, inl, inr, ℕ, zero, suc, ◌+◌, ◌<◌, List, [], ◌∷◌, ◌++◌, length, get_or, map, Bool, true, false, cond, eqb, Option, None, Some, option_map, Result, Ok, Err, refl, sym, ap, ap₂, ◌∙◌, subst, arith, append_assoc, append-nil, ne_eqb, eqb-true, eq-eqb, true≢false}
 use Rattle.std.proofs.lemmas.List.Concat.{flat_map-append}
 use Rattle.std.proofs.lemmas.Bool.Decides.{nat_tests}
 use Rattle.mp_pointer.specs.Bytes.{slash, tilde, digit_zero, digit_one}
-use Rattle.mp_pointer.specs.Laws.{HasOneSpelling, ReadsSpellings, RefusesFaults}
-use Rattle.mp_pointer.specs.Spelling.{Tokens, escaped_byte, escape, spell, LacksSlash, IsBadTilde, IsFirstBadTilde, IsFaultOf, unescape, on_first, parts_of, starts_badly, first_bad_tilde, unless_bad, tokens_in}
+use Rattle.mp_pointer.specs.Laws.{HasOneFault, HasOneSpelling, SpellingsHaveNoFault, SpellsOrIsFaulty}
+use Rattle.mp_pointer.specs.Private.BadTilde.{starts_badly, first_bad_tilde}
+use Rattle.mp_pointer.specs.Spelling.{Tokens, escaped_byte, escape, spell, LacksSlash, IsBadTilde, IsFirstBadTilde, IsFaultOf}
+use Rattle.mp_pointer.proofs.Parser.{unescape, on_first, parts_of, unless_bad, tokens_in}
 use Rattle.mp_pointer.specs.declared.fault.PointerFault.{PointerFault}
 use Rattle.mp_pointer.specs.declared.fault.PointerFault.TheVariants.{NoSlash, BadTilde, OutOfMemory}
 
@@ -318,8 +320,23 @@ spell_from_tokens_in (c ∷ rest) t e = split (eqb c slash) refl e
 pub has_one_spelling : HasOneSpelling
 has_one_spelling s t e = let both : ◌≡◌ {A = Result Tokens PointerFault} (Ok s) (Ok t) = sym (tokens_in-spell s) ∙ ap tokens_in e ∙ tokens_in-spell t in cc
 
-pub reads_spellings : ReadsSpellings
-reads_spellings text t = (spell_from_tokens_in text t, λ is. ap tokens_in is ∙ tokens_in-spell t)
+read_and_refused : (r : Result Tokens PointerFault) (t : Tokens) (fault : PointerFault) → r ≡ Ok t → r ≡ Err fault → ⊥
+read_and_refused r t fault read refused = cc
 
-pub refuses_faults : RefusesFaults
-refuses_faults text fault = (fault_from_refused text fault, λ (known, holds). refused_from_fault text fault known holds)
+pub spells_or_is_faulty : SpellsOrIsFaulty
+spells_or_is_faulty text = by (tokens_in text) refl
+  where
+    by : (r : Result Tokens PointerFault) → tokens_in text ≡ r → ((t : Tokens) × (text ≡ spell t)) ⊎ ((fault : PointerFault) × (fault ≢ OutOfMemory) × IsFaultOf fault text)
+    by (Ok t) is = inl (t, spell_from_tokens_in text t is)
+    by (Err fault) is = let (known, holds) = fault_from_refused text fault is in inr (fault, known, holds)
+
+pub spellings_have_no_fault : SpellingsHaveNoFault
+spellings_have_no_fault t OutOfMemory holds = refl
+spellings_have_no_fault t NoSlash holds = absurd (read_and_refused (tokens_in (spell t)) t NoSlash (tokens_in-spell t) (refused_from_fault (spell t) NoSlash (λ same. cc) holds))
+spellings_have_no_fault t (BadTilde offset) holds = absurd (read_and_refused (tokens_in (spell t)) t (BadTilde offset) (tokens_in-spell t) (refused_from_fault (spell t) (BadTilde offset) (λ same. cc) holds))
+
+pub has_one_fault : HasOneFault
+has_one_fault text fault other known known_too holds holds_too = same_refusal fault other (sym (refused_from_fault text fault known holds) ∙ refused_from_fault text other known_too holds_too)
+  where
+    same_refusal : (fault other : PointerFault) → ◌≡◌ {A = Result Tokens PointerFault} (Err fault) (Err other) → fault ≡ other
+    same_refusal fault other e = cc

@@ -8,6 +8,7 @@ use Rattle.std.specs.Cmp.Lexicographic.{pointwise_decides}
 use Rattle.std.specs.List.{slice_get}
 use Rattle.std.specs.Str.{bytes_eq}
 use Rattle.mp_tree.proofs.Facts.{decide_name}
+use Rattle.mp_pointer.specs.Laws.{ComparesTokens}
 use Rattle.mp_pointer.specs.Spelling.{Tokens, BeginsWith, IsProperPrefix, are_same_tokens}
 
 -- one more token is taken, or dropped
@@ -47,6 +48,9 @@ front_of_same t u same = ([], sym same ∙ sym (append-nil t))
 
 pub are_same_tokens-Decides : (t u : Tokens) → Decides (are_same_tokens t u) (t ≡ u)
 are_same_tokens-Decides = pointwise_decides bytes_eq-Decides
+
+pub compares_tokens : ComparesTokens
+compares_tokens = are_same_tokens-Decides
 
 pub root_is_prefix : (f t : Tokens) → f ≡ [] → f ≢ t → IsProperPrefix f t
 root_is_prefix f [] root other = absurd (other root)

@@ -1,8 +1,36 @@
 -- Two documents that differ at one place of a pointer alone.
-use Rattle.std.specs.Prelude.{◌≡◌}
-use Rattle.mp_tree.specs.Document.{Document}
-use Rattle.mp_pointer.specs.Part.{kind}
+use Rattle.std.specs.Prelude.{◌≡◌, ℕ, List, [], ◌∷◌, Option, None, Some}
+use Rattle.mp_tree.specs.Document.{Document, null, flag, whole, string, list, object, Members, no_members, member}
+use Rattle.mp_tree.specs.Elements.{count_of}
+use Rattle.mp_pointer.specs.Part.{part}
 use Rattle.mp_pointer.specs.Spelling.{Tokens, BeginsWith}
+
+-- what kind of part stands there
+pub data Kind : Type 0 where
+  absent : Kind
+  scalar : Document → Kind
+  names : List (List ℕ) → Kind
+  elements : ℕ → Kind
+
+abbrev pub names_of : Members → List (List ℕ)
+names_of no_members = []
+names_of (member n d ms) = n ∷ names_of ms
+
+-- a scalar with its value, a map with its names, a list with its length
+abbrev pub kind_here : Document → Kind
+kind_here null = scalar null
+kind_here (flag b) = scalar (flag b)
+kind_here (whole z) = scalar (whole z)
+kind_here (string s) = scalar (string s)
+kind_here (list ds) = elements (count_of ds)
+kind_here (object ms) = names (names_of ms)
+
+abbrev pub kind_of : Option Document → Kind
+kind_of None = absent
+kind_of (Some d) = kind_here d
+
+abbrev pub kind : Document → Tokens → Kind
+kind d t = kind_of (part d t)
 
 -- what stands at every list of tokens that does not begin with t is of the same kind in both
 abbrev pub DifferOnlyAt : Tokens → Document → Document → Type 0

@@ -1,26 +1,34 @@
 -- Laws of pointers alone. Each is the contract of a function of the module `laws` that runs nothing.
-use Rattle.std.specs.Prelude.{◌≡◌, ◌≢◌, ◌≤◌, ◌↔◌, ℕ, List, None, Some, Ok, Err}
-use Rattle.mp_tree.specs.Document.{Document, IsDocument, Items, list}
+use Rattle.std.specs.Prelude.{◌≡◌, ◌≢◌, ◌≤◌, ◌+◌, ◌⊎◌, ◌↔◌, ℕ, List, length, None, Some, IsTrue}
+use Rattle.mp_tree.specs.Document.{Document, IsDocument, Items, list, depth}
 use Rattle.mp_pointer.specs.Difference.{DifferOnlyAt}
 use Rattle.mp_pointer.specs.Part.{numeral, child, part}
 use Rattle.mp_tree.specs.Elements.{count_of, nth}
-use Rattle.mp_pointer.specs.Spelling.{Tokens, spell, IsFaultOf, tokens_in}
+use Rattle.mp_pointer.specs.Spelling.{Tokens, spell, IsFaultOf, are_same_tokens}
 use Rattle.mp_pointer.specs.declared.fault.PointerFault.{PointerFault}
 use Rattle.mp_pointer.specs.declared.fault.PointerFault.TheVariants.{OutOfMemory}
+
+-- `==` of pointers is equality of their tokens
+abbrev pub ComparesTokens : Type 0
+ComparesTokens = (s t : Tokens) → IsTrue (are_same_tokens s t) ↔ (s ≡ t)
 
 -- different lists of tokens have different spellings (RFC 6901 section 3)
 abbrev pub HasOneSpelling : Type 0
 HasOneSpelling = (s t : Tokens) → spell s ≡ spell t → s ≡ t
 
--- a text is read as the list that it spells, and as no other
-abbrev pub ReadsSpellings : Type 0
-ReadsSpellings = (text : List ℕ) (t : Tokens) → (tokens_in text ≡ Ok t) ↔ (text ≡ spell t)
+-- a text spells a list of tokens, or has a fault (section 3)
+abbrev pub SpellsOrIsFaulty : Type 0
+SpellsOrIsFaulty = (text : List ℕ)
+    → ((t : Tokens) × (text ≡ spell t)) ⊎ ((fault : PointerFault) × (fault ≢ OutOfMemory) × IsFaultOf fault text)
 
--- a text is refused for the fault that it has, and for no other;
--- so it spells one list or has one fault, and not both (section 3)
-abbrev pub RefusesFaults : Type 0
-RefusesFaults = (text : List ℕ) (fault : PointerFault)
-    → (tokens_in text ≡ Err fault) ↔ ((fault ≢ OutOfMemory) × IsFaultOf fault text)
+-- and not both
+abbrev pub SpellingsHaveNoFault : Type 0
+SpellingsHaveNoFault = (t : Tokens) (fault : PointerFault) → IsFaultOf fault (spell t) → fault ≡ OutOfMemory
+
+-- and has one fault alone; want of memory is none of a text
+abbrev pub HasOneFault : Type 0
+HasOneFault = (text : List ℕ) (fault other : PointerFault) → fault ≢ OutOfMemory → other ≢ OutOfMemory
+    → IsFaultOf fault text → IsFaultOf other text → fault ≡ other
 
 -- a token spells one index (RFC 6901 section 4)
 abbrev pub SpellsOneIndex : Type 0
@@ -31,6 +39,18 @@ SpellsOneIndex = (i k : ℕ) → numeral i ≡ numeral k → i ≡ k
 abbrev pub NamesElements : Type 0
 NamesElements = (i : ℕ) (ds : Items)
     → (child (numeral i) (list ds) ≡ nth i ds) × (count_of ds ≤ i → child (numeral i) (list ds) ≡ None)
+
+-- and a token that spells no index names nothing in it
+abbrev pub NamesNothingElse : Type 0
+NamesNothingElse = (token : List ℕ) (ds : Items) → ((i : ℕ) → token ≢ numeral i) → child token (list ds) ≡ None
+
+-- a part of a document is a document
+abbrev pub PartsAreDocuments : Type 0
+PartsAreDocuments = (t : Tokens) (d x : Document) → IsDocument d → part d t ≡ Some x → IsDocument x
+
+-- and each token leads at least one level further down
+abbrev pub PartsAreShallower : Type 0
+PartsAreShallower = (t : Tokens) (d x : Document) → part d t ≡ Some x → length t + depth x ≤ depth d
 
 -- documents that differ only at t and have the same part there are equal (RFC 6901 section 4)
 abbrev pub EqualsByPart : Type 0

@@ -1,5 +1,4 @@
 pub mod Bytes
-pub mod Cuts
 pub mod Difference
 pub mod Editing
 pub mod Laws

@@ -1,5 +1,6 @@
--- How a pointer is spelled, and what a text spells (RFC 6901 sections 3 and 4).
-use Rattle.std.specs.Prelude.{◌≡◌, ◌≢◌, ◌+◌, ◌<◌, ◌==◌, ◌&&◌, ◌||◌, ℕ, suc, codes, List, [], ◌∷◌, ◌++◌, map, slice_index, Bool, false, not, if◌then◌else◌, Option, None, Some, option_map, Result, Ok, Err, ⊤}
+-- How a pointer is spelled, and why a text spells none (RFC 6901 section 3).
+use Rattle.std.specs.Prelude.{◌≡◌, ◌≢◌, ◌+◌, ◌<◌, ◌==◌, ℕ, codes, List, [], ◌∷◌, ◌++◌, slice_index}
+use Rattle.std.specs.Prelude.{Bool, if◌then◌else◌, ⊤}
 use Rattle.std.specs.Cmp.Lexicographic.{pointwise}
 use Rattle.std.specs.List.{flat_map}
 use Rattle.mp_pointer.specs.Bytes.{slash, tilde, digit_zero, digit_one}
@@ -41,7 +42,10 @@ LacksSlash text = (text ≢ []) × (slice_index text 0 ≢ slash)
 
 -- a `~` that no `0` and no `1` follows
 abbrev pub IsBadTilde : List ℕ → ℕ → Type 0
-IsBadTilde text offset = (slice_index text offset ≡ tilde) × (slice_index text (offset + 1) ≢ digit_zero) × (slice_index text (offset + 1) ≢ digit_one)
+IsBadTilde text offset =
+    (slice_index text offset ≡ tilde)
+    × (slice_index text (offset + 1) ≢ digit_zero)
+    × (slice_index text (offset + 1) ≢ digit_one)
 
 pub record IsFirstBadTilde (text : List ℕ) (offset : ℕ) : Type 0 where
   pub here : IsBadTilde text offset
@@ -52,42 +56,3 @@ abbrev pub IsFaultOf : PointerFault → List ℕ → Type 0
 IsFaultOf NoSlash text = LacksSlash text
 IsFaultOf (BadTilde offset) text = (slice_index text 0 ≡ slash) × IsFirstBadTilde text offset
 IsFaultOf OutOfMemory text = ⊤
-
--- ---- the tokens that a text spells
-
--- section 4: `~1` is read as `/` and `~0` as `~`, and what that gives is not read again, so `~01` is `~1`
-abbrev pub unescape : List ℕ → List ℕ
-unescape [] = []
-unescape (c ∷ []) = c ∷ []
-unescape (c ∷ d ∷ rest) = if c == tilde then (if d == digit_one then slash else tilde) ∷ unescape rest else c ∷ unescape (d ∷ rest)
-
--- the parts of a text between its slashes
-abbrev pub on_first : ℕ → Tokens → Tokens
-on_first c [] = []
-on_first c (part ∷ parts) = (c ∷ part) ∷ parts
-
-abbrev pub parts_of : List ℕ → Tokens
-parts_of [] = [] ∷ []
-parts_of (c ∷ rest) = if c == slash then [] ∷ parts_of rest else on_first c (parts_of rest)
-
--- a text that begins with `0` or `1`
-abbrev pub is_escape : List ℕ → Bool
-is_escape [] = false
-is_escape (c ∷ rest) = (c == digit_zero) || (c == digit_one)
-
--- c is a `~` that no `0` and no `1` follows
-abbrev pub starts_badly : ℕ → List ℕ → Bool
-starts_badly c rest = (c == tilde) && not (is_escape rest)
-
-abbrev pub first_bad_tilde : List ℕ → Option ℕ
-first_bad_tilde [] = None
-first_bad_tilde (c ∷ rest) = if starts_badly c rest then Some 0 else option_map suc (first_bad_tilde rest)
-
-abbrev pub unless_bad : Option ℕ → Tokens → Result Tokens PointerFault
-unless_bad None tokens = Ok tokens
-unless_bad (Some offset) tokens = Err (BadTilde offset)
-
--- the tokens that the text spells, or the first fault: no slash, or a bad tilde at its offset
-unfoldable pub tokens_in : List ℕ → Result Tokens PointerFault
-tokens_in [] = Ok []
-tokens_in (c ∷ rest) = if c == slash then unless_bad (first_bad_tilde (c ∷ rest)) (map unescape (parts_of rest)) else Err NoSlash

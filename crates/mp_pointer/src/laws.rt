@@ -1,20 +1,29 @@
 //! Laws of pointers alone: each function runs nothing, and its contract is the law.
-ghost use Rattle.mp_pointer.specs.Laws.{EqualsByPart, HasOneSpelling, NamesElements, ReadsSpellings, RefusesFaults, SpellsOneIndex};
+ghost use Rattle.mp_pointer.specs.Laws.{ComparesTokens, EqualsByPart, HasOneFault, HasOneSpelling, NamesElements, NamesNothingElse, PartsAreDocuments, PartsAreShallower, SpellingsHaveNoFault, SpellsOneIndex, SpellsOrIsFaulty};
+
+/// `==` of pointers is equality of their tokens.
+pub fn equal_tokens()
+    ensures { ComparesTokens }
+{}
 
 /// Different lists of tokens have different spellings (RFC 6901 section 3).
 pub fn one_spelling()
     ensures { HasOneSpelling }
 {}
 
-/// A text is read as the list of tokens that it spells, and as no other.
-pub fn spellings_are_read()
-    ensures { ReadsSpellings }
+/// Each text spells a list of tokens or has a fault other than want of memory (RFC 6901 section 3).
+pub fn spells_or_is_faulty()
+    ensures { SpellsOrIsFaulty }
 {}
 
-/// A text is refused for the one fault that it has, and not where it has none. So each text spells one list of tokens
-/// or has one fault, and not both (RFC 6901 section 3).
-pub fn faults_are_refused()
-    ensures { RefusesFaults }
+/// A text that spells a list of tokens has no fault but want of memory.
+pub fn spellings_have_no_fault()
+    ensures { SpellingsHaveNoFault }
+{}
+
+/// A text has one fault at most, want of memory aside. So `Pointer::parse` has one answer to each text.
+pub fn one_fault()
+    ensures { HasOneFault }
 {}
 
 /// A token spells one index at most (RFC 6901 section 4).
@@ -26,6 +35,21 @@ pub fn one_index()
 /// (RFC 6901 section 4).
 pub fn indices_name_elements()
     ensures { NamesElements }
+{}
+
+/// In a list, a token that spells no index, as `-` or `01`, names nothing (RFC 6901 section 4).
+pub fn other_tokens_name_nothing()
+    ensures { NamesNothingElse }
+{}
+
+/// A part of a document is a document: in it too each object has its names once, in ascending order.
+pub fn parts_are_documents()
+    ensures { PartsAreDocuments }
+{}
+
+/// The depth of a part and the tokens that lead to it are together at most the depth of the document.
+pub fn parts_are_shallower()
+    ensures { PartsAreShallower }
 {}
 
 /// Documents that differ only at one place and have the same part there are equal (RFC 6901 section 4).

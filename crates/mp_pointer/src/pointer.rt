@@ -1,7 +1,7 @@
 //! Pointers: lists of tokens, and their spelling (RFC 6901 section 3).
-ghost use Rattle.std.specs.Prelude.{◌≡◌, ◌≢◌, ◌≤◌, ◌-◌, ◌↔◌, ◌++◌, ◌∷◌, [], length, map, take, get_or, slice_get, IsTrue, IfOk, IfErr, OnOk, OnErr, MatchResult, Ok, Err, string_bytes};
+ghost use Rattle.std.specs.Prelude.{◌≡◌, ◌≤◌, ◌-◌, ◌↔◌, ◌++◌, ◌∷◌, [], length, take, get_or, slice_get, IsTrue, IfOk, IfErr, OnOk, OnErr, string_bytes};
 ghost use Rattle.std.specs.Option.{option_copied};
-ghost use Rattle.mp_pointer.specs.Spelling.{BeginsWith, spell, tokens_in, IsFaultOf, IsProperPrefix};
+ghost use Rattle.mp_pointer.specs.Spelling.{BeginsWith, spell, IsFaultOf, IsProperPrefix};
 
 use crate::fault::PointerFault;
 use crate::spelling::{bad_tilde, is_plain, pointer_after, push_escaped};
@@ -30,7 +30,7 @@ pub struct Pointer {
 
 impl Model for Pointer {
     ghost use Rattle.std.specs.Prelude.{List, ℕ, string_bytes};
-    ghost use Rattle.mp_pointer.specs.Cuts.{IsKept, cut};
+    ghost use Rattle.mp_pointer.specs.Private.Cuts.{IsKept, cut};
 
     ghost Value = { List (List ℕ) };
 
@@ -45,7 +45,8 @@ impl Pointer {
     ///
     /// The first fault that holds is answered: `NoSlash` where the text is not empty and does not begin with `/`,
     /// `BadTilde` with the offset in bytes of the first `~` that no `0` and no `1` follows; `OutOfMemory` may come
-    /// at any point.
+    /// at any point. Memory aside, each text has one answer: `laws::spells_or_is_faulty`, `spellings_have_no_fault`,
+    /// `one_spelling` and `one_fault`.
     ///
     /// ```text
     /// Pointer::parse(alloc, "/~01")  // the token `~1`
@@ -54,9 +55,6 @@ impl Pointer {
     pub fn parse(alloc: Global, text: &str) -> Result<Pointer, PointerFault>
         ensures spelled { IfOk result (λ p. text.now ≡ spell p) }
         ensures fault { IfErr result (λ fault. IsFaultOf fault text.now) }
-        // Memory aside, a text has this answer and no other.
-        ensures tokens { MatchResult result (λ p. tokens_in text.now ≡ Ok p)
-            (λ fault. fault ≢ PointerFault.OutOfMemory → tokens_in text.now ≡ Err fault) }
     {
         if text.is_empty() {
             return Ok(Pointer::empty(alloc));

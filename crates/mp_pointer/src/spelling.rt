@@ -1,8 +1,9 @@
 // From a spelling to its tokens and back.
 ghost use Rattle.std.specs.Prelude.{◌≡◌, ◌≢◌, ◌+◌, ◌++◌, ◌∷◌, ◌<◌, ◌↔◌, ◌⊎◌, ℕ, length, slice_index, IsTrue, MatchOption, IfOk, OnOk, None, string_bytes};
 ghost use Rattle.mp_pointer.specs.Bytes.{slash, tilde};
-ghost use Rattle.mp_pointer.specs.Cuts.{IsPlain};
-ghost use Rattle.mp_pointer.specs.Spelling.{escape, spell, first_bad_tilde, IsBadTilde, IsFirstBadTilde};
+ghost use Rattle.mp_pointer.specs.Private.BadTilde.{first_bad_tilde};
+ghost use Rattle.mp_pointer.specs.Private.Cuts.{IsPlain};
+ghost use Rattle.mp_pointer.specs.Spelling.{escape, spell, IsBadTilde, IsFirstBadTilde};
 
 use crate::pointer::Pointer;
 use std::alloc::{AllocError, Global};

@@ -3,8 +3,7 @@ use Rattle.std.proofs.Common.{◌≡◌, ◌≢◌, ℕ, List, [], ◌∷◌, �
 use Rattle.mp_tree.specs.Document.{Document, null, flag, whole, string, list, object, Members, is_name, find, put, without, IsDocument, IsMap}
 use Rattle.mp_tree.specs.Look.{Path, look_of}
 use Rattle.mp_tree.proofs.Facts.{find-put, find-without, IsMap-put, IsMap-without, IsDocument-find, cases_same, is_name-self}
-use Rattle.mp_pointer.specs.Difference.{DifferOnlyAt}
-use Rattle.mp_pointer.specs.Part.{names}
+use Rattle.mp_pointer.specs.Difference.{DifferOnlyAt, names}
 use Rattle.mp_pointer.specs.Spelling.{BeginsWith}
 use Rattle.mp_pointer.proofs.Facts.{child-object, names_of-put, DifferOnlyAt-child, DifferOnlyAt-root}
 use Rattle.mp_merge.specs.Application.{target_members}

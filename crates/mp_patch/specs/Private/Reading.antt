@@ -1,9 +1,11 @@
 -- What reading a single element of a patch answers. Only private clauses cite it.
 use Rattle.std.specs.Prelude.{◌≡◌, ◌⊎◌, ℕ, codes, List, None, Some, ⊤}
 use Rattle.mp_tree.specs.Document.{Document}
+use Rattle.mp_tree.specs.Look.{at_name}
 use Rattle.mp_pointer.specs.Spelling.{Tokens, spell}
-use Rattle.mp_patch.specs.Form.{IsFaulty, IsNoPointer, HasOp, Need, path_alone, a_value, an_origin, NamesOp, text_at, value_at}
-use Rattle.mp_patch.specs.declared.fault.FormCause.TheVariants.{NotAnObject, NoOp, UnknownOp, NoPath, NoFrom, BadPointer, NoValue}
+use Rattle.mp_patch.specs.Form.{IsFaulty, IsNoPointer, HasOp, Need, path_alone, a_value, an_origin, NamesOp, text_at}
+use Rattle.mp_patch.specs.declared.fault.FormCause.TheVariants.{NotAnObject, NoOp, UnknownOp, NoPath, NoFrom}
+use Rattle.mp_patch.specs.declared.fault.FormCause.TheVariants.{BadPointer, NoValue}
 use Rattle.mp_patch.specs.declared.fault.FormCause.{FormCause}
 use Rattle.mp_patch.specs.declared.fault.Refusal.{Refusal}
 use Rattle.mp_patch.specs.declared.fault.Refusal.TheVariants.{By, OutOfMemory}
@@ -19,16 +21,31 @@ IsElementFault OutOfMemory d = ⊤
 abbrev pub FindsNoPointer : Need → List ℕ → Document → Type 0
 FindsNoPointer path_alone path d = IsNoPointer path
 FindsNoPointer a_value path d = IsNoPointer path
-FindsNoPointer an_origin path d = (origin : List ℕ) × (text_at (codes "from") d ≡ Some origin) × (IsNoPointer path ⊎ IsNoPointer origin)
+FindsNoPointer an_origin path d =
+    (origin : List ℕ) × (text_at (codes "from") d ≡ Some origin) × (IsNoPointer path ⊎ IsNoPointer origin)
 
 abbrev pub IsMapFault : Refusal FormCause → Document → Type 0
 IsMapFault (By NotAnObject) d = ⊥
 IsMapFault (By NoOp) d = text_at (codes "op") d ≡ None
-IsMapFault (By UnknownOp) d = (name : List ℕ) × (text_at (codes "op") d ≡ Some name) × ((need : Need) → ¬ NamesOp need name)
+IsMapFault (By UnknownOp) d =
+    (name : List ℕ) × (text_at (codes "op") d ≡ Some name) × ((need : Need) → ¬ NamesOp need name)
 IsMapFault (By NoPath) d = (need : Need) × HasOp need d × (text_at (codes "path") d ≡ None)
-IsMapFault (By NoFrom) d = HasOp an_origin d × (path : List ℕ) × (text_at (codes "path") d ≡ Some path) × (text_at (codes "from") d ≡ None)
-IsMapFault (By BadPointer) d = (need : Need) × HasOp need d × (path : List ℕ) × (text_at (codes "path") d ≡ Some path) × FindsNoPointer need path d
-IsMapFault (By NoValue) d = HasOp a_value d × (t : Tokens) × (text_at (codes "path") d ≡ Some (spell t)) × (value_at (codes "value") d ≡ None)
+IsMapFault (By NoFrom) d =
+    HasOp an_origin d
+    × (path : List ℕ)
+    × (text_at (codes "path") d ≡ Some path)
+    × (text_at (codes "from") d ≡ None)
+IsMapFault (By BadPointer) d =
+    (need : Need)
+    × HasOp need d
+    × (path : List ℕ)
+    × (text_at (codes "path") d ≡ Some path)
+    × FindsNoPointer need path d
+IsMapFault (By NoValue) d =
+    HasOp a_value d
+    × (t : Tokens)
+    × (text_at (codes "path") d ≡ Some (spell t))
+    × (at_name (codes "value") d ≡ None)
 IsMapFault OutOfMemory d = ⊤
 
 -- the text spells no pointer
@@ -46,6 +63,6 @@ IsOriginFault OutOfMemory path d = ⊤
 
 -- there is no value
 abbrev pub IsValueFault : Refusal FormCause → Document → Type 0
-IsValueFault (By NoValue) d = value_at (codes "value") d ≡ None
+IsValueFault (By NoValue) d = at_name (codes "value") d ≡ None
 IsValueFault (By cause) d = ⊥
 IsValueFault OutOfMemory d = ⊤

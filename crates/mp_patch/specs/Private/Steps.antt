@@ -20,7 +20,8 @@ Answers (Err OutOfMemory) d o e = ⊤
 
 -- v was added to the container before, or it lacks the place, or v does not fit
 abbrev pub Inserts : Result (Unit {0}) (Refusal Cause) → Bool → List ℕ → Document → Document → Document → Type 0
-Inserts (Ok done) fits token v before after = IsTrue fits × (¬ LacksPlace token (Some before)) × AddsTo v token before after
+Inserts (Ok done) fits token v before after =
+    IsTrue fits × (¬ LacksPlace token (Some before)) × AddsTo v token before after
 Inserts (Err (By NoPlace)) fits token v before after = LacksPlace token (Some before)
 Inserts (Err (By TooDeep)) fits token v before after = (¬ LacksPlace token (Some before)) × IsFalse fits
 Inserts (Err (By cause)) fits token v before after = ⊥
@@ -28,4 +29,6 @@ Inserts (Err OutOfMemory) fits token v before after = ⊤
 
 -- the part that the token named was taken out of the container, or there was none
 pub record Takes (taken : Option Doc) (token : List ℕ) (before after : Document) : Type 0 where
-  pub says : MatchOption taken (child token before ≡ None) (λ x. (child token before ≡ Some (document x)) × RemovesFrom token before after)
+  pub says :
+      MatchOption taken (child token before ≡ None)
+      (λ x. (child token before ≡ Some (document x)) × RemovesFrom token before after)

@@ -1,5 +1,5 @@
 use Rattle.std.proofs.Common.{take}
-use Rattle.mp_pointer.specs.Cuts.{IsPlain}
+use Rattle.mp_pointer.specs.Private.Cuts.{IsPlain}
 use Rattle.mp_pointer.proofs.spelling.is_plain.Given as goal
 
 abbrev pub invariant-loop-byte : goal.invariant-loop-byte

@@ -1,6 +1,7 @@
 use Rattle.std.proofs.Common.{◌≡◌, ◌∷◌, ◌++◌, length, None, IsUtf8}
 use Rattle.mp_pointer.specs.Bytes.{slash}
-use Rattle.mp_pointer.specs.Spelling.{spell, first_bad_tilde}
+use Rattle.mp_pointer.specs.Spelling.{spell}
+use Rattle.mp_pointer.specs.Private.BadTilde.{first_bad_tilde}
 use Rattle.mp_pointer.proofs.spelling.pointer_after.Given as goal
 
 abbrev pub invariant-parts : goal.invariant-parts

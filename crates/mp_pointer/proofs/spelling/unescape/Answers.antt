@@ -2,7 +2,8 @@ use Rattle.std.proofs.Common.{◌≡◌, [], ◌∷◌, ◌++◌, None, string_b
 use Rattle.std.proofs.lemmas.List.Concat.{flat_map-append}
 use Rattle.std.proofs.lemmas.Str.Pattern.{split_parts, strip_prefix_char}
 use Rattle.mp_pointer.specs.Bytes.{slash, tilde, digit_zero, digit_one}
-use Rattle.mp_pointer.specs.Spelling.{escape, escaped_byte, first_bad_tilde}
+use Rattle.mp_pointer.specs.Spelling.{escape, escaped_byte}
+use Rattle.mp_pointer.specs.Private.BadTilde.{first_bad_tilde}
 use lib.Utf8.{encode}
 use Rattle.mp_pointer.proofs.Spellings.{Lacks, Lacks-front, Lacks-after, escape-plain, unescape_step, first_bad-after, escape_follows}
 use Rattle.mp_pointer.proofs.spelling.unescape.Goals as goal

@@ -1,6 +1,7 @@
 use Rattle.std.proofs.Common.{◌≡◌, ◌++◌, length, None, IsUtf8, string_bytes}
 use Rattle.mp_pointer.specs.Bytes.{slash}
-use Rattle.mp_pointer.specs.Spelling.{escape, first_bad_tilde}
+use Rattle.mp_pointer.specs.Spelling.{escape}
+use Rattle.mp_pointer.specs.Private.BadTilde.{first_bad_tilde}
 use Rattle.mp_pointer.proofs.Spellings.{Lacks}
 use Rattle.mp_pointer.proofs.spelling.unescape.Given as goal
 

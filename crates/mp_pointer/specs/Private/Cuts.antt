@@ -1,5 +1,6 @@
--- How a `Pointer` keeps its tokens, each after a slash in one text, with the offset at which each ends. A pointer is the
--- list that `cut` gives of these two; `IsKept` is what is always so of them.
+-- How a `Pointer` keeps its tokens, each after a slash in one text, with the offset at which each ends. A pointer is
+-- the list that `cut` gives of these two; `IsKept` is what is always so of them. Both are of private fields: only
+-- private clauses cite this file, and the view of a `Pointer`.
 use Rattle.std.specs.Prelude.{◌≡◌, ◌≢◌, ◌<◌, ◌∷◌, ℕ, suc, List, [], length, slice_range, slice_index, Bool, IsTrue, ⊤}
 use Rattle.std.specs.Str.{IsUtf8}
 use Rattle.mp_pointer.specs.Bytes.{slash, tilde}
@@ -13,7 +14,10 @@ cut start (end ∷ ends) bytes = slice_range bytes (suc start) end ∷ cut end e
 abbrev pub AreCuts : ℕ → List ℕ → List ℕ → Type 0
 AreCuts start [] bytes = start ≡ length bytes
 AreCuts start (end ∷ ends) bytes =
-    (start < end) × (slice_range bytes start end ≡ slash ∷ slice_range bytes (suc start) end) × IsUtf8 (slice_range bytes (suc start) end) × AreCuts end ends bytes
+    (start < end)
+    × (slice_range bytes start end ≡ slash ∷ slice_range bytes (suc start) end)
+    × IsUtf8 (slice_range bytes (suc start) end)
+    × AreCuts end ends bytes
 
 -- neither `~` nor `/` is in it
 abbrev pub IsPlain : List ℕ → Type 0

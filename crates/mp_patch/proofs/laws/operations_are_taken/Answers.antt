@@ -1,0 +1,5 @@
+use Rattle.mp_patch.proofs.TakenOperations.{operations_are_taken}
+use Rattle.mp_patch.proofs.laws.operations_are_taken.Goals as goal
+
+pub returns : goal.returns
+returns c = operations_are_taken

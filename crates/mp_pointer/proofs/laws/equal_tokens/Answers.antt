@@ -1,0 +1,5 @@
+use Rattle.mp_pointer.proofs.TokenLists.{compares_tokens}
+use Rattle.mp_pointer.proofs.laws.equal_tokens.Goals as goal
+
+pub returns : goal.returns
+returns c = compares_tokens

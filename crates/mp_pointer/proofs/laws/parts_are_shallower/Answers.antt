@@ -1,0 +1,5 @@
+use Rattle.mp_pointer.proofs.PartDepths.{part-depth}
+use Rattle.mp_pointer.proofs.laws.parts_are_shallower.Goals as goal
+
+pub returns : goal.returns
+returns c = part-depth

@@ -1,0 +1,5 @@
+use Rattle.mp_pointer.proofs.Spellings.{spellings_have_no_fault}
+use Rattle.mp_pointer.proofs.laws.spellings_have_no_fault.Goals as goal
+
+pub returns : goal.returns
+returns c = spellings_have_no_fault
