@@ -6,4 +6,5 @@ pub mod Facts
 pub mod Joins
 pub mod Outcome
 pub mod Paths
+pub mod Readable
 pub mod Rewritings

@@ -1,7 +1,9 @@
 -- Laws of merge patches alone. Each is the contract of a function of the module `laws` that runs nothing.
-use Rattle.std.specs.Prelude.{◌≡◌, ◌≢◌, ◌≤◌, ◌↔◌, ◌⊎◌, ℕ, List, [], ◌∷◌, ◌++◌, Option, None, Some, IfSome, slice_get}
+use Rattle.std.specs.Prelude.{◌≡◌, ◌≢◌, ◌≤◌, ◌↔◌, ◌⊎◌, ℕ, max, List, [], ◌∷◌, ◌++◌, Option, None, Some, IfSome, slice_get}
 use Rattle.std.specs.List.{All, Contains}
-use Rattle.mp_tree.specs.Document.{Document, null, object, Members, find, IsDocument, IsMap, depth, depth_limit}
+use Rattle.mp_tree.specs.Document.{Document, null, object, Members, find, IsDocument, IsMap, IsReadable, depth, depth_limit}
+use Rattle.mp_patch.specs.Form.{deepest}
+use Rattle.mp_patch.specs.Writable.{IsWritable}
 use Rattle.mp_tree.specs.Look.{Path, plain, look}
 use Rattle.mp_patch.specs.Operation.{HaveDocuments, Operation, test}
 use Rattle.mp_patch.specs.Run.{Runs, RefusedAt}
@@ -27,6 +29,10 @@ AppliesAtEachName =
 -- and any other patch is the result
 abbrev pub OthersReplace : Type 0
 OthersReplace = (t : Option Document) (p : Document) → look p [] ≡ plain p → merge_patch t p ≡ p
+
+-- what a patch makes of a document can be read where both can
+abbrev pub MergedIsReadable : Type 0
+MergedIsReadable = (d p : Document) → IsReadable d → IsReadable p → IsReadable (merge_patch (Some d) p)
 
 -- merging into null gives what merging into nothing gives
 abbrev pub MergesIntoNull : Type 0
@@ -193,6 +199,10 @@ PairHasJoin = (p q : Document) → IsDocument p → IsDocument q → HasJoin (p 
 abbrev pub JoinIsNoDeeper : Type 0
 JoinIsNoDeeper = (patches : List Document) (j : Document) (n : ℕ) → IsDocument j → All IsDocument patches → IsJoin patches j → AreWithin n patches → depth j ≤ n
 
+-- and it can be read where they can
+abbrev pub JoinIsReadable : Type 0
+JoinIsReadable = (patches : List Document) (j : Document) → IsDocument j → All IsReadable patches → IsJoin patches j → IsReadable j
+
 -- one application of the join is the outcome of the patches
 abbrev pub JoinGivesOutcome : Type 0
 JoinGivesOutcome = (d : Document) (patches : List Document) (j : Document) → IsDocument d → IsDocument j → IsJoin patches j → IsOutcome d patches (merge_patch (Some d) j)
@@ -210,6 +220,14 @@ HasOneRewriting = (d p : Document) (operations others : List Operation) → IsRe
 -- the values of its operations are documents
 abbrev pub RewritingHasDocuments : Type 0
 RewritingHasDocuments = (d p : Document) (operations : List Operation) → IsDocument d → IsDocument p → IsRewriting d p operations → HaveDocuments operations
+
+-- its operations can be written where the document and the patch can be read
+abbrev pub RewritingIsWritable : Type 0
+RewritingIsWritable = (d p : Document) (operations : List Operation) → IsReadable d → IsReadable p → IsRewriting d p operations → All IsWritable operations
+
+-- and their values are no deeper than the deeper of the two
+abbrev pub RewritingIsNoDeeper : Type 0
+RewritingIsNoDeeper = (d p : Document) (operations : List Operation) → IsRewriting d p operations → deepest operations ≤ max (depth d) (depth p)
 
 -- it is empty exactly if the application leaves the document as it is
 abbrev pub EmptyRewriting : Type 0

@@ -1,6 +1,6 @@
 //! Laws over documents and merge patches alone: each function runs nothing, and its contract is the law.
 ghost use Rattle.mp_merge.specs.Convergence.{ReplicasConverge};
-ghost use Rattle.mp_merge.specs.Laws.{AppliesAtEachName, OthersReplace, MergesIntoNull, AppliedOnce, TriesResume, ApplicationIsOutcome, HasOneOutcome, AppliedInTurn, OutcomeExists, ReplicasAgree, Exchange, ClashesExist, HaveOneList, EmptyIfCompatible, CompatibleOrTold, CompatibleHaveNone, HasOneToldPair, ClashWithAJoin, CompatibleByNames, CompatibleIfEqual, JoinByNames, JoinOfEqual, JoinIsIdempotent, JoinIsCommutative, JoinIsAssociative, JoinGrows, HasOneJoin, EmptyHasNoJoin, JoinExists, PairHasJoin, JoinIsNoDeeper, JoinGivesOutcome, RewritingExists, HasOneRewriting, RewritingHasDocuments, GuardedList, RefusedGuardTells, EmptyRewriting, EditsInAnyOrder, RewritingRuns};
+ghost use Rattle.mp_merge.specs.Laws.{JoinIsReadable, MergedIsReadable, RewritingIsNoDeeper, RewritingIsWritable, AppliesAtEachName, OthersReplace, MergesIntoNull, AppliedOnce, TriesResume, ApplicationIsOutcome, HasOneOutcome, AppliedInTurn, OutcomeExists, ReplicasAgree, Exchange, ClashesExist, HaveOneList, EmptyIfCompatible, CompatibleOrTold, CompatibleHaveNone, HasOneToldPair, ClashWithAJoin, CompatibleByNames, CompatibleIfEqual, JoinByNames, JoinOfEqual, JoinIsIdempotent, JoinIsCommutative, JoinIsAssociative, JoinGrows, HasOneJoin, EmptyHasNoJoin, JoinExists, PairHasJoin, JoinIsNoDeeper, JoinGivesOutcome, RewritingExists, HasOneRewriting, RewritingHasDocuments, GuardedList, RefusedGuardTells, EmptyRewriting, EditsInAnyOrder, RewritingRuns};
 
 /// Application in the words of RFC 7396 section 2: a patch that is no object is the result. An object makes an object of
 /// every target, in which a name that the patch does not carry stays as it was, a null removes it, and any other value
@@ -16,6 +16,11 @@ pub fn merging_again()
     ensures into_null { MergesIntoNull }
     ensures twice { AppliedOnce }
     ensures tries { TriesResume }
+{}
+
+/// What a patch makes of a document can be read where both can: written, it is read back, so it can be a new start.
+pub fn merged_is_readable()
+    ensures { MergedIsReadable }
 {}
 
 /// One application of a patch is what the outcome of that patch alone asks for at every path: its values are set, its
@@ -131,6 +136,11 @@ pub fn join_is_no_deeper()
     ensures { JoinIsNoDeeper }
 {}
 
+/// A join of patches that can be read can be read: written, it is read back, and can be sent in their place.
+pub fn join_is_readable()
+    ensures { JoinIsReadable }
+{}
+
 /// One application of the join gives the outcome of all the patches that were joined: a replica may keep the join and
 /// apply it once.
 pub fn join_gives_outcome()
@@ -151,6 +161,17 @@ pub fn one_rewriting()
 pub fn rewritings_have_documents()
     ensures { RewritingHasDocuments }
 {}
+
+/// The operations of a rewriting can be written where the document and the patch can be read: their values can be read,
+/// their tokens are UTF-8. And their values are no deeper than the deeper of the two: so its text is read back where
+/// both are at most 124 deep.
+pub fn rewritings_are_writable()
+    ensures writable { RewritingIsWritable }
+    ensures depth { RewritingIsNoDeeper }
+{
+    mp_pointer::laws::parts_are_readable();
+    mp_pointer::laws::parts_are_shallower();
+}
 
 /// The tests at the head of a rewriting guard it: where it runs on another document, each place that it changes has
 /// there what it has in the document of the rewriting. And where a test is refused, that document differs at its place,

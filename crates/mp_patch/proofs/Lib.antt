@@ -7,6 +7,7 @@ pub mod FormLaws
 pub mod Forms
 pub mod Moves
 pub mod Needs
+pub mod ReadableShapes
 pub mod RunLaws
 pub mod Runs
 pub mod SingleSteps

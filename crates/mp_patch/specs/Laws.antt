@@ -1,9 +1,11 @@
 -- Laws of patches alone. Each is the contract of a function of the module `laws` that runs nothing.
 use Rattle.std.specs.Prelude.{◌≡◌, ◌≢◌, ◌≤◌, ◌+◌, ◌⊎◌, ℕ, List, [], length, Some}
-use Rattle.mp_tree.specs.Document.{Document, IsDocument, depth, depth_limit}
+use Rattle.std.specs.List.{All}
+use Rattle.mp_tree.specs.Document.{Document, IsDocument, IsReadable, depth, depth_limit}
 use Rattle.mp_pointer.specs.Part.{part}
 use Rattle.mp_pointer.specs.Spelling.{Tokens, IsProperPrefix}
-use Rattle.mp_patch.specs.Form.{AreForms, IsFormFault, shapes}
+use Rattle.mp_patch.specs.Writable.{IsWritable}
+use Rattle.mp_patch.specs.Form.{AreForms, IsFormFault, deepest, shapes}
 use Rattle.mp_patch.specs.Operation.{Operation, add, remove, replace, move, copy, test, HaveDocuments}
 use Rattle.mp_patch.specs.Refusal.{HasNoPlace, LeavesNoPlace}
 use Rattle.mp_patch.specs.Run.{Runs, IsRefused, RefusedAt}
@@ -90,3 +92,8 @@ IsFormOrFaulty = (d : Document)
 abbrev pub HasOneFault : Type 0
 HasOneFault = (d : Document) (fault other : FormFault) → fault ≢ OutOfMemory → other ≢ OutOfMemory
     → IsFormFault fault d → IsFormFault other d → fault ≡ other
+
+-- operations that can be written have a document that can be read, where no value is deeper than leaves room for it
+abbrev pub ShapesAreReadable : Type 0
+ShapesAreReadable = (operations : List Operation)
+    → All IsWritable operations → 2 + deepest operations ≤ depth_limit → IsReadable (shapes operations)

@@ -7,3 +7,4 @@ pub mod Refusal
 pub mod Run
 pub mod Texts
 pub mod View
+pub mod Writable

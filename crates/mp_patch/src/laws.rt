@@ -1,5 +1,5 @@
 //! Laws of patches alone: each function runs nothing, and its contract is the law.
-ghost use Rattle.mp_patch.specs.Laws.{FormsHaveDocuments, FormsHaveNoFault, HasOneEnd, HasOneFault, HasOneReading, HasOneRefusal, IsFormOrFaulty, OperationsAreTaken, PatchesHaveDocuments, RunsOrIsRefused, RunsUnrefused, ShapesAreForms, StaysShallow};
+ghost use Rattle.mp_patch.specs.Laws.{ShapesAreReadable, FormsHaveDocuments, FormsHaveNoFault, HasOneEnd, HasOneFault, HasOneReading, HasOneRefusal, IsFormOrFaulty, OperationsAreTaken, PatchesHaveDocuments, RunsOrIsRefused, RunsUnrefused, ShapesAreForms, StaysShallow};
 
 /// The values of a patch are documents: so the other laws speak of every `JsonPatch`.
 pub fn patches_have_documents()
@@ -66,3 +66,11 @@ pub fn is_form_or_faulty()
 pub fn one_fault()
     ensures { HasOneFault }
 {}
+
+/// A JSON Patch whose values can be read and whose tokens are UTF-8 has a document that can be read, and so is read back
+/// from its text, where its values are at most 124 deep: an operation and the array are two levels around each.
+pub fn shapes_are_readable()
+    ensures { ShapesAreReadable }
+{
+    mp_pointer::laws::spellings_are_texts();
+}

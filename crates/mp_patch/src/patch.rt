@@ -1,7 +1,7 @@
 //! Patches: lists of operations.
-ghost use Rattle.std.specs.Prelude.{◌≡◌, ◌+◌, ◌≤◌, ◌++◌, ◌∷◌, [], OnOk, OnErr, IfOk, MatchResult, string_bytes};
-ghost use Rattle.mp_tree.specs.Document.{depth};
-ghost use Rattle.mp_tree.specs.Text.{text};
+ghost use Rattle.std.specs.Prelude.{◌≡◌, ◌+◌, ◌≤◌, ◌++◌, ◌∷◌, [], OnOk, OnErr, IfOk, MatchResult, Some, string_bytes};
+ghost use Rattle.mp_tree.specs.Document.{depth, depth_limit};
+ghost use Rattle.mp_tree.specs.Text.{read, text};
 ghost use Rattle.mp_tree.specs.View.{document};
 ghost use Rattle.mp_patch.specs.Form.{AreForms, IsFormFault, deepest, shapes};
 ghost use Rattle.mp_patch.specs.View.{operations_of};
@@ -108,14 +108,20 @@ impl JsonPatch {
     }
 }
 
-/// The compact text of the document that `to_doc` gives, which is not made for it. `AllocError` where memory ran out.
+/// The compact text of the document that `to_doc` gives, which is not made for it. It is read back as that document
+/// where no value is more than 124 deep. `AllocError` where memory ran out.
 ///
 /// ```text
 /// write_patch(alloc, &patch)  // [{"op":"remove","path":"/a"}], for a list of one Op::Remove
 /// ```
 pub fn write_patch(alloc: Global, patch: &JsonPatch) -> Result<String, AllocError>
-    ensures { IfOk result (λ s. string_bytes s ≡ text (shapes (operations_of patch.now))) }
+    ensures text { IfOk result (λ s. string_bytes s ≡ text (shapes (operations_of patch.now))) }
+    ensures reads_back { IfOk result (λ s.
+        2 + deepest (operations_of patch.now) ≤ depth_limit
+        → read (string_bytes s) ≡ Some (shapes (operations_of patch.now))) }
 {
+    mp_tree::laws::docs_are_documents();
+    mp_tree::laws::texts_read_back();
     match to_string(alloc, patch) {
         Ok(written) => Ok(written),
         Err(_) => Err(AllocError),

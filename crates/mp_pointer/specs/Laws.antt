@@ -1,6 +1,7 @@
 -- Laws of pointers alone. Each is the contract of a function of the module `laws` that runs nothing.
-use Rattle.std.specs.Prelude.{◌≡◌, ◌≢◌, ◌≤◌, ◌+◌, ◌⊎◌, ◌↔◌, ℕ, List, length, None, Some, IsTrue}
-use Rattle.mp_tree.specs.Document.{Document, IsDocument, Items, list, depth}
+use Rattle.std.specs.Prelude.{◌≡◌, ◌≢◌, ◌≤◌, ◌+◌, ◌⊎◌, ◌↔◌, ℕ, List, length, None, Some, IsTrue, IsUtf8}
+use Rattle.std.specs.List.{All}
+use Rattle.mp_tree.specs.Document.{Document, IsDocument, IsReadable, Items, list, depth}
 use Rattle.mp_pointer.specs.Difference.{DifferOnlyAt}
 use Rattle.mp_pointer.specs.Part.{numeral, child, part}
 use Rattle.mp_tree.specs.Elements.{count_of, nth}
@@ -56,3 +57,11 @@ PartsAreShallower = (t : Tokens) (d x : Document) → part d t ≡ Some x → le
 abbrev pub EqualsByPart : Type 0
 EqualsByPart = (t : Tokens) (d e x : Document) → IsDocument d → IsDocument e
     → DifferOnlyAt t d e → part d t ≡ Some x → part e t ≡ Some x → d ≡ e
+
+-- a part of what can be read can be read
+abbrev pub PartsAreReadable : Type 0
+PartsAreReadable = (t : Tokens) (d x : Document) → IsReadable d → part d t ≡ Some x → IsReadable x
+
+-- tokens that are UTF-8 are spelled in UTF-8
+abbrev pub SpellingsAreTexts : Type 0
+SpellingsAreTexts = (t : Tokens) → All IsUtf8 t → IsUtf8 (spell t)

@@ -1,5 +1,5 @@
 //! Laws of pointers alone: each function runs nothing, and its contract is the law.
-ghost use Rattle.mp_pointer.specs.Laws.{ComparesTokens, EqualsByPart, HasOneFault, HasOneSpelling, NamesElements, NamesNothingElse, PartsAreDocuments, PartsAreShallower, SpellingsHaveNoFault, SpellsOneIndex, SpellsOrIsFaulty};
+ghost use Rattle.mp_pointer.specs.Laws.{PartsAreReadable, SpellingsAreTexts, ComparesTokens, EqualsByPart, HasOneFault, HasOneSpelling, NamesElements, NamesNothingElse, PartsAreDocuments, PartsAreShallower, SpellingsHaveNoFault, SpellsOneIndex, SpellsOrIsFaulty};
 
 /// `==` of pointers is equality of their tokens.
 pub fn equal_tokens()
@@ -55,4 +55,14 @@ pub fn parts_are_shallower()
 /// Documents that differ only at one place and have the same part there are equal (RFC 6901 section 4).
 pub fn equal_by_part()
     ensures { EqualsByPart }
+{}
+
+/// A part of what can be read can be read, and written: its texts are UTF-8 and its numbers within the rule too.
+pub fn parts_are_readable()
+    ensures { PartsAreReadable }
+{}
+
+/// Tokens that are UTF-8, as names are, are spelled in UTF-8.
+pub fn spellings_are_texts()
+    ensures { SpellingsAreTexts }
 {}

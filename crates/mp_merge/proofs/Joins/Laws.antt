@@ -97,7 +97,7 @@ pub compatible_from_join : (patches : List Document) (j : Document) → IsJoin p
 compatible_from_join patches j joined p q one two w clash = clash.differ (sym (joined.said p one w clash.first) ∙ joined.said q two w clash.second)
 
 -- what the patches have and each union keeps, the join has too
-join_from_compatible : (P : Document → Type 0) → ((p j : Document) → P p → P j → P (union p j)) → (p : Document) (patches : List Document) → All P (p ∷ patches) → PairwiseCompatible (p ∷ patches)
+pub join_from_compatible : (P : Document → Type 0) → ((p j : Document) → P p → P j → P (union p j)) → (p : Document) (patches : List Document) → All P (p ∷ patches) → PairwiseCompatible (p ∷ patches)
     → (j : Document) × P j × IsJoin (p ∷ patches) j
 join_from_compatible P keeps p [] good free = (p, All-head P p [] good, join-one p)
 join_from_compatible P keeps p (q ∷ patches) good free =
