@@ -6,7 +6,7 @@ use Rattle.mp_tree.specs.declared.doc.Doc.{Doc}
 use Rattle.mp_merge.specs.Lists.{IsJoinAllFault, IsReplayFault}
 use Rattle.mp_merge.specs.declared.fault.ListFault.{ListFault}
 use Rattle.mp_merge.specs.declared.fault.ListFault.TheVariants.{NoPatches, ConflictOf, OutOfMemory}
-use Rattle.mp_cli.specs.Answered.{IsJoinAnswer, none_joined, join_refused, IsReplayAnswer, replay_refused, IsPatchAnswerTo, IsReplayAnswerTo, IsRewriteAnswerTo, get_answer}
+use Rattle.mp_cli.specs.Answered.{IsJoinAnswer, none_joined, join_refused, IsReplayAnswer, replay_refused, IsPatchAnswerTo, IsReplayAnswerTo, IsRewriteAnswerTo, IsGetAnswerTo, IsPartAnswer}
 use Rattle.mp_cli.specs.Lines.{Answered, wrong_shape}
 use Rattle.mp_cli.specs.Private.Answers.{list_fault}
 use Rattle.mp_tree.proofs.Facts.{list_of-items}
@@ -32,10 +32,13 @@ replay_answer docs ps d a split is =
     subst (λ (ds : List Doc). IsReplayAnswerTo (items ds) a) (sym split) (subst (λ (qs : List Document). IsReplayAnswer (document d) qs a) (sym (list_of-items ps)) is)
 
 -- `get` wants one document
-pub no_single : (pointer : List ℕ) (docs : List Doc) → ((d : Doc) → docs ≢ d ∷ []) → get_answer pointer (items docs) ≡ wrong_shape
-no_single pointer [] other = refl
-no_single pointer (d ∷ []) other = absurd (other d refl)
-no_single pointer (d ∷ e ∷ docs) other = refl
+pub no_single : (pointer : List ℕ) (docs : List Doc) (a : Answered) → ((d : Doc) → docs ≢ d ∷ []) → a ≡ wrong_shape → IsGetAnswerTo pointer (items docs) a
+no_single pointer [] a other is = is
+no_single pointer (d ∷ []) a other is = absurd (other d refl)
+no_single pointer (d ∷ e ∷ docs) a other is = is
+
+pub single_part : (pointer : List ℕ) (docs : List Doc) (d : Doc) (a : Answered) → docs ≡ d ∷ [] → IsPartAnswer (document d) pointer a → IsGetAnswerTo pointer (items docs) a
+single_part pointer docs d a split is = subst (λ (ds : List Doc). IsGetAnswerTo pointer (items ds) a) (sym split) is
 
 -- `patch` and `rewrite` want two
 pub no_pair : (docs : List Doc) (a : Answered) → ((d e : Doc) → docs ≢ d ∷ e ∷ []) → a ≡ wrong_shape → IsPatchAnswerTo (items docs) a × IsRewriteAnswerTo (items docs) a

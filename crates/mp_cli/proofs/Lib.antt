@@ -3,6 +3,8 @@ pub mod CommandLine
 pub mod GetWord
 pub mod GivenWords
 pub mod OneAnswer
+pub mod Printed
+pub mod ReadInputs
 pub mod Runs
 pub mod SomeAnswer
 pub mod TakenWords

@@ -1,122 +1,146 @@
 -- The program has one answer to a command and its input bytes.
-use Rattle.std.proofs.Common.{◌≡◌, ◌≢◌, ℕ, List, [], Result, Ok, Err, refl, sym, ap, ◌∙◌, subst}
-use Rattle.mp_tree.specs.Document.{Document, Items, no_items, item, IsDocument, AreDocuments}
+use Rattle.std.proofs.Common.{◌≡◌, ◌≢◌, ℕ, List, [], Result, Ok, Err, string_bytes, refl, sym, ap, ◌∙◌, subst}
+use Rattle.std.proofs.lemmas.List.Elements.{All-head, All-tail}
+use Rattle.std.specs.List.{All}
+use Rattle.mp_tree.specs.Document.{Document, Items, no_items, item, IsDocument, IsReadable, AreDocuments}
+use Rattle.mp_tree.specs.Elements.{list_of}
+use Rattle.mp_tree.specs.Laws.{ReadsReadables}
+use Rattle.mp_tree.specs.Look.{Path}
 use Rattle.mp_tree.specs.Text.{documents_in}
 use Rattle.mp_tree.specs.declared.reading.DocsFault.{DocsFault}
-use Rattle.mp_tree.proofs.Facts.{AreDocuments-documents_in}
+use Rattle.mp_pointer.specs.Part.{part}
+use Rattle.mp_pointer.specs.Spelling.{IsFaultOf}
 use Rattle.mp_patch.specs.Form.{shapes}
-use Rattle.mp_patch.specs.Operation.{HaveDocuments}
-use Rattle.mp_patch.specs.Operation.{Operation}
-use Rattle.mp_patch.specs.Run.{Runs, IsFaultOf}
+use Rattle.mp_patch.specs.Operation.{HaveDocuments, Operation}
+use Rattle.mp_patch.specs.Run.{Runs, IsFaultOf as IsFaultOfRun}
 use Rattle.mp_patch.specs.declared.fault.ApplyFault.{ApplyFault}
 use Rattle.mp_patch.specs.declared.fault.ApplyFault.TheVariants.{Refused, OutOfMemory}
-use Rattle.mp_patch.proofs.Facts.{forms_have_documents, forms_have_no_fault, has_one_fault, has_one_reading, has_one_end, runs_unrefused, has_one_refusal}
-use Rattle.mp_merge.proofs.Facts.{told_has_no_join, told_has_no_outcome, told_has_patches, empty_has_no_join, one_join, one_outcome, one_rewriting, one_told}
 use Rattle.mp_merge.specs.Join.{IsJoin}
-use Rattle.mp_merge.specs.Lists.{IsToldPair}
-use Rattle.mp_tree.specs.Look.{Path}
-use Rattle.mp_cli.specs.Answered.{IsRunAnswer, ran, halted, IsPatchAnswer, malformed, formed, IsJoinAnswer, joined, none_joined, join_refused, IsReplayAnswer, replayed, replay_refused, IsRewriteAnswer, rewritten, IsPatchAnswerTo, IsReplayAnswerTo, IsRewriteAnswerTo, IsAnswerTo, IsChecked, IsAnswered}
-use Rattle.mp_tree.specs.Elements.{list_of}
-use Rattle.mp_cli.specs.Lines.{Answered, result_line, conflict_line, form_fault, run_fault}
+use Rattle.mp_merge.specs.Lists.{HaveSameMembers, IsToldPair}
+use Rattle.mp_merge.specs.Outcome.{IsOutcome}
+use Rattle.mp_cli.specs.Answered.{IsPartAnswer, spelled, misspelled, IsGetAnswerTo, IsRunAnswer, ran, halted, IsPatchAnswer, malformed, formed, IsJoinAnswer, joined, none_joined, join_refused, IsReplayAnswer, replayed, replay_refused, IsRewriteAnswer, rewritten, IsPatchAnswerTo, IsReplayAnswerTo, IsRewriteAnswerTo, IsAnswerTo, IsChecked, IsAnswered}
+use Rattle.mp_cli.specs.Lines.{Answered, result_line, conflict_line, form_fault, part_line, run_fault, spelling_fault}
 use Rattle.mp_cli.specs.Laws.{HasOneAnswer}
+use Rattle.mp_cli.specs.Private.LawsBelow.{PointerLaws, PatchLaws, MergeLaws, RewritingLaws}
 use Rattle.mp_cli.specs.declared.command.Command.{Command}
 use Rattle.mp_cli.specs.declared.command.Command.TheVariants.{Get, Patch, Merge, Join, Replay, Rewrite}
+use Rattle.mp_cli.proofs.ReadInputs.{are_documents, documents_of, join_is_of_some, joined_are_compatible, replayed_are_compatible, told_are_some}
 
--- ---- `patch`
+module _ (pointers : PointerLaws) (json : PatchLaws) (merges : MergeLaws) (rewritings : RewritingLaws) where
+  -- ---- `patch`
 
-module _ (d : Document) (operations : List Operation) (a b : Answered) (good : IsDocument d) (values : HaveDocuments operations) where
-  not_both : (e : Document) (fault : ApplyFault) → Runs d operations e → fault ≢ OutOfMemory → IsFaultOf fault d operations → ⊥
-  not_both e OutOfMemory runs memory refused = memory refl
-  not_both e (Refused k cause) runs memory refused = runs_unrefused d e operations k cause good values runs refused
+  module _ (d : Document) (operations : List Operation) (a b : Answered) (good : IsDocument d) (values : HaveDocuments operations) where
+    not_both : (e : Document) (fault : ApplyFault) → Runs d operations e → fault ≢ OutOfMemory → IsFaultOfRun fault d operations → ⊥
+    not_both e OutOfMemory runs memory refused = memory refl
+    not_both e (Refused k cause) runs memory refused = json.unrefused d e operations k cause good values runs refused
 
-  one_fault : (fault other : ApplyFault) → fault ≢ OutOfMemory → other ≢ OutOfMemory → IsFaultOf fault d operations → IsFaultOf other d operations → run_fault fault ≡ run_fault other
-  one_fault OutOfMemory other memory also one two = absurd (memory refl)
-  one_fault (Refused k cause) OutOfMemory memory also one two = absurd (also refl)
-  one_fault (Refused k cause) (Refused n other) memory also one two =
-      let same = has_one_refusal d operations k n cause other good values one two in
-      ap (λ i. run_fault (Refused i cause)) same.0 ∙ ap (λ c. run_fault (Refused n c)) same.1
+    one_fault : (fault other : ApplyFault) → fault ≢ OutOfMemory → other ≢ OutOfMemory → IsFaultOfRun fault d operations → IsFaultOfRun other d operations → run_fault fault ≡ run_fault other
+    one_fault OutOfMemory other memory also one two = absurd (memory refl)
+    one_fault (Refused k cause) OutOfMemory memory also one two = absurd (also refl)
+    one_fault (Refused k cause) (Refused n other) memory also one two =
+        let same = json.one_refusal d operations k n cause other good values one two in
+        ap (λ i. run_fault (Refused i cause)) same.0 ∙ ap (λ c. run_fault (Refused n c)) same.1
 
-  one_run : IsRunAnswer d operations a → IsRunAnswer d operations b → a ≡ b
-  one_run (ran e fine runs is) (ran f also more was) = is ∙ ap result_line (has_one_end d e f operations good values runs more) ∙ sym was
-  one_run (ran e fine runs is) (halted fault memory refused was) = absurd (not_both e fault runs memory refused)
-  one_run (halted fault memory refused is) (ran f also more was) = absurd (not_both f fault more memory refused)
-  one_run (halted fault memory refused is) (halted other also again was) = is ∙ one_fault fault other memory also refused again ∙ sym was
+    one_run : IsRunAnswer d operations a → IsRunAnswer d operations b → a ≡ b
+    one_run (ran e fine runs is) (ran f also more was) = is ∙ ap result_line (json.one_end d e f operations good values runs more) ∙ sym was
+    one_run (ran e fine runs is) (halted fault memory refused was) = absurd (not_both e fault runs memory refused)
+    one_run (halted fault memory refused is) (ran f also more was) = absurd (not_both f fault more memory refused)
+    one_run (halted fault memory refused is) (halted other also again was) = is ∙ one_fault fault other memory also refused again ∙ sym was
 
-one_patch : (d patch : Document) (a b : Answered) → IsDocument d → IsDocument patch → IsPatchAnswer d patch a → IsPatchAnswer d patch b → a ≡ b
-one_patch d patch a b good fine (malformed fault memory one is) (malformed other also two was) = is ∙ ap form_fault (has_one_fault patch fault other memory also one two) ∙ sym was
-one_patch d patch a b good fine (malformed fault memory one is) (formed operations forms runs) = absurd (memory (forms_have_no_fault patch operations fault forms one))
-one_patch d patch a b good fine (formed operations forms runs) (malformed fault memory one is) = absurd (memory (forms_have_no_fault patch operations fault forms one))
-one_patch d patch a b good fine (formed operations forms runs) (formed others also more) =
-    let same = has_one_reading patch others operations also forms in
-    one_run d operations a b good (forms_have_documents patch operations fine forms) runs (subst (λ (os : List Operation). IsRunAnswer d os b) same more)
+  one_patch : (d patch : Document) (a b : Answered) → IsDocument d → IsDocument patch → IsPatchAnswer d patch a → IsPatchAnswer d patch b → a ≡ b
+  one_patch d patch a b good fine (malformed fault memory one is) (malformed other also two was) = is ∙ ap form_fault (json.one_fault patch fault other memory also one two) ∙ sym was
+  one_patch d patch a b good fine (malformed fault memory one is) (formed operations forms runs) = absurd (memory (json.form_unfaulty patch operations fault forms one))
+  one_patch d patch a b good fine (formed operations forms runs) (malformed fault memory one is) = absurd (memory (json.form_unfaulty patch operations fault forms one))
+  one_patch d patch a b good fine (formed operations forms runs) (formed others also more) =
+      let same = json.one_reading patch others operations also forms in
+      one_run d operations a b good (json.form_documents patch operations fine forms) runs (subst (λ (os : List Operation). IsRunAnswer d os b) same more)
 
-one_patch_to : (ds : Items) (a b : Answered) → AreDocuments ds → IsPatchAnswerTo ds a → IsPatchAnswerTo ds b → a ≡ b
-one_patch_to no_items a b good is was = is ∙ sym was
-one_patch_to (item d no_items) a b good is was = is ∙ sym was
-one_patch_to (item d (item patch no_items)) a b good is was = one_patch d patch a b good.0 good.1.0 is was
-one_patch_to (item d (item patch (item e ds))) a b good is was = is ∙ sym was
+  one_patch_to : (ds : Items) (a b : Answered) → AreDocuments ds → IsPatchAnswerTo ds a → IsPatchAnswerTo ds b → a ≡ b
+  one_patch_to no_items a b good is was = is ∙ sym was
+  one_patch_to (item d no_items) a b good is was = is ∙ sym was
+  one_patch_to (item d (item patch no_items)) a b good is was = one_patch d patch a b good.0 good.1.0 is was
+  one_patch_to (item d (item patch (item e ds))) a b good is was = is ∙ sym was
 
--- ---- lists of merge patches
+  -- ---- lists of merge patches
 
-one_conflict_line : (patches : List Document) (first second other_first other_second : ℕ) (places others : List Path) (a b : Answered) → IsToldPair patches first second places
-    → a ≡ conflict_line first second places → IsToldPair patches other_first other_second others → b ≡ conflict_line other_first other_second others → a ≡ b
-one_conflict_line patches first second other_first other_second places others a b one is two was =
-    is ∙ one_told conflict_line patches first second other_first other_second places others one two ∙ sym was
+  one_conflict_line : (patches : List Document) (first second other_first other_second : ℕ) (places others : List Path) (a b : Answered) → IsToldPair patches first second places
+      → a ≡ conflict_line first second places → IsToldPair patches other_first other_second others → b ≡ conflict_line other_first other_second others → a ≡ b
+  one_conflict_line patches first second other_first other_second places others a b one is two was =
+      let same = merges.one_told_pair patches first second other_first other_second places others one two in
+      let alike : conflict_line first second places ≡ conflict_line other_first other_second others =
+      ap (λ n. conflict_line n second places) same.0 ∙ ap (λ n. conflict_line other_first n places) same.1 ∙ ap (conflict_line other_first other_second) same.2 in
+      is ∙ alike ∙ sym was
 
-none_has_no_join : (patches : List Document) (j : Document) → patches ≡ [] → IsJoin patches j → ⊥
-none_has_no_join patches j none joins = empty_has_no_join j (subst (λ (ps : List Document). IsJoin ps j) none joins)
+  joined_or_told : (patches : List Document) (j : Document) (first second : ℕ) (places : List Path) → All IsDocument patches → IsDocument j → IsJoin patches j → IsToldPair patches first second places → ⊥
+  joined_or_told patches j first second places all good joins told = merges.told_is_incompatible patches first second places told (joined_are_compatible merges patches j all good joins)
 
-none_is_told : (patches : List Document) (first second : ℕ) (places : List Path) → patches ≡ [] → IsToldPair patches first second places → ⊥
-none_is_told patches first second places none told = told_has_patches first second places (subst (λ (ps : List Document). IsToldPair ps first second places) none told)
+  replayed_or_told : (d : Document) (patches : List Document) (e : Document) (first second : ℕ) (places : List Path) → IsDocument d → All IsDocument patches → IsDocument e → IsOutcome d patches e → IsToldPair patches first second places → ⊥
+  replayed_or_told d patches e first second places start all good outcome told = merges.told_is_incompatible patches first second places told (replayed_are_compatible merges d patches e start all good outcome)
 
-one_join_answer : (patches : List Document) (a b : Answered) → IsJoinAnswer patches a → IsJoinAnswer patches b → a ≡ b
-one_join_answer patches a b (joined i good one is) (joined j other two was) = is ∙ ap result_line (one_join patches i j good other one two) ∙ sym was
-one_join_answer patches a b (joined i good one is) (none_joined none was) = absurd (none_has_no_join patches i none one)
-one_join_answer patches a b (joined i good one is) (join_refused first second places two was) = absurd (told_has_no_join patches i first second places one two)
-one_join_answer patches a b (none_joined none is) (joined j other two was) = absurd (none_has_no_join patches j none two)
-one_join_answer patches a b (none_joined none is) (none_joined also was) = is ∙ sym was
-one_join_answer patches a b (none_joined none is) (join_refused first second places two was) = absurd (none_is_told patches first second places none two)
-one_join_answer patches a b (join_refused first second places one is) (joined j other two was) = absurd (told_has_no_join patches j first second places two one)
-one_join_answer patches a b (join_refused first second places one is) (none_joined none was) = absurd (none_is_told patches first second places none one)
-one_join_answer patches a b (join_refused first second places one is) (join_refused least most others two was) =
-    one_conflict_line patches first second least most places others a b one is two was
+  same_members : (ps : List Document) → HaveSameMembers ps ps
+  same_members ps p = (λ at. at, λ at. at)
 
-one_replay : (d : Document) (patches : List Document) (a b : Answered) → IsReplayAnswer d patches a → IsReplayAnswer d patches b → a ≡ b
-one_replay d patches a b (replayed e good one is) (replayed f other two was) = is ∙ ap result_line (one_outcome d patches e f good other one two) ∙ sym was
-one_replay d patches a b (replayed e good one is) (replay_refused first second places two was) = absurd (told_has_no_outcome d e patches first second places one two)
-one_replay d patches a b (replay_refused first second places one is) (replayed f other two was) = absurd (told_has_no_outcome d f patches first second places two one)
-one_replay d patches a b (replay_refused first second places one is) (replay_refused least most others two was) =
-    one_conflict_line patches first second least most places others a b one is two was
+  one_join_answer : (patches : List Document) (a b : Answered) → All IsDocument patches → IsJoinAnswer patches a → IsJoinAnswer patches b → a ≡ b
+  one_join_answer patches a b all (joined i good one is) (joined j other two was) = is ∙ ap result_line (merges.one_join patches patches i j (same_members patches) good other one two) ∙ sym was
+  one_join_answer patches a b all (joined i good one is) (none_joined none was) = absurd (join_is_of_some merges patches i one none)
+  one_join_answer patches a b all (joined i good one is) (join_refused first second places two was) = absurd (joined_or_told patches i first second places all good one two)
+  one_join_answer patches a b all (none_joined none is) (joined j other two was) = absurd (join_is_of_some merges patches j two none)
+  one_join_answer patches a b all (none_joined none is) (none_joined also was) = is ∙ sym was
+  one_join_answer patches a b all (none_joined none is) (join_refused first second places two was) = absurd (told_are_some merges patches first second places two none)
+  one_join_answer patches a b all (join_refused first second places one is) (joined j other two was) = absurd (joined_or_told patches j first second places all other two one)
+  one_join_answer patches a b all (join_refused first second places one is) (none_joined none was) = absurd (told_are_some merges patches first second places one none)
+  one_join_answer patches a b all (join_refused first second places one is) (join_refused least most others two was) =
+      one_conflict_line patches first second least most places others a b one is two was
 
-one_replay_to : (ds : Items) (a b : Answered) → IsReplayAnswerTo ds a → IsReplayAnswerTo ds b → a ≡ b
-one_replay_to no_items a b is was = is ∙ sym was
-one_replay_to (item d ps) a b is was = one_replay d (list_of ps) a b is was
+  one_replay : (d : Document) (patches : List Document) (a b : Answered) → IsDocument d → All IsDocument patches → IsReplayAnswer d patches a → IsReplayAnswer d patches b → a ≡ b
+  one_replay d patches a b start all (replayed e good one is) (replayed f other two was) = is ∙ ap result_line (merges.one_outcome d patches e f good other one two) ∙ sym was
+  one_replay d patches a b start all (replayed e good one is) (replay_refused first second places two was) = absurd (replayed_or_told d patches e first second places start all good one two)
+  one_replay d patches a b start all (replay_refused first second places one is) (replayed f other two was) = absurd (replayed_or_told d patches f first second places start all other two one)
+  one_replay d patches a b start all (replay_refused first second places one is) (replay_refused least most others two was) =
+      one_conflict_line patches first second least most places others a b one is two was
 
--- ---- `rewrite`
+  one_replay_to : (ds : Items) (a b : Answered) → All IsDocument (list_of ds) → IsReplayAnswerTo ds a → IsReplayAnswerTo ds b → a ≡ b
+  one_replay_to no_items a b all is was = is ∙ sym was
+  one_replay_to (item d ps) a b all is was = one_replay d (list_of ps) a b (All-head IsDocument d (list_of ps) all) (All-tail IsDocument d (list_of ps) all) is was
 
-one_rewrite : (d patch : Document) (a b : Answered) → IsRewriteAnswer d patch a → IsRewriteAnswer d patch b → a ≡ b
-one_rewrite d patch a b (rewritten operations one is) (rewritten others two was) = is ∙ ap (λ os. result_line (shapes os)) (one_rewriting d patch operations others one two) ∙ sym was
+  -- ---- `rewrite`
 
-one_rewrite_to : (ds : Items) (a b : Answered) → IsRewriteAnswerTo ds a → IsRewriteAnswerTo ds b → a ≡ b
-one_rewrite_to no_items a b is was = is ∙ sym was
-one_rewrite_to (item d no_items) a b is was = is ∙ sym was
-one_rewrite_to (item d (item patch no_items)) a b is was = one_rewrite d patch a b is was
-one_rewrite_to (item d (item patch (item e ds))) a b is was = is ∙ sym was
+  one_rewrite : (d patch : Document) (a b : Answered) → IsRewriteAnswer d patch a → IsRewriteAnswer d patch b → a ≡ b
+  one_rewrite d patch a b (rewritten operations one is) (rewritten others two was) = is ∙ ap (λ os. result_line (shapes os)) (rewritings.one d patch operations others one two) ∙ sym was
 
--- ---- all commands
+  one_rewrite_to : (ds : Items) (a b : Answered) → IsRewriteAnswerTo ds a → IsRewriteAnswerTo ds b → a ≡ b
+  one_rewrite_to no_items a b is was = is ∙ sym was
+  one_rewrite_to (item d no_items) a b is was = is ∙ sym was
+  one_rewrite_to (item d (item patch no_items)) a b is was = one_rewrite d patch a b is was
+  one_rewrite_to (item d (item patch (item e ds))) a b is was = is ∙ sym was
 
-one_answer_to : (command : Command) (ds : Items) (a b : Answered) → AreDocuments ds → IsAnswerTo command ds a → IsAnswerTo command ds b → a ≡ b
-one_answer_to (Get pointer) ds a b good is was = is ∙ sym was
-one_answer_to Patch ds a b good is was = one_patch_to ds a b good is was
-one_answer_to Merge ds a b good is was = is ∙ sym was
-one_answer_to Join ds a b good is was = one_join_answer (list_of ds) a b is was
-one_answer_to Replay ds a b good is was = one_replay_to ds a b is was
-one_answer_to Rewrite ds a b good is was = one_rewrite_to ds a b is was
+  -- ---- `get`
 
-one_checked : (command : Command) (r : Result Items DocsFault) (a b : Answered) → ((ds : Items) → r ≡ Ok ds → AreDocuments ds) → IsChecked command r a → IsChecked command r b → a ≡ b
-one_checked command (Err fault) a b good is was = is ∙ sym was
-one_checked command (Ok ds) a b good is was = one_answer_to command ds a b (good ds refl) is was
+  one_part : (d : Document) (pointer : List ℕ) (a b : Answered) → IsPartAnswer d pointer a → IsPartAnswer d pointer b → a ≡ b
+  one_part d pointer a b (spelled t one is) (spelled u two was) = is ∙ ap (λ tokens. part_line (part d tokens)) (pointers.one_spelling t u (sym one ∙ two)) ∙ sym was
+  one_part d pointer a b (spelled t one is) (misspelled fault memory two was) = absurd (memory (pointers.spelling_unfaulty t fault (subst (IsFaultOf fault) one two)))
+  one_part d pointer a b (misspelled fault memory one is) (spelled u two was) = absurd (memory (pointers.spelling_unfaulty u fault (subst (IsFaultOf fault) two one)))
+  one_part d pointer a b (misspelled fault memory one is) (misspelled other also two was) = is ∙ ap spelling_fault (pointers.one_fault pointer fault other memory also one two) ∙ sym was
 
-pub one_answer : HasOneAnswer
-unfolding IsAnswered
-one_answer command input a b is was = one_checked command (documents_in input) a b (AreDocuments-documents_in input) is was
+  one_get_to : (pointer : List ℕ) (ds : Items) (a b : Answered) → IsGetAnswerTo pointer ds a → IsGetAnswerTo pointer ds b → a ≡ b
+  one_get_to pointer no_items a b is was = is ∙ sym was
+  one_get_to pointer (item d no_items) a b is was = one_part d pointer a b is was
+  one_get_to pointer (item d (item e ds)) a b is was = is ∙ sym was
+
+  -- ---- all commands
+
+  one_answer_to : (command : Command) (ds : Items) (a b : Answered) → All IsReadable (list_of ds) → IsAnswerTo command ds a → IsAnswerTo command ds b → a ≡ b
+  one_answer_to (Get pointer) ds a b can is was = one_get_to (string_bytes pointer) ds a b is was
+  one_answer_to Patch ds a b can is was = one_patch_to ds a b (are_documents ds can) is was
+  one_answer_to Merge ds a b can is was = is ∙ sym was
+  one_answer_to Join ds a b can is was = one_join_answer (list_of ds) a b (documents_of ds can) is was
+  one_answer_to Replay ds a b can is was = one_replay_to ds a b (documents_of ds can) is was
+  one_answer_to Rewrite ds a b can is was = one_rewrite_to ds a b is was
+
+  one_checked : (command : Command) (r : Result Items DocsFault) (a b : Answered) → ((ds : Items) → r ≡ Ok ds → All IsReadable (list_of ds)) → IsChecked command r a → IsChecked command r b → a ≡ b
+  one_checked command (Err fault) a b can is was = is ∙ sym was
+  one_checked command (Ok ds) a b can is was = one_answer_to command ds a b (can ds refl) is was
+
+  pub one_answer : ReadsReadables → HasOneAnswer
+  unfolding IsAnswered
+  one_answer reads command input a b is was = one_checked command (documents_in input) a b (reads input) is was

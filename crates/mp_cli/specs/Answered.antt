@@ -6,8 +6,9 @@ use Rattle.mp_tree.specs.Text.{documents_in}
 use Rattle.mp_tree.specs.declared.reading.DocsFault.{DocsFault}
 use Rattle.mp_tree.specs.Elements.{list_of}
 use Rattle.mp_pointer.specs.Part.{part}
-use Rattle.mp_pointer.specs.Spelling.{Tokens, tokens_in}
+use Rattle.mp_pointer.specs.Spelling.{Tokens, spell, IsFaultOf}
 use Rattle.mp_pointer.specs.declared.fault.PointerFault.{PointerFault}
+use Rattle.mp_pointer.specs.declared.fault.PointerFault.TheVariants.{OutOfMemory as PointerMemory}
 use Rattle.mp_merge.specs.Application.{in_turn}
 use Rattle.mp_cli.specs.Lines.{Answered, result_line, wrong_shape, input_fault, spelling_fault, part_line, form_fault, run_fault, conflict_line, no_patches}
 use Rattle.mp_merge.specs.Join.{IsJoin}
@@ -16,7 +17,7 @@ use Rattle.mp_merge.specs.Outcome.{IsOutcome}
 use Rattle.mp_merge.specs.Rewriting.{IsRewriting}
 use Rattle.mp_patch.specs.Form.{AreForms, IsFormFault, shapes}
 use Rattle.mp_patch.specs.Operation.{Operation}
-use Rattle.mp_patch.specs.Run.{Runs, IsFaultOf}
+use Rattle.mp_patch.specs.Run.{Runs, IsFaultOf as IsFaultOfRun}
 use Rattle.mp_patch.specs.declared.fault.ApplyFault.{ApplyFault}
 use Rattle.mp_patch.specs.declared.fault.ApplyFault.TheVariants.{OutOfMemory as RunMemory}
 use Rattle.mp_patch.specs.declared.fault.FormFault.{FormFault}
@@ -25,16 +26,20 @@ use Rattle.mp_cli.specs.declared.answers.Answer.{Answer}
 use Rattle.mp_cli.specs.declared.command.Command.{Command}
 use Rattle.mp_cli.specs.declared.command.Command.TheVariants.{Get, Patch, Merge, Join, Replay, Rewrite}
 
+-- ---- `get`
+
 -- the part that the tokens name, or what is wrong with their spelling
-abbrev pub part_answer : Document → Result Tokens PointerFault → Answered
-part_answer d (Ok tokens) = part_line (part d tokens)
-part_answer d (Err fault) = spelling_fault fault
+pub data IsPartAnswer (d : Document) (pointer : List ℕ) (a : Answered) : Type 0 where
+  spelled : (tokens : Tokens) → pointer ≡ spell tokens → a ≡ part_line (part d tokens) → IsPartAnswer d pointer a
+  misspelled : (fault : PointerFault) → fault ≢ PointerMemory → IsFaultOf fault pointer → a ≡ spelling_fault fault
+      → IsPartAnswer d pointer a
 
 -- `get` wants `[document]`
-abbrev pub get_answer : List ℕ → Items → Answered
-get_answer pointer no_items = wrong_shape
-get_answer pointer (item d no_items) = part_answer d (tokens_in pointer)
-get_answer pointer (item d (item e ds)) = wrong_shape
+abbrev pub IsGetAnswerTo : List ℕ → Items → Answered → Type 0
+IsGetAnswerTo pointer (item d no_items) a = IsPartAnswer d pointer a
+IsGetAnswerTo pointer inputs a = a ≡ wrong_shape
+
+-- ---- `merge`
 
 -- `merge` wants `[document, patch, ..]`, also with no patch: each patch is applied in turn, with no check of compatibility
 abbrev pub merge_answer : Items → Answered
@@ -46,7 +51,7 @@ merge_answer (item d ps) = result_line (in_turn d (list_of ps))
 -- where the operations run, the document that they lead to, and else the first that is refused
 pub data IsRunAnswer (d : Document) (operations : List Operation) (a : Answered) : Type 0 where
   ran : (e : Document) → IsDocument e → Runs d operations e → a ≡ result_line e → IsRunAnswer d operations a
-  halted : (fault : ApplyFault) → fault ≢ RunMemory → IsFaultOf fault d operations → a ≡ run_fault fault → IsRunAnswer d operations a
+  halted : (fault : ApplyFault) → fault ≢ RunMemory → IsFaultOfRun fault d operations → a ≡ run_fault fault → IsRunAnswer d operations a
 
 -- the form of all operations is checked before any is applied
 pub data IsPatchAnswer (d patch : Document) (a : Answered) : Type 0 where
@@ -90,7 +95,7 @@ IsRewriteAnswerTo inputs a = a ≡ wrong_shape
 
 -- the command's answer to the elements of the input array
 abbrev pub IsAnswerTo : Command → Items → Answered → Type 0
-IsAnswerTo (Get pointer) inputs a = a ≡ get_answer (string_bytes pointer) inputs
+IsAnswerTo (Get pointer) inputs a = IsGetAnswerTo (string_bytes pointer) inputs a
 IsAnswerTo Patch inputs a = IsPatchAnswerTo inputs a
 IsAnswerTo Merge inputs a = a ≡ merge_answer inputs
 IsAnswerTo Join inputs a = IsJoinAnswer (list_of inputs) a

@@ -2,7 +2,7 @@
 ghost use Rattle.std.specs.Prelude.{map, IfOk};
 ghost use Rattle.mp_tree.specs.View.{document, items};
 ghost use Rattle.mp_patch.specs.View.{operations_of};
-ghost use Rattle.mp_cli.specs.Answered.{IsAnswered, IsJoinAnswer, IsPatchAnswer, IsPatchAnswerTo, IsReplayAnswerTo, IsRewriteAnswer, IsRewriteAnswerTo, IsRunAnswer, answered_by, get_answer, merge_answer};
+ghost use Rattle.mp_cli.specs.Answered.{IsAnswered, IsGetAnswerTo, IsJoinAnswer, IsPatchAnswer, IsPatchAnswerTo, IsReplayAnswerTo, IsRewriteAnswer, IsRewriteAnswerTo, IsRunAnswer, answered_by, merge_answer};
 ghost use Rattle.mp_cli.specs.Private.Answers.{Gives};
 
 use crate::answers::Answer;
@@ -50,7 +50,7 @@ pub fn answer(alloc: Global, command: &Command, input: &[u8]) -> Result<Answer, 
 }
 
 fn get(alloc: Global, pointer: &str, docs: Vec<Doc>) -> Result<Answer, AllocError>
-    ensures { Gives result (get_answer pointer.now (items docs.items)) }
+    ensures { IfOk result (λ a. IsGetAnswerTo pointer.now (items docs.items) (answered_by a)) }
 {
     let Some(doc) = single(docs) else {
         return wrong_shape(alloc);

@@ -1,21 +1,20 @@
 -- What is made of documents that can be read can be read: merged documents, joins, and the values of rewritings.
-use Rattle.std.proofs.Common.{◌≡◌, ◌≢◌, ◌≤◌, ◌+◌, ℕ, ℤ, max, Bool, true, false, cond, List, [], ◌∷◌, ◌++◌, Option, None, Some, IfSome, IsUtf8, map, refl, sym, ap, ◌∙◌, subst, arith}
+use Rattle.std.proofs.Common.{◌≡◌, ◌≢◌, ◌≤◌, ℕ, ℤ, max, List, [], ◌∷◌, ◌++◌, Option, None, Some, IfSome, IsUtf8, map, refl, sym, ◌∙◌, subst, arith}
 use Rattle.std.proofs.lemmas.List.Elements.{All-append, All-cons, All-contains_itself, All-head, All-nil, All-tail, All-weaker}
-use Rattle.std.specs.List.{All, Contains, flat_map}
-use Rattle.mp_tree.specs.Document.{Document, null, flag, whole, string, list, object, Members, no_members, member, find, put, is_name, IsDocument, IsWhole, IsInRange, HasTexts, IsReadable, Throughout, ThroughoutMembers, depth, depth_limit}
-use Rattle.mp_tree.specs.Look.{Path, Look, nothing, an_object, plain, look, look_of, at_name}
+use Rattle.std.specs.List.{All, Contains}
+use Rattle.mp_tree.specs.Document.{Document, null, flag, whole, string, list, object, Members, no_members, member, find, IsWhole, IsReadable, Throughout, ThroughoutMembers, depth}
+use Rattle.mp_tree.specs.Look.{Path, Look, nothing, an_object, plain, look, look_of}
 use Rattle.mp_tree.proofs.Facts.{cases_same, find-here, Throughout-find, Throughout-put, Throughout-without}
 use Rattle.mp_pointer.specs.Laws.{PartsAreReadable, PartsAreShallower}
 use Rattle.mp_pointer.specs.Part.{part}
 use Rattle.mp_patch.specs.Form.{deepest, value_depth}
-use Rattle.mp_patch.specs.Operation.{Operation, add, remove, replace, test}
+use Rattle.mp_patch.specs.Operation.{Operation, test}
 use Rattle.mp_patch.specs.Writable.{AreTexts, IsWritable}
 use Rattle.mp_merge.specs.Application.{depth_of, merge_patch, merge_patch_members, set_or_remove, target_members}
-use Rattle.mp_merge.specs.EditPlace.{Changes, IsEditPlace, sets, clears, enters}
-use Rattle.mp_merge.specs.Join.{IsJoin}
+use Rattle.mp_merge.specs.EditPlace.{Changes, sets, clears, enters}
 use Rattle.mp_merge.specs.Laws.{JoinIsReadable, MergedIsReadable, RewritingIsWritable, RewritingIsNoDeeper}
 use Rattle.mp_merge.specs.Private.Unions.{earlier_or, union, union_members, union_over, union_with}
-use Rattle.mp_merge.specs.Rewriting.{IsRewriting, edit, edit_to, guard_of, guards, part_left}
+use Rattle.mp_merge.specs.Rewriting.{edit, edit_to, guard_of, guards, part_left}
 use Rattle.mp_merge.proofs.Application.ByName.{IsDocument-merge_patch}
 use Rattle.mp_merge.proofs.Application.Depth.{depth-merge_patch}
 use Rattle.mp_merge.proofs.Joins.Laws.{compatible_from_join, empty_has_no_join, join_from_compatible, one_join}

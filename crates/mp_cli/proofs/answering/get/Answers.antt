@@ -1,8 +1,19 @@
-use Rattle.std.proofs.Common.{sym, subst}
-use Rattle.mp_cli.specs.Lines.{Answered}
-use Rattle.mp_cli.specs.Private.Answers.{Gives}
-use Rattle.mp_cli.proofs.AnswerCases.{no_single}
+use Rattle.std.proofs.Common.{◌∙◌, ap}
+use Rattle.std.proofs.lemmas.Result.{IfOk-weaker}
+use Rattle.mp_cli.specs.Answered.{spelled, misspelled}
+use Rattle.mp_cli.specs.Lines.{part_line}
+use Rattle.mp_cli.proofs.AnswerCases.{if_both, no_single, single_part}
 use Rattle.mp_cli.proofs.answering.get.Goals as goal
 
 pub returns-in_default : goal.returns-in_default
-returns-in_default c = subst (λ (a : Answered). Gives c.wrong_shape.result a) (sym (no_single c.args.pointer.now c.args.docs.items c.in_default.ensures)) c.wrong_shape.ensures
+returns-in_default c = IfOk-weaker c.wrong_shape.result _ _ (λ a is. no_single c.args.pointer.now c.args.docs.items _ c.in_default.ensures is) c.wrong_shape.ensures
+
+pub returns-in-Ok : goal.returns-in-Ok
+returns-in-Ok c =
+    IfOk-weaker c.part.result _ _ (λ a is. single_part c.args.pointer.now c.args.docs.items c.in-Some.doc _ c.in-Some.ensures
+    (spelled c.in-Ok.pointer c.in-Ok.ensures.spelled (is ∙ ap part_line c.get.ensures))) c.part.ensures
+
+pub returns : goal.returns
+returns c =
+    if_both c.fault_in_spelling.result _ _ _ c.fault_in_spelling.ensures.line c.fault_in_spelling.ensures.fault
+    (λ a is memory. single_part c.args.pointer.now c.args.docs.items c.in-Some.doc _ c.in-Some.ensures (misspelled c.in-Err.fault memory c.in-Err.ensures.fault is))

@@ -7,4 +7,4 @@ use Rattle.mp_cli.proofs.answering.rewrite_patch.Goals as goal
 
 pub returns : goal.returns
 returns c =
-    IfOk-weaker c.result_line.result _ _ (λ a is. rewritten (operations_of c.in_ok-edits.edits) c.in_ok-edits.ensures.rewriting (is ∙ ap (λ t. line t 0) c.in_ok-write_patch.ensures)) c.result_line.ensures
+    IfOk-weaker c.result_line.result _ _ (λ a is. rewritten (operations_of c.in_ok-edits.edits) c.in_ok-edits.ensures.rewriting (is ∙ ap (λ t. line t 0) c.in_ok-write_patch.ensures.text)) c.result_line.ensures

@@ -1,5 +1,5 @@
 -- Contracts, words of specs/ and the laws that the body names: nothing else is cited but lists of the standard library.
-use Rattle.std.proofs.Common.{◌≡◌, List, [], map, Some, Ok, Err, Result, IfErr, IsErrAnd, MatchResult, inl, inr, refl, sym, ap, ◌∙◌, subst, rules}
+use Rattle.std.proofs.Common.{◌≡◌, List, map, Some, Ok, Err, Result, IfErr, IsErrAnd, MatchResult, inl, inr, refl, sym, ap, ◌∙◌, subst}
 use Rattle.std.proofs.lemmas.Result.{MatchResult-at_ok}
 use Rattle.std.proofs.lemmas.List.Elements.{All-contains_itself, All-map, All-weaker}
 use Rattle.std.specs.List.{All, Contains}
@@ -13,7 +13,7 @@ use Rattle.mp_patch.specs.declared.fault.ApplyFault.{ApplyFault}
 use Rattle.mp_patch.specs.declared.fault.ApplyFault.TheVariants.{Refused}
 use Rattle.mp_patch.specs.declared.fault.ApplyFault.TheVariants.{OutOfMemory as NoMemoryToApply}
 use Rattle.mp_merge.specs.Application.{merge_patch}
-use Rattle.mp_merge.specs.Converged.{IsConverged, IsConvergeFault}
+use Rattle.mp_merge.specs.Converged.{IsConvergeFault}
 use Rattle.mp_merge.specs.Convergence.{Converge, LeadsTo, ReachesEnd, ReplicasConverge}
 use Rattle.mp_merge.specs.Faults.{told_of_list, told_of_patch}
 use Rattle.mp_merge.specs.Join.{IsJoin}

@@ -1,0 +1,34 @@
+-- What the elements of an input are, and what the laws of the crates below say of a list of patches.
+use Rattle.std.proofs.Common.{◌≡◌, ◌≢◌, ℕ, List, [], ◌∷◌, sym, subst}
+use Rattle.std.proofs.lemmas.List.Elements.{All-contains, All-head, All-nil, All-tail, All-weaker}
+use Rattle.std.specs.List.{All, Contains}
+use Rattle.mp_tree.specs.Document.{Document, Items, no_items, item, IsDocument, IsReadable, AreDocuments}
+use Rattle.mp_tree.specs.Elements.{list_of}
+use Rattle.mp_tree.specs.Look.{Path}
+use Rattle.mp_merge.specs.Join.{IsJoin}
+use Rattle.mp_merge.specs.Lists.{IsToldPair, PairwiseCompatible}
+use Rattle.mp_merge.specs.Outcome.{IsOutcome}
+use Rattle.mp_cli.specs.Private.LawsBelow.{MergeLaws}
+
+-- each element is a document
+pub documents_of : (ds : Items) → All IsReadable (list_of ds) → All IsDocument (list_of ds)
+documents_of ds can = All-weaker IsReadable IsDocument (λ d is. is.is_document) (list_of ds) can
+
+pub are_documents : (ds : Items) → All IsReadable (list_of ds) → AreDocuments ds
+are_documents no_items can = tt
+are_documents (item d ds) can = ((All-head IsReadable d (list_of ds) can).is_document, are_documents ds (All-tail IsReadable d (list_of ds) can))
+
+module _ (laws : MergeLaws) where
+  pub join_is_of_some : (patches : List Document) (j : Document) → IsJoin patches j → patches ≢ []
+  join_is_of_some patches j joined none = laws.none_has_no_join j (subst (λ (ps : List Document). IsJoin ps j) none joined)
+
+  pub joined_are_compatible : (patches : List Document) (j : Document) → All IsDocument patches → IsDocument j → IsJoin patches j → PairwiseCompatible patches
+  joined_are_compatible patches j all good joined = (laws.join_exists patches (join_is_of_some patches j joined) all).0 (j, good, joined)
+
+  pub replayed_are_compatible : (d : Document) (patches : List Document) (e : Document) → IsDocument d → All IsDocument patches → IsDocument e → IsOutcome d patches e → PairwiseCompatible patches
+  replayed_are_compatible d patches e start all good outcome = (laws.outcome_exists d patches start all).0 (e, good, outcome)
+
+  pub told_are_some : (patches : List Document) (first second : ℕ) (places : List Path) → IsToldPair patches first second places → patches ≢ []
+  told_are_some patches first second places told none =
+      laws.told_is_incompatible patches first second places told
+      (subst (λ (ps : List Document). PairwiseCompatible ps) (sym none) (λ p q at there. absurd (All-contains (λ r. ⊥) [] p (All-nil (λ r. ⊥)) at)))
