@@ -19,11 +19,8 @@ Runs d (o ∷ rest) e = ¬ IsRefused d o × (m : Document) × Step d o m × Runs
 -- the first k operations lead to a document at which operation k is refused, with that cause
 abbrev pub RefusedAt : Document → List Operation → ℕ → Cause → Type 0
 RefusedAt d operations k cause =
-    (m : Document)
-    × Runs d (take k operations) m
-    × (o : Operation)
-    × (slice_get operations k ≡ Some o)
-    × RefusedBy m o cause
+    (m : Document) × Runs d (take k operations) m
+    × (o : Operation) × (slice_get operations k ≡ Some o) × RefusedBy m o cause
 
 -- why there is no result; want of memory says nothing of the patch
 abbrev pub IsFaultOf : ApplyFault → Document → List Operation → Type 0

@@ -18,7 +18,7 @@ use Rattle.mp_tree.specs.Document.{Document, Items, no_items, item, list}
 use Rattle.mp_tree.specs.View.{document}
 use Rattle.mp_tree.specs.declared.doc.Doc.{Doc}
 use Rattle.mp_pointer.specs.Bytes.{digit_zero, digit_one}
-use Rattle.mp_pointer.specs.Laws.{NamesElements, NamesNothingElse}
+use Rattle.mp_pointer.specs.Laws.{NamesElements, NamesNothingElse, NumeralsArePrinted}
 use Rattle.mp_pointer.specs.Part.{numeral, element_from, child}
 use Rattle.mp_tree.specs.Elements.{count_of, nth}
 use Rattle.mp_tree.proofs.Facts.{nth_past}
@@ -26,7 +26,7 @@ use Rattle.mp_tree.proofs.Facts.{nth_past}
 abbrev digit_nine : ℕ
 digit_nine = 57
 
-pub numeral-decimal : (n : ℕ) → n < 2 ^ 64 → numeral n ≡ decimal n
+pub numeral-decimal : NumeralsArePrinted
 unfolding numeral
 numeral-decimal zero small = sym (decimal_digit 0 (omega arith))
 numeral-decimal (suc n) small = sym (decimal-digits_of (suc n) (omega arith) small)

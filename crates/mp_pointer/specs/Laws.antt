@@ -1,5 +1,6 @@
 -- Laws of pointers alone. Each is the contract of a function of the module `laws` that runs nothing.
-use Rattle.std.specs.Prelude.{◌≡◌, ◌≢◌, ◌≤◌, ◌+◌, ◌⊎◌, ◌↔◌, ℕ, List, length, None, Some, IsTrue, IsUtf8}
+use Rattle.std.specs.Prelude.{◌≡◌, ◌≢◌, ◌<◌, ◌≤◌, ◌+◌, ◌^◌, ◌⊎◌, ◌↔◌, ℕ, List, length, None, Some, IsTrue, IsUtf8}
+use Rattle.std.specs.Fmt.{decimal}
 use Rattle.std.specs.List.{All}
 use Rattle.mp_tree.specs.Document.{Document, IsDocument, IsReadable, Items, list, depth}
 use Rattle.mp_pointer.specs.Difference.{DifferOnlyAt}
@@ -34,6 +35,10 @@ HasOneFault = (text : List ℕ) (fault other : PointerFault) → fault ≢ OutOf
 -- a token spells one index (RFC 6901 section 4)
 abbrev pub SpellsOneIndex : Type 0
 SpellsOneIndex = (i k : ℕ) → numeral i ≡ numeral k → i ≡ k
+
+-- and that of an index is the number as it is printed
+abbrev pub NumeralsArePrinted : Type 0
+NumeralsArePrinted = (i : ℕ) → i < 2 ^ 64 → numeral i ≡ decimal i
 
 -- in a list, the token that spells an index names the element at that place,
 -- and from the list's length on nothing (RFC 6901 section 4)

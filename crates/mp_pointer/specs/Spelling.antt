@@ -44,8 +44,7 @@ LacksSlash text = (text ≢ []) × (slice_index text 0 ≢ slash)
 abbrev pub IsBadTilde : List ℕ → ℕ → Type 0
 IsBadTilde text offset =
     (slice_index text offset ≡ tilde)
-    × (slice_index text (offset + 1) ≢ digit_zero)
-    × (slice_index text (offset + 1) ≢ digit_one)
+    × (slice_index text (offset + 1) ≢ digit_zero) × (slice_index text (offset + 1) ≢ digit_one)
 
 pub record IsFirstBadTilde (text : List ℕ) (offset : ℕ) : Type 0 where
   pub here : IsBadTilde text offset

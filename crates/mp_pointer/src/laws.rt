@@ -1,5 +1,5 @@
 //! Laws of pointers alone: each function runs nothing, and its contract is the law.
-ghost use Rattle.mp_pointer.specs.Laws.{PartsAreReadable, SpellingsAreTexts, ComparesTokens, EqualsByPart, HasOneFault, HasOneSpelling, NamesElements, NamesNothingElse, PartsAreDocuments, PartsAreShallower, SpellingsHaveNoFault, SpellsOneIndex, SpellsOrIsFaulty};
+ghost use Rattle.mp_pointer.specs.Laws.{ComparesTokens, EqualsByPart, HasOneFault, HasOneSpelling, NamesElements, NamesNothingElse, NumeralsArePrinted, PartsAreDocuments, PartsAreReadable, PartsAreShallower, SpellingsAreTexts, SpellingsHaveNoFault, SpellsOneIndex, SpellsOrIsFaulty};
 
 /// `==` of pointers is equality of their tokens.
 pub fn equal_tokens()
@@ -29,6 +29,11 @@ pub fn one_fault()
 /// A token spells one index at most (RFC 6901 section 4).
 pub fn one_index()
     ensures { SpellsOneIndex }
+{}
+
+/// The token of an index that fits a `usize` is the number as `Display` prints it.
+pub fn numerals_are_printed()
+    ensures { NumeralsArePrinted }
 {}
 
 /// In a list, the token that spells an index names the element at that place, and nothing where there is none

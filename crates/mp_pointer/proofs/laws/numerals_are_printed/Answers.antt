@@ -1,0 +1,5 @@
+use Rattle.mp_pointer.proofs.Indices.{numeral-decimal}
+use Rattle.mp_pointer.proofs.laws.numerals_are_printed.Goals as goal
+
+pub returns : goal.returns
+returns c = numeral-decimal
