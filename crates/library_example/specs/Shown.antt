@@ -24,10 +24,12 @@ pub record IsShown (start patches shown : List ℕ) : Type 0 where
   pub outcome : IsOutcome d ps e
   pub text : shown ≡ compact e
 
--- the first fault: of the start, of the patches, or the least pair of them that clash
+-- the first fault: of the start; of the patches, where the start was read; or, where both were, the least pair of
+-- patches that clash
 abbrev pub IsNotShown : ShowFault → List ℕ → List ℕ → Type 0
 IsNotShown (Start fault) start patches = fault ≢ read.OutOfMemory → document_in start ≡ Err fault
-IsNotShown (Patches fault) start patches = fault ≢ docs.OutOfMemory → documents_in patches ≡ Err fault
+IsNotShown (Patches fault) start patches =
+    (d : Document) × (document_in start ≡ Ok d) × (fault ≢ docs.OutOfMemory → documents_in patches ≡ Err fault)
 IsNotShown (Replay fault) start patches =
     (d : Document) × (ps : List Document) × AreRead start patches d ps × IsReplayFault fault ps
 IsNotShown OutOfMemory start patches = ⊤

@@ -8,5 +8,5 @@ mod replica;
 mod tests;
 
 pub use fault::ShowFault;
-pub use receiving::{Envelope, Received, Replica};
+pub use receiving::{Envelope, Received, Replica, shown_after};
 pub use replica::{at, for_a_peer, show};

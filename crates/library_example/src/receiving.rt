@@ -1,10 +1,13 @@
 //! What a replica does with each patch as it comes: it keeps the join of those of its start.
-ghost use Rattle.std.specs.Prelude.{◌≡◌, ◌<◌, Some, Ok, IfOk, IfErr, OnErr, MatchOption};
+ghost use Rattle.std.specs.Prelude.{◌≡◌, ◌≢◌, ◌<◌, List, [], Some, Ok, IfOk, IfErr, OnErr, MatchOption, option_map};
+ghost use Rattle.mp_tree.specs.Document.{Document};
 ghost use Rattle.mp_tree.specs.View.{document};
 ghost use Rattle.mp_merge.specs.Application.{merge_patch};
-ghost use Rattle.library_example.specs.Received.{GrowsBy, IsRefusedBy};
+ghost use Rattle.mp_merge.specs.Lists.{PairwiseCompatible};
+ghost use Rattle.mp_merge.specs.Outcome.{IsOutcome};
+ghost use Rattle.library_example.specs.Received.{GrowsBy, HasReceived, IsClashWith, IsRefusedBy, Receives, epoch_of, joined_of, patches_of, start_of};
 
-use mp_merge::{JoinFault, join, merge};
+use mp_merge::{JoinFault, join, laws, merge};
 use mp_tree::Doc;
 use std::alloc::{AllocError, Global};
 
@@ -18,9 +21,9 @@ pub struct Envelope {
 /// A start and its number, and the join of the patches that came for it, if any did.
 #[derive(Drop)]
 pub struct Replica {
-    pub epoch: u64,
-    pub start: Doc,
-    pub joined: Option<Doc>,
+    epoch: u64,
+    start: Doc,
+    joined: Option<Doc>,
 }
 
 /// What becomes of an envelope.
@@ -35,21 +38,41 @@ pub enum Received {
 }
 
 impl Replica {
+    /// A replica that begins with this start, and has received nothing.
+    pub fn new(epoch: u64, start: Doc) -> Replica
+        ensures start { start_of result ≡ start }
+        ensures epoch { epoch_of result ≡ epoch }
+        ensures received { HasReceived result [] }
+    {
+        Replica {
+            epoch,
+            start,
+            joined: None,
+        }
+    }
+
     /// Joins a patch of this start to those that came before; or tells where it clashes with them.
     pub fn receive(&mut self, alloc: Global, envelope: &Envelope) -> Result<Received, JoinFault>
-        ensures joined { envelope.now.epoch ≡ self.old.epoch → IfOk result (λ what.
+        ensures received { envelope.now.epoch ≡ epoch_of self.old → IfOk result (λ what.
             (what ≡ Received.Joined)
-            × GrowsBy (document envelope.now.patch) self.old.joined self.new.joined) }
-        ensures start { self.new.start ≡ self.old.start }
-        ensures epoch { self.new.epoch ≡ self.old.epoch }
-        ensures late { envelope.now.epoch < self.old.epoch
+            × Receives self.old (document envelope.now.patch) self.new) }
+        ensures joined { envelope.now.epoch ≡ epoch_of self.old → IfOk result (λ what.
+            GrowsBy (document envelope.now.patch) (joined_of self.old) (joined_of self.new)) }
+        ensures start { start_of self.new ≡ start_of self.old }
+        ensures epoch { epoch_of self.new ≡ epoch_of self.old }
+        ensures late { envelope.now.epoch < epoch_of self.old
             → (result ≡ Ok Received.Late) × (self.new ≡ self.old) }
-        ensures early { self.old.epoch < envelope.now.epoch
+        ensures early { epoch_of self.old < envelope.now.epoch
             → (result ≡ Ok Received.Early) × (self.new ≡ self.old) }
+        ensures clashes { IfErr result (λ fault. (received : List Document)
+            → HasReceived self.old received
+            → IsClashWith fault received (document envelope.now.patch)) }
         ensures refused { IfErr result (λ fault.
-            IsRefusedBy fault self.old.joined (document envelope.now.patch)) }
+            IsRefusedBy fault (joined_of self.old) (document envelope.now.patch)) }
         ensures unchanged { OnErr result (self.new ≡ self.old) }
     {
+        laws::join_grows();
+        laws::clash_with_a_join();
         if envelope.epoch < self.epoch {
             return Ok(Received::Late);
         }
@@ -64,15 +87,48 @@ impl Replica {
         Ok(Received::Joined)
     }
 
-    /// The document that the replica shows.
-    pub fn current_doc(&self, alloc: Global) -> Result<Doc, AllocError>
-        ensures { IfOk result (λ shown. MatchOption self.now.joined
-            (document shown ≡ document self.now.start)
-            (λ j. document shown ≡ merge_patch (Some (document self.now.start)) (document j))) }
+    /// The join of what it has received, which can be sent in place of that; none where nothing came.
+    pub fn joined(&self) -> Option<&Doc>
+        ensures { option_map (λ j. j.now) result ≡ joined_of self.now }
     {
+        self.joined.as_ref()
+    }
+
+    /// The document that the replica shows: the outcome of its start and all that it has received.
+    pub fn current_doc(&self, alloc: Global) -> Result<Doc, AllocError>
+        ensures outcome { IfOk result (λ shown. (received : List Document)
+            → HasReceived self.now received
+            → IsOutcome (document (start_of self.now)) received (document shown)) }
+        ensures application { IfOk result (λ shown. MatchOption (joined_of self.now)
+            (document shown ≡ document (start_of self.now))
+            (λ j. document shown
+            ≡ merge_patch (Some (document (start_of self.now))) (document j))) }
+    {
+        mp_tree::laws::docs_are_documents();
+        laws::join_gives_outcome();
         match &self.joined {
             None => self.start.copy(alloc),
             Some(joined) => merge(alloc, Some(&self.start), joined),
         }
     }
+}
+
+/// The document of a replica that began with the start, once these envelopes came, in whatever order and with whatever
+/// repeats; or the first clash.
+pub fn shown_after(
+    alloc: Global,
+    epoch: u64,
+    start: Doc,
+    envelopes: &[Envelope],
+) -> Result<Doc, JoinFault>
+    ensures outcome { IfOk result (λ shown.
+        IsOutcome (document start) (patches_of epoch envelopes.now) (document shown)) }
+    ensures refused { IfErr result (λ fault. fault ≢ JoinFault.OutOfMemory
+        → ¬ PairwiseCompatible (patches_of epoch envelopes.now)) }
+{
+    let mut replica = Replica::new(epoch, start);
+    for envelope in envelopes {
+        replica.receive(alloc, envelope)?;
+    }
+    Ok(replica.current_doc(alloc)?)
 }

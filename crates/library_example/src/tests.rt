@@ -1,5 +1,5 @@
 //! The values of the README and of `docs/REPLICAS.md`.
-use crate::{Envelope, Received, Replica, ShowFault, at, for_a_peer, show};
+use crate::{Envelope, Received, Replica, ShowFault, at, for_a_peer, show, shown_after};
 use mp_merge::{JoinFault, ListFault};
 use mp_tree::{ReadFault, read_doc, read_docs, write_doc};
 use std::process::Abort;
@@ -13,6 +13,9 @@ const HERE: &str = r#"[{"a":{"x":1}},{"a":{"y":null}},{"k":null}]"#;
 const THERE: &str = r#"[{"k":null},{"a":{"y":null}},{"k":null},{"a":{"x":1}}]"#;
 
 const SHOWN: &str = r#"{"a":{"x":1}}"#;
+
+/// The one patch that has the effect of all.
+const JOINED: &str = r#"{"a":{"x":1,"y":null},"k":null}"#;
 
 #[test]
 fn two_orders_make_one_document(rt: HostRuntime) {
@@ -87,11 +90,8 @@ const ENVELOPES: &[(u64, &str, Option<Received>)] = &[
 
 #[test]
 fn a_replica_joins_what_is_of_its_start(rt: HostRuntime) -> Result<(), Fail> {
-    let mut replica = Replica {
-        epoch: 1,
-        start: read_doc(rt.alloc(), START.as_bytes())?,
-        joined: None,
-    };
+    let mut replica = Replica::new(1, read_doc(rt.alloc(), START.as_bytes())?);
+    assert!(rt; replica.joined().is_none());
     assert_eq!(rt;
         write_doc(rt.alloc(), &replica.current_doc(rt.alloc())?)?.as_str(),
         START
@@ -115,5 +115,34 @@ fn a_replica_joins_what_is_of_its_start(rt: HostRuntime) -> Result<(), Fail> {
         write_doc(rt.alloc(), &replica.current_doc(rt.alloc())?)?.as_str(),
         SHOWN
     );
+    let joined = replica.joined();
+    assert!(rt; joined.is_some());
+    if let Some(joined) = joined {
+        assert_eq!(rt; write_doc(rt.alloc(), joined)?.as_str(), JOINED);
+    }
+    Ok(())
+}
+
+#[test]
+fn what_is_shown_after_envelopes(rt: HostRuntime) -> Result<(), Fail> {
+    let mut envelopes = Vec::new(rt.alloc());
+    for (epoch, text, wanted) in ENVELOPES {
+        if wanted.is_some() {
+            envelopes.push(Envelope {
+                epoch: *epoch,
+                patch: read_doc(rt.alloc(), text.as_bytes())?,
+            })?;
+        }
+    }
+    let start = read_doc(rt.alloc(), START.as_bytes())?;
+    let shown = shown_after(rt.alloc(), 1, start, envelopes.as_slice())?;
+    assert_eq!(rt; write_doc(rt.alloc(), &shown)?.as_str(), SHOWN);
+    envelopes.push(Envelope {
+        epoch: 1,
+        patch: read_doc(rt.alloc(), br#"{"a":{"x":2}}"#)?,
+    })?;
+    let start = read_doc(rt.alloc(), START.as_bytes())?;
+    let refused = shown_after(rt.alloc(), 1, start, envelopes.as_slice());
+    assert!(rt; matches!(refused, Err(JoinFault::Conflict(_))));
     Ok(())
 }

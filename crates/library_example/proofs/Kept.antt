@@ -1,0 +1,76 @@
+-- What a replica keeps of the patches that it has received, and what it shows of them.
+use Rattle.std.proofs.Common.{◌≡◌, List, [], ◌∷◌, ◌++◌, Option, None, Some, Result, Ok, Err, IfErr, IsErrAnd, MatchOption, inl, inr, refl, sym, ap, subst, arith}
+use Rattle.std.proofs.lemmas.List.Elements.{Contains-push_cases}
+use Rattle.std.specs.List.{Contains}
+use Rattle.mp_tree.specs.Document.{Document}
+use Rattle.mp_tree.specs.Laws.{DocsAreDocuments}
+use Rattle.mp_tree.specs.Look.{Path, look}
+use Rattle.mp_tree.specs.View.{document}
+use Rattle.mp_tree.specs.declared.doc.Doc.{Doc}
+use Rattle.mp_merge.specs.Application.{merge_patch}
+use Rattle.mp_merge.specs.Clash.{Clash}
+use Rattle.mp_merge.specs.Join.{IsJoin, IsJoinFault}
+use Rattle.mp_merge.specs.Laws.{ClashWithAJoin, JoinGivesOutcome, JoinGrows}
+use Rattle.mp_merge.specs.Outcome.{IsOutcome}
+use Rattle.mp_merge.specs.declared.fault.JoinFault.{JoinFault}
+use Rattle.mp_merge.specs.declared.fault.JoinFault.TheVariants.{Conflict, OutOfMemory}
+use Rattle.library_example.specs.Received.{IsClashWith}
+
+-- what a replica keeps that received these patches
+abbrev pub Keeps : Option Doc → List Document → Type 0
+Keeps joined patches = MatchOption joined (patches ≡ []) (λ kept. IsJoin patches (document kept))
+
+no_element : {X : Type 0} (x : X) → Contains [] x → ⊥
+no_element x at = let below = at.1 in absurd (omega arith)
+
+join_of_one : (p : Document) → IsJoin (p ∷ []) p
+join_of_one p = record {
+  said = λ q at w has. ap (λ d. look d w) (elim (Contains-push_cases [] p q at) [ inl none ↦ absurd (no_element q none) | inr same ↦ same ]);
+  silent = λ w none. none p (0, omega arith, refl);
+}
+
+-- the first patch is kept as it is
+pub first_kept : (patch : Document) (before : Option Doc) (now : Doc) → before ≡ None → document now ≡ patch
+    → (received : List Document) → Keeps before received → IsJoin (received ++ patch ∷ []) (document now)
+first_kept patch before now none is received held =
+    let empty : received ≡ [] = subst (λ o. Keeps o received) none held in
+    rw (empty, is) (join_of_one patch)
+
+-- and each further one is joined to what was kept
+pub next_kept : JoinGrows → (patch : Document) (before : Option Doc) (kept now : Doc) → before ≡ Some kept → IsJoin (document kept ∷ patch ∷ []) (document now)
+    → (received : List Document) → Keeps before received → IsJoin (received ++ patch ∷ []) (document now)
+next_kept grows patch before kept now some joined received held =
+    let was : IsJoin received (document kept) = subst (λ o. Keeps o received) some held in
+    (grows received patch (document kept) (document now) was).1 joined
+
+-- ---- what is refused
+
+turned : {p q : Document} {w : Path} → Clash p q w → Clash q p w
+turned clash = record { first = clash.second; second = clash.first; differ = λ same. clash.differ (sym same) }
+
+pub told_clashes : ClashWithAJoin → (fault : JoinFault) (kept : Doc) (patch : Document) → IsJoinFault fault (document kept) patch
+    → (before : Option Doc) → before ≡ Some kept → (received : List Document) → Keeps before received → IsClashWith fault received patch
+told_clashes law (Conflict places) kept patch is before some received held =
+    let joined : IsJoin received (document kept) = subst (λ o. Keeps o received) some held in
+    record {
+      some = is.some;
+      rising = is.clashes.rising;
+      all = λ w. (
+        λ at. (law received (document kept) patch w joined).0 (turned ((is.clashes.all w).0 at)),
+        λ clash. (is.clashes.all w).1 (turned ((law received (document kept) patch w joined).1 clash)),
+      );
+    }
+told_clashes law OutOfMemory kept patch is before some received held = tt
+
+-- what a `?` hands on
+pub handed_on : {A : Type 0} {told : JoinFault} (P : JoinFault → Type 0) (r : Result A JoinFault) → IsErrAnd r (λ fault. fault ≡ told) → P told → IfErr r P
+handed_on P (Ok done) exit is = tt
+handed_on P (Err fault) exit is = subst P (sym exit) is
+
+-- ---- what is shown
+
+pub shows_outcome : DocsAreDocuments → JoinGivesOutcome → (start kept : Doc) (shown : Document) → shown ≡ merge_patch (Some (document start)) (document kept)
+    → (before : Option Doc) → before ≡ Some kept → (received : List Document) → Keeps before received → IsOutcome (document start) received shown
+shows_outcome docs law start kept shown is before some received held =
+    let joined : IsJoin received (document kept) = subst (λ o. Keeps o received) some held in
+    rw is (law (document start) received (document kept) (docs start).0 (docs kept).0 joined)
