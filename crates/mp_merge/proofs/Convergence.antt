@@ -4,17 +4,17 @@ use Rattle.std.proofs.lemmas.List.Elements.{All-contains, All-contains_itself, A
 use Rattle.std.specs.List.{All, Contains}
 use Rattle.mp_tree.specs.Document.{Document, IsDocument, depth, depth_limit}
 use Rattle.mp_patch.specs.Operation.{Operation}
-use Rattle.mp_patch.proofs.Facts.{has_one_end, runs_unrefused}
+use Rattle.mp_patch.specs.Laws.{HasOneEnd, RunsUnrefused}
 use Rattle.mp_merge.specs.Application.{merge_patch, in_turn}
 use Rattle.mp_merge.specs.Convergence.{Converge, LeadsTo, ReachesEnd, ReplicasConverge}
 use Rattle.mp_merge.specs.Join.{IsJoin}
+use Rattle.mp_merge.specs.Laws.{RewritingRuns}
 use Rattle.mp_merge.specs.Lists.{HaveSameMembers}
 use Rattle.mp_merge.specs.Lists.{PairwiseCompatible, AreWithin, IsJoinAllFault, IsReplayFault}
 use Rattle.mp_merge.specs.Outcome.{IsOutcome}
 use Rattle.mp_merge.specs.Rewriting.{IsRewriting}
 use Rattle.mp_merge.specs.declared.fault.ListFault.{ListFault}
 use Rattle.mp_merge.specs.declared.fault.ListFault.TheVariants.{NoPatches, ConflictOf, OutOfMemory}
-use Rattle.mp_merge.proofs.Rewritings.AnyOrder.{rewriting_runs}
 use Rattle.mp_merge.proofs.Application.ByName.{IsDocument-merge_patch}
 use Rattle.mp_merge.proofs.Collections.Elements.{Contains-nil, Contains-head}
 use Rattle.mp_merge.proofs.Application.InTurn.{IsDocument-in_turn, applied_in_turn}
@@ -23,7 +23,13 @@ use Rattle.mp_merge.proofs.Outcome.{one_outcome, join_gives_outcome}
 use Rattle.mp_merge.proofs.Rewritings.Existence.{rewriting_exists, rewriting_has_documents}
 use Rattle.mp_merge.proofs.Clashes.ToldPair.{compatible_have_none}
 
-module _ (start : Document) (patches : List Document) (good : IsDocument start) (some : patches ≢ []) (all : All IsDocument patches) (free : PairwiseCompatible patches) (j : Document) (patch : IsDocument j)
+-- the laws of runs that the proof rests on
+pub record RunLaws : Type 0 where
+  pub rewriting_runs : RewritingRuns
+  pub one_end : HasOneEnd
+  pub unrefused : RunsUnrefused
+
+module _ (laws : RunLaws) (start : Document) (patches : List Document) (good : IsDocument start) (some : patches ≢ []) (all : All IsDocument patches) (free : PairwiseCompatible patches) (j : Document) (patch : IsDocument j)
     (joined : IsJoin patches j) where
   abbrev end : Document
   end = merge_patch (Some start) j
@@ -75,12 +81,12 @@ module _ (start : Document) (patches : List Document) (good : IsDocument start) 
 
   leads : (operations : List Operation) → IsRewriting start j operations → depth j ≤ depth_limit → LeadsTo start end operations
   leads operations rewritten shallow =
-      let runs = rewriting_runs start j operations good patch shallow rewritten in
+      let runs = laws.rewriting_runs start j operations good patch shallow rewritten in
       let values = rewriting_has_documents start j operations good patch rewritten in
       record {
         runs = runs;
-        unrefused = λ k cause. runs_unrefused start end operations k cause good values runs;
-        alone = λ e also. has_one_end start e end operations good values also runs;
+        unrefused = λ k cause. laws.unrefused start end operations k cause good values runs;
+        alone = λ e also. laws.one_end start e end operations good values also runs;
       }
 
   converge : Converge start patches
@@ -98,7 +104,7 @@ module _ (start : Document) (patches : List Document) (good : IsDocument start) 
         leads = λ within. leads edits.0 edits.1 (no_deeper depth_limit within);
       }
 
-pub replicas_converge : ReplicasConverge
-replicas_converge start patches good some all free =
+pub replicas_converge : RunLaws → ReplicasConverge
+replicas_converge laws start patches good some all free =
     let found = (join_exists patches some all).1 free in
-    converge start patches good some all free found.0 found.1 found.2
+    converge laws start patches good some all free found.0 found.1 found.2

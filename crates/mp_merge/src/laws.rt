@@ -183,7 +183,9 @@ pub fn rewritings_are_writable()
 pub fn guards_tell()
     ensures passed { GuardedList }
     ensures refused { RefusedGuardTells }
-{}
+{
+    mp_patch::laws::operations_are_taken();
+}
 
 /// The rewriting has no operation exactly if the patch leaves the document as it is.
 pub fn empty_rewriting()
@@ -194,12 +196,16 @@ pub fn empty_rewriting()
 /// makes of it: no edit is refused, and none undoes another.
 pub fn edits_in_any_order()
     ensures { EditsInAnyOrder }
-{}
+{
+    mp_patch::laws::operations_are_taken();
+}
 
 /// The rewriting of a patch that is at most 126 deep runs from the document to what the patch makes of it.
 pub fn rewriting_runs()
     ensures { RewritingRuns }
-{}
+{
+    mp_patch::laws::operations_are_taken();
+}
 
 /// Replicas that start from one document and receive the same patches, at least one and no two of which clash, in any
 /// orders and with any repeats, are not refused and end with the same document, whether they apply each patch as it
@@ -214,4 +220,8 @@ pub fn replicas_converge()
     ensures associative { JoinIsAssociative }
     ensures idempotent { JoinIsIdempotent }
     ensures refuses { PairHasJoin }
-{}
+{
+    rewriting_runs();
+    mp_patch::laws::one_end();
+    mp_patch::laws::runs_are_not_refused();
+}

@@ -12,6 +12,7 @@ ghost use Rattle.mp_merge.specs.Private.Edits.{IsOneEdit, NotBothMaps, AreEdits,
 ghost use Rattle.mp_merge.specs.Rewriting.{IsRewriting};
 ghost use Rattle.mp_merge.specs.Private.Growth.{Grew};
 
+use crate::laws;
 use crate::merging::{is_null, merge};
 use mp_patch::{JsonPatch, Op};
 use mp_pointer::Pointer;
@@ -45,6 +46,7 @@ pub fn rewrite(alloc: Global, doc: &Doc, patch: &Doc) -> Result<JsonPatch, Alloc
         → Runs (document doc.now) (operations_of ops)
         (merge_patch (Some (document doc.now)) (document patch.now))) }
 {
+    laws::rewriting_runs();
     let mut edits = Vec::new(alloc);
     push_all(patch, doc, &mut edits, alloc)?;
     guards_first(edits, alloc)

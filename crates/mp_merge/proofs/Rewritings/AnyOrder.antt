@@ -6,6 +6,7 @@ use Rattle.mp_tree.specs.Look.{Path, nothing, an_object, look, look_of}
 use Rattle.mp_tree.proofs.Facts.{equal_looks}
 use Rattle.mp_pointer.specs.Part.{part}
 use Rattle.mp_pointer.specs.Spelling.{BeginsWith}
+use Rattle.mp_patch.specs.Laws.{OperationsAreTaken}
 use Rattle.mp_patch.specs.Operation.{Step}
 use Rattle.mp_patch.specs.Run.{IsRefused, Runs}
 use Rattle.mp_merge.specs.Application.{target_members, merge_patch, merge_patch_members, unless_null, after_patch, depth_of}
@@ -110,7 +111,7 @@ some_at_root : (o : Option Document) → part_left [] o ≡ None → o ≡ None
 some_at_root None is = refl
 some_at_root (Some q) is = absurd (cc)
 
-module _ (d p : Document) (good : IsDocument d) (patch : IsDocument p) (shallow : depth p ≤ depth_limit) where
+module _ (takes : OperationsAreTaken) (d p : Document) (good : IsDocument d) (patch : IsDocument p) (shallow : depth p ≤ depth_limit) where
   abbrev end : Document
   end = result d p good patch
 
@@ -171,7 +172,7 @@ module _ (d p : Document) (good : IsDocument d) (patch : IsDocument p) (shallow 
     next = made (with_at w value (Some x))
 
     edit_leads : ¬ IsRefused x (edit d p w) × Step x (edit d p w) next
-    edit_leads = subst (λ l. ¬ IsRefused x (edit_to w l value) × Step x (edit_to w l value) next) now (leaves x w value fits)
+    edit_leads = subst (λ l. ¬ IsRefused x (edit_to w l value) × Step x (edit_to w l value) next) now (leaves takes x w value fits)
 
     next_is : with_at w value (Some x) ≡ Some next
     next_is = made_there w value (Some x) (λ none. (removed none).0)
@@ -241,16 +242,16 @@ module _ (d p : Document) (good : IsDocument d) (patch : IsDocument p) (shallow 
     kept = λ v none. refl;
   }
 
-edits_run : (d p : Document) → IsDocument d → IsDocument p → depth p ≤ depth_limit → (taken : List Path) → HasNoRepeats taken → AreEditPlaces d p taken → Runs d (map (edit d p) taken) (merge_patch (Some d) p)
-edits_run d p good patch shallow taken once all =
-    run_from d p good patch shallow taken [] d (λ u at. absurd (Contains-nil u at)) (λ u at. (all u).0 at) once (λ u at none. Contains-nil u none) (λ u place. inr ((all u).1 place)) (start d p good patch shallow)
+edits_run : OperationsAreTaken → (d p : Document) → IsDocument d → IsDocument p → depth p ≤ depth_limit → (taken : List Path) → HasNoRepeats taken → AreEditPlaces d p taken → Runs d (map (edit d p) taken) (merge_patch (Some d) p)
+edits_run takes d p good patch shallow taken once all =
+    run_from takes d p good patch shallow taken [] d (λ u at. absurd (Contains-nil u at)) (λ u at. (all u).0 at) once (λ u at none. Contains-nil u none) (λ u place. inr ((all u).1 place)) (start takes d p good patch shallow)
 
-pub edits_in_any_order : EditsInAnyOrder
-edits_in_any_order d p operations good patch shallow lists =
-    subst (λ os. Runs d os (merge_patch (Some d) p)) (sym lists.guarded) (guards_run d lists.places (map (edit d p) lists.taken) (merge_patch (Some d) p) (edits_run d p good patch shallow lists.taken lists.once lists.same))
+pub edits_in_any_order : OperationsAreTaken → EditsInAnyOrder
+edits_in_any_order takes d p operations good patch shallow lists =
+    subst (λ os. Runs d os (merge_patch (Some d) p)) (sym lists.guarded) (guards_run takes d lists.places (map (edit d p) lists.taken) (merge_patch (Some d) p) (edits_run takes d p good patch shallow lists.taken lists.once lists.same))
 
-pub rewriting_runs : RewritingRuns
-rewriting_runs d p operations good patch shallow is = edits_in_any_order d p operations good patch shallow (record {
+pub rewriting_runs : OperationsAreTaken → RewritingRuns
+rewriting_runs takes d p operations good patch shallow is = edits_in_any_order takes d p operations good patch shallow (record {
   places = is.places;
   rising = is.rising;
   all = is.all;

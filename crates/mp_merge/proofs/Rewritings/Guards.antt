@@ -7,20 +7,20 @@ use Rattle.mp_pointer.specs.Part.{part}
 use Rattle.mp_patch.specs.Operation.{Operation, test}
 use Rattle.mp_patch.specs.Refusal.{RefusedBy}
 use Rattle.mp_patch.specs.Run.{Runs}
-use Rattle.mp_patch.proofs.Facts.{tests_freely}
+use Rattle.mp_patch.specs.Laws.{OperationsAreTaken}
 use Rattle.mp_merge.specs.Laws.{GuardedList, RefusedGuardTells}
 use Rattle.mp_merge.specs.Rewriting.{edit, guard_of, guards, edit_to, part_left}
 use Rattle.mp_merge.proofs.Collections.Elements.{Contains-nil, Contains-cases}
 
 -- ---- on the document itself
 
-pub guards_run : (d : Document) (places : List Path) (rest : List Operation) (e : Document) → Runs d rest e → Runs d (guards d places ++ rest) e
-guards_run d [] rest e runs = runs
-guards_run d (w ∷ places) rest e runs = by (part d w) refl (guards_run d places rest e runs)
+pub guards_run : OperationsAreTaken → (d : Document) (places : List Path) (rest : List Operation) (e : Document) → Runs d rest e → Runs d (guards d places ++ rest) e
+guards_run taken d [] rest e runs = runs
+guards_run taken d (w ∷ places) rest e runs = by (part d w) refl (guards_run taken d places rest e runs)
   where
     by : (v : Option Document) → part d w ≡ v → Runs d (guards d places ++ rest) e → Runs d ((guard_of w v ++ guards d places) ++ rest) e
     by None is later = later
-    by (Some v) is later = (tests_freely d v w is, d, (is, refl), later)
+    by (Some v) is later = ((taken d).tests w v is, d, (is, refl), later)
 
 -- ---- on any document
 
@@ -75,8 +75,8 @@ guard_at d p x m v u places (w ∷ left) k at runs = by (guard_at d p x m v u pl
         record { stood = ap (part d) (sym place) ∙ here ∙ ap Some value; same = runs }
     by later_guard (Some z) here (suc k) at (free, y, (stands, stays), later) = later_guard k at (subst (λ (t : Document). Runs t (take k (guards d left ++ map (edit d p) places)) m) stays later)
 
-pub refused_guard_tells : RefusedGuardTells
-refused_guard_tells d p x operations k cause u v is (m, runs, o, at, refused) here =
+pub refused_guard_tells : OperationsAreTaken → RefusedGuardTells
+refused_guard_tells taken d p x operations k cause u v is (m, runs, o, at, refused) here =
     let test_is : o ≡ test u v = (let both : Some o ≡ Some (test u v) = sym at ∙ here in cc) in
     let guard = guard_at d p x m v u is.places is.places k (subst (λ os. slice_get os k ≡ Some (test u v)) is.guarded here) (subst (λ os. Runs x (take k os) m) is.guarded runs) in
-    (guard.stood, subst (λ (y : Document). part y u ≢ Some v) guard.same (λ there. tests_freely m v u there (cause, subst (λ (q : Operation). RefusedBy m q cause) test_is refused)), guard.same)
+    (guard.stood, subst (λ (y : Document). part y u ≢ Some v) guard.same (λ there. (taken m).tests u v there (cause, subst (λ (q : Operation). RefusedBy m q cause) test_is refused)), guard.same)

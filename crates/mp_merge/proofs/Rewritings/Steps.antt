@@ -1,5 +1,5 @@
 -- An operation that leaves a value, or nothing, at a place leads to the document with that place set, and is not refused.
-use Rattle.std.proofs.Common.{◌≡◌, ◌≢◌, ◌≤◌, ◌+◌, inr, ℕ, List, [], ◌∷◌, ◌++◌, length, Option, Some, None, IfSome, refl, sym, ap, ◌∙◌, subst, arith, append_assoc}
+use Rattle.std.proofs.Common.{◌≡◌, ◌≢◌, ◌≤◌, ◌+◌, inr, ℕ, List, [], ◌∷◌, ◌++◌, length, Option, Some, None, IfSome, refl, sym, ap, ◌∙◌, subst, append_assoc}
 use Rattle.mp_tree.specs.Document.{Document, null, flag, whole, string, list, object, Members, find, IsDocument, depth, depth_limit}
 use Rattle.mp_tree.specs.Look.{Path, Look, nothing, an_object, plain, look, look_of}
 use Rattle.mp_tree.proofs.Facts.{is_here, some_part}
@@ -7,7 +7,7 @@ use Rattle.mp_pointer.specs.Part.{part}
 use Rattle.mp_patch.specs.Operation.{Operation, add, remove, replace, ChangesContainer, AddsTo, to_map, RemovesFrom, from_map, Step}
 use Rattle.mp_patch.specs.Refusal.{HasNoPlace, LacksPlace}
 use Rattle.mp_patch.specs.Run.{IsRefused}
-use Rattle.mp_patch.proofs.Facts.{unrefused, removes_freely, replaces_freely}
+use Rattle.mp_patch.specs.Laws.{OperationsAreTaken}
 use Rattle.mp_merge.specs.Application.{target_members}
 use Rattle.mp_merge.specs.Rewriting.{edit_to}
 use Rattle.mp_merge.proofs.Rewritings.ChangedPath.{with_name, with_at, at_path-with_at, maps-with_at, made, made_is, differ_at, with_at-push}
@@ -72,8 +72,8 @@ place_there x w maps (s, n, is, lacks) =
     let front = to_maps_above s (Some x) (λ u m rest begins. from_maps_above w (Some x) maps u m (rest ++ n ∷ []) (is ∙ ap (λ r. r ++ n ∷ []) begins ∙ append_assoc u (m ∷ rest) (n ∷ []))) in
     subst (LacksPlace n) (part-at_path s x front ∙ map) lacks
 
-adds_freely : (x : Document) (w : Path) (v : Document) → MapsAbove (Some x) w → length w + depth v ≤ depth_limit → ¬ IsRefused x (add w v)
-adds_freely x w v maps fits = unrefused x (add w v) (place_there x w maps, ((λ deep. omega (arith, deep, fits)), tt))
+adds_freely : OperationsAreTaken → (x : Document) (w : Path) (v : Document) → MapsAbove (Some x) w → length w + depth v ≤ depth_limit → ¬ IsRefused x (add w v)
+adds_freely taken x w v maps fits = (taken x).adds w v (place_there x w maps) fits
 
 abbrev Leads : Document → Operation → Document → Type 0
 Leads x o y = ¬ IsRefused x o × Step x o y
@@ -85,11 +85,11 @@ pub record Fits (x : Document) (w : Path) (v : Option Document) : Type 0 where
   pub within : IfSome v (λ c. length w + depth c ≤ depth_limit)
   pub removed : v ≡ None → (w ≢ []) × (look x w ≢ nothing)
 
-module _ (x : Document) (w : Path) where
+module _ (taken : OperationsAreTaken) (x : Document) (w : Path) where
   adds : (v : Document) → Fits x w (Some v) → look x w ≡ nothing → Leads x (add w v) (made (with_at w (Some v) (Some x)))
   adds v fits none =
       let end = some_last w (λ root. is_here x (ap (look x) (sym root) ∙ none)) in (
-        adds_freely x w v fits.maps fits.within,
+        adds_freely taken x w v fits.maps fits.within,
         inr (subst (λ u. ChangesContainer (AddsTo v) u x (made (with_at u (Some v) (Some x)))) (sym end.2)
             (changes_map x fits.good end.0 end.1 (subst (MapsAbove (Some x)) end.2 fits.maps) (AddsTo v) (Some v) (to_map (holder x fits.good end.0 end.1 (subst (MapsAbove (Some x)) end.2 fits.maps)) refl refl))),
       )
@@ -99,7 +99,7 @@ module _ (x : Document) (w : Path) where
       let z = part_there x fits.good w fits.maps here in
       let y = made (with_at w (Some v) (Some x)) in
       let there = made_is w v (Some x) in (
-        replaces_freely x z.0 w v z.1 fits.within,
+        (taken x).replaces w z.0 v z.1 fits.within,
         (
           (z.0, z.1),
           part-at_path w y (subst (λ o. MapsAbove o w) there (maps-with_at w (Some v) (Some x) fits.good)) ∙ ap (λ o. at_path o w) (sym there) ∙ at_path-with_at w (Some v) (Some x) fits.good,
@@ -114,7 +114,7 @@ module _ (x : Document) (w : Path) where
       let end = some_last w left.0 in
       let maps = subst (MapsAbove (Some x)) end.2 fits.maps in
       let found : find end.1 (holder x fits.good end.0 end.1 maps) ≡ Some z.0 = sym (at_path-push end.0 end.1 (Some x)) ∙ ap (at_path (Some x)) (sym end.2) ∙ z.2 in (
-        removes_freely x z.0 w z.1 left.0,
+        (taken x).removes w z.0 z.1 left.0,
         subst (λ u. ChangesContainer RemovesFrom u x (made (with_at u None (Some x)))) (sym end.2)
             (changes_map x fits.good end.0 end.1 maps RemovesFrom None (from_map (holder x fits.good end.0 end.1 maps) z.0 found refl refl)),
       )

@@ -5,4 +5,4 @@ pub returns-clause-passed : goal.returns-clause-passed
 returns-clause-passed c = guarded_list
 
 pub returns-clause-refused : goal.returns-clause-refused
-returns-clause-refused c = refused_guard_tells
+returns-clause-refused c = refused_guard_tells c.operations_are_taken.ensures

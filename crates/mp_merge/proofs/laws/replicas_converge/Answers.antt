@@ -3,7 +3,7 @@ use Rattle.mp_merge.proofs.Joins.Laws.{join_is_associative, join_is_commutative,
 use Rattle.mp_merge.proofs.laws.replicas_converge.Goals as goal
 
 pub returns-clause-replicas : goal.returns-clause-replicas
-returns-clause-replicas c = replicas_converge
+returns-clause-replicas c = replicas_converge (record { rewriting_runs = c.rewriting_runs.ensures; one_end = c.one_end.ensures; unrefused = c.runs_are_not_refused.ensures })
 
 pub returns-clause-commutative : goal.returns-clause-commutative
 returns-clause-commutative c = join_is_commutative

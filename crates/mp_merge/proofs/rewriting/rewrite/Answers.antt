@@ -11,7 +11,6 @@ use Rattle.mp_merge.specs.Application.{merge_patch}
 use Rattle.mp_merge.specs.Private.Edits.{AreEdits, GuardedEdit, all_edits}
 use Rattle.mp_merge.specs.Rewriting.{IsRewriting}
 use Rattle.mp_merge.specs.Private.Growth.{Grew}
-use Rattle.mp_merge.proofs.Rewritings.AnyOrder.{rewriting_runs}
 use Rattle.mp_merge.proofs.Rewritings.Computed.{walk_is_rewriting}
 use Rattle.mp_merge.proofs.rewriting.rewrite.Goals as goal
 
@@ -39,6 +38,6 @@ returns-clause-runs c =
     let p = document c.args.patch.now in
     let found = all_edits c.push_all.new.edits.items in
     IfOk-weaker c.guards_first.result (λ ops. operations_of ops ≡ in_order found) (λ ops. depth p ≤ depth_limit → Runs d (operations_of ops) (merge_patch (Some d) p))
-    (λ ops is shallow. rewriting_runs d p (operations_of ops) (IsDocument-document c.args.doc.now) (IsDocument-document c.args.patch.now) shallow
+    (λ ops is shallow. c.rewriting_runs.ensures d p (operations_of ops) (IsDocument-document c.args.doc.now) (IsDocument-document c.args.patch.now) shallow
     (the_rewriting d p _ found (operations_of ops) (IsDocument-document c.args.patch.now) (ap all_edits c.new-edits.ensures.items) c.in_ok-push_all.ensures is))
     c.guards_first.ensures
