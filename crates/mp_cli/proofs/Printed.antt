@@ -1,32 +1,28 @@
 -- What the program prints of lists of patches, and what it answers to what it printed.
-use Rattle.std.proofs.Common.{◌≡◌, ◌≢◌, ◌+◌, ◌≤◌, ℕ, List, [], ◌∷◌, ◌++◌, map, Some, Ok, refl, sym, ap, ap₂, ◌∙◌, subst}
+use Rattle.std.proofs.Common.{◌≡◌, ◌≢◌, ℕ, List, [], ◌∷◌, Some, Ok, refl, sym, ap, ◌∙◌, subst}
 use Rattle.std.proofs.lemmas.List.{append_cancel_right}
 use Rattle.std.proofs.lemmas.List.Elements.{All-cons, All-contains, All-contains_itself, All-head, All-nil, All-tail}
 use Rattle.std.specs.List.{All, Contains}
 use Rattle.mp_tree.specs.Arrays.{IsArrayOf}
-use Rattle.mp_tree.specs.Document.{Document, Items, no_items, item, IsDocument, IsReadable, depth_limit}
-use Rattle.mp_tree.specs.Elements.{items_of, list_of}
+use Rattle.mp_tree.specs.Document.{Document, no_items, item, IsDocument, IsReadable}
+use Rattle.mp_tree.specs.Elements.{list_of}
 use Rattle.mp_tree.specs.Look.{Path}
 use Rattle.mp_tree.specs.Text.{documents_in, text as compact}
-use Rattle.mp_patch.specs.Form.{deepest, shapes}
+use Rattle.mp_patch.specs.Form.{shapes}
 use Rattle.mp_patch.specs.Operation.{HaveDocuments, Operation}
-use Rattle.mp_patch.specs.Run.{Runs, IsFaultOf}
-use Rattle.mp_patch.specs.declared.fault.ApplyFault.{ApplyFault}
+use Rattle.mp_patch.specs.Run.{Runs}
 use Rattle.mp_patch.specs.declared.fault.ApplyFault.TheVariants.{Refused, OutOfMemory}
-use Rattle.mp_merge.specs.Application.{merge_patch, in_turn}
-use Rattle.mp_merge.specs.Clash.{Clash}
+use Rattle.mp_merge.specs.Application.{merge_patch}
 use Rattle.mp_merge.specs.Join.{IsJoin}
 use Rattle.mp_merge.specs.Lists.{HaveSameMembers, IsToldPair, PairwiseCompatible}
 use Rattle.mp_merge.specs.Outcome.{IsOutcome}
-use Rattle.mp_merge.specs.Replicas.{AreReplicas}
 use Rattle.mp_merge.specs.Rewriting.{IsRewriting}
 use Rattle.mp_cli.specs.Answered.{IsRunAnswer, ran, halted, IsPatchAnswer, malformed, formed, IsJoinAnswer, joined, none_joined, join_refused, IsReplayAnswer, replayed, replay_refused, IsRewriteAnswer, rewritten, IsChecked, IsAnswered}
 use Rattle.mp_cli.specs.Lines.{Answered, conflict_line, line, no_patches, result_line, status_no_result, status_result}
-use Rattle.mp_cli.specs.Laws.{AreReplicaInputs, ReplicasPrintTheSame, JoinsPrintTheSame, TellsPair, HaveAClash, ClashesAreTold, JoinTellsClashes, JoinPrintedIsRead, RewritingPrintedIsRead}
+use Rattle.mp_cli.specs.Laws.{ReplicasPrintTheSame, JoinsPrintTheSame, TellsPair, HaveAClash, ClashesAreTold, JoinTellsClashes, JoinPrintedIsRead, RewritingPrintedIsRead}
 use Rattle.mp_cli.specs.Private.LawsBelow.{TextLaws, PatchLaws, MergeLaws, RewritingLaws}
-use Rattle.mp_cli.specs.declared.command.Command.{Command}
 use Rattle.mp_cli.specs.declared.command.Command.TheVariants.{Patch, Merge, Join, Replay, Rewrite}
-use Rattle.mp_cli.proofs.ReadInputs.{documents_of, join_is_of_some, joined_are_compatible, replayed_are_compatible}
+use Rattle.mp_cli.proofs.ReadInputs.{documents_of, joined_are_compatible, replayed_are_compatible}
 
 -- ---- lines
 

@@ -7,7 +7,7 @@ use Rattle.std.specs.Io.KnownBytes.{Appends, Consumes, Keeps}
 use Rattle.mp_cli.specs.declared.counted.Counted.{Counted}
 use Rattle.mp_cli.specs.Counted.{device_of, calls_of, failures_of, bytes_of}
 use Rattle.mp_cli.specs.Private.Counts.{CountsBytes, CountsFailure}
-use Rattle.mp_cli.specs.Run.{ReadsBytes, WritesPart}
+use Rattle.mp_cli.specs.Run.{input_limit, ReadsBytes, WritesPart}
 
 -- after `reads` reads, each of which gave a byte, these bytes were read
 pub record ReadSoFar {R : Type 0} (remaining : R → Option (List ℕ)) (old new : Counted R) (reads : ℕ) (bytes : List ℕ) : Type 0 where
@@ -16,7 +16,7 @@ pub record ReadSoFar {R : Type 0} (remaining : R → Option (List ℕ)) (old new
   pub failures : failures_of new ≡ 0
   pub counted : bytes_of new ≡ length bytes
   pub each_gave : reads ≤ length bytes
-  pub short : length bytes ≤ 1_048_576
+  pub short : length bytes ≤ input_limit
 
 -- the bytes of one more read follow those so far
 pub ReadSoFar-read : {R : Type 0} (remaining : R → Option (List ℕ)) (old mid new : Counted R) (reads count : ℕ) (bytes more : List ℕ)

@@ -10,7 +10,8 @@ use Rattle.mp_pointer.specs.Spelling.{Tokens, spell, IsFaultOf}
 use Rattle.mp_pointer.specs.declared.fault.PointerFault.{PointerFault}
 use Rattle.mp_pointer.specs.declared.fault.PointerFault.TheVariants.{OutOfMemory as PointerMemory}
 use Rattle.mp_merge.specs.Application.{in_turn}
-use Rattle.mp_cli.specs.Lines.{Answered, result_line, wrong_shape, input_fault, spelling_fault, part_line, form_fault, run_fault, conflict_line, no_patches}
+use Rattle.mp_cli.specs.Lines.{Answered, result_line, wrong_shape, input_fault, spelling_fault, part_line, form_fault}
+use Rattle.mp_cli.specs.Lines.{run_fault, conflict_line, no_patches}
 use Rattle.mp_merge.specs.Join.{IsJoin}
 use Rattle.mp_merge.specs.Lists.{IsToldPair}
 use Rattle.mp_merge.specs.Outcome.{IsOutcome}
@@ -41,7 +42,8 @@ IsGetAnswerTo pointer inputs a = a ≡ wrong_shape
 
 -- ---- `merge`
 
--- `merge` wants `[document, patch, ..]`, also with no patch: each patch is applied in turn, with no check of compatibility
+-- `merge` wants `[document, patch, ..]`, also with no patch: each patch is applied in turn, with no check of
+-- compatibility
 abbrev pub merge_answer : Items → Answered
 merge_answer no_items = wrong_shape
 merge_answer (item d ps) = result_line (in_turn d (list_of ps))
@@ -51,12 +53,15 @@ merge_answer (item d ps) = result_line (in_turn d (list_of ps))
 -- where the operations run, the document that they lead to, and else the first that is refused
 pub data IsRunAnswer (d : Document) (operations : List Operation) (a : Answered) : Type 0 where
   ran : (e : Document) → IsDocument e → Runs d operations e → a ≡ result_line e → IsRunAnswer d operations a
-  halted : (fault : ApplyFault) → fault ≢ RunMemory → IsFaultOfRun fault d operations → a ≡ run_fault fault → IsRunAnswer d operations a
+  halted : (fault : ApplyFault) → fault ≢ RunMemory → IsFaultOfRun fault d operations → a ≡ run_fault fault
+      → IsRunAnswer d operations a
 
 -- the form of all operations is checked before any is applied
 pub data IsPatchAnswer (d patch : Document) (a : Answered) : Type 0 where
-  malformed : (fault : FormFault) → fault ≢ FormMemory → IsFormFault fault patch → a ≡ form_fault fault → IsPatchAnswer d patch a
-  formed : (operations : List Operation) → AreForms patch operations → IsRunAnswer d operations a → IsPatchAnswer d patch a
+  malformed : (fault : FormFault) → fault ≢ FormMemory → IsFormFault fault patch → a ≡ form_fault fault
+      → IsPatchAnswer d patch a
+  formed : (operations : List Operation) → AreForms patch operations → IsRunAnswer d operations a
+      → IsPatchAnswer d patch a
 
 -- `patch` wants `[document, json patch]`
 abbrev pub IsPatchAnswerTo : Items → Answered → Type 0
@@ -69,12 +74,15 @@ IsPatchAnswerTo inputs a = a ≡ wrong_shape
 pub data IsJoinAnswer (patches : List Document) (a : Answered) : Type 0 where
   joined : (j : Document) → IsDocument j → IsJoin patches j → a ≡ result_line j → IsJoinAnswer patches a
   none_joined : patches ≡ [] → a ≡ no_patches → IsJoinAnswer patches a
-  join_refused : (first second : ℕ) (places : List Path) → IsToldPair patches first second places → a ≡ conflict_line first second places → IsJoinAnswer patches a
+  join_refused : (first second : ℕ) (places : List Path) → IsToldPair patches first second places
+      → a ≡ conflict_line first second places → IsJoinAnswer patches a
 
 -- `replay` wants `[document, patch, ..]`, also with no patch: the outcome, or why there is none
 pub data IsReplayAnswer (start : Document) (patches : List Document) (a : Answered) : Type 0 where
-  replayed : (e : Document) → IsDocument e → IsOutcome start patches e → a ≡ result_line e → IsReplayAnswer start patches a
-  replay_refused : (first second : ℕ) (places : List Path) → IsToldPair patches first second places → a ≡ conflict_line first second places → IsReplayAnswer start patches a
+  replayed : (e : Document) → IsDocument e → IsOutcome start patches e → a ≡ result_line e
+      → IsReplayAnswer start patches a
+  replay_refused : (first second : ℕ) (places : List Path) → IsToldPair patches first second places
+      → a ≡ conflict_line first second places → IsReplayAnswer start patches a
 
 abbrev pub IsReplayAnswerTo : Items → Answered → Type 0
 IsReplayAnswerTo no_items a = a ≡ wrong_shape
@@ -84,7 +92,8 @@ IsReplayAnswerTo (item d ps) a = IsReplayAnswer d (list_of ps) a
 
 -- the JSON Patch that a merge patch is for the document, as its shapes
 pub data IsRewriteAnswer (d patch : Document) (a : Answered) : Type 0 where
-  rewritten : (operations : List Operation) → IsRewriting d patch operations → a ≡ result_line (shapes operations) → IsRewriteAnswer d patch a
+  rewritten : (operations : List Operation) → IsRewriting d patch operations → a ≡ result_line (shapes operations)
+      → IsRewriteAnswer d patch a
 
 -- `rewrite` wants `[document, merge patch]`
 abbrev pub IsRewriteAnswerTo : Items → Answered → Type 0

@@ -1,7 +1,9 @@
 -- The program's command line, in `clap`'s words, and what its reading of the words gives.
-use Rattle.std.specs.Prelude.{◌≡◌, ◌≢◌, ⊤, List, [], ◌∷◌, Option, Some, true, codes, fold, option_and_then, option_map, string_bytes}
+use Rattle.std.specs.Prelude.{◌≡◌, ◌≢◌, ⊤, List, [], ◌∷◌, Option, Some, true, codes, fold, option_and_then, option_map}
+use Rattle.std.specs.Prelude.{string_bytes}
 use Rattle.clap.specs.Simple.{on_top, new_shape}
-use Rattle.clap.specs.Words.{App, IsAmong, Kinds, Row, Rule, Shape, Text, fault_of, first_of, new_app, new_rule, subcommand_of, with_subcommand}
+use Rattle.clap.specs.Words.{App, IsAmong, Kinds, Row, Rule, Shape, Text, fault_of, first_of, new_app, new_rule}
+use Rattle.clap.specs.Words.{subcommand_of, with_subcommand}
 use Rattle.clap.specs.declared.error.kind.ErrorKind.{ErrorKind}
 use Rattle.clap.specs.declared.error.kind.ErrorKind.TheVariants.{DisplayHelp}
 use Rattle.mp_cli.specs.declared.command.Command.{Command}
@@ -18,7 +20,8 @@ get_shape = record (new_shape (codes "get")) { rules = pointer_rule ∷ [] }
 
 -- the subcommands, in the order of the help
 abbrev pub subcommands : List Shape
-subcommands = get_shape ∷ new_shape (codes "patch") ∷ new_shape (codes "merge") ∷ new_shape (codes "join") ∷ new_shape (codes "replay") ∷ new_shape (codes "rewrite") ∷ []
+subcommands = get_shape ∷ new_shape (codes "patch") ∷ new_shape (codes "merge") ∷ new_shape (codes "join")
+    ∷ new_shape (codes "replay") ∷ new_shape (codes "rewrite") ∷ []
 
 -- `mergejoin`, which requires a subcommand, and has none of the name `help`
 unfoldable pub command_line : App

@@ -26,7 +26,8 @@ AnswerExists = (command : Command) (input : List ℕ) → (a : Answered) × IsAn
 
 -- and one alone: its bytes and its status are a function of them
 abbrev pub HasOneAnswer : Type 0
-HasOneAnswer = (command : Command) (input : List ℕ) (a b : Answered) → IsAnswered command input a → IsAnswered command input b → a ≡ b
+HasOneAnswer = (command : Command) (input : List ℕ) (a b : Answered) → IsAnswered command input a
+    → IsAnswered command input b → a ≡ b
 
 -- the command line takes the words, the program's name first, and finds this subcommand in them
 abbrev pub Takes : List Text → Text → Type 0
@@ -81,7 +82,8 @@ pub record TellsPair (patches : List Document) (a : Answered) : Type 0 where
 
 -- two of the patches clash
 abbrev pub HaveAClash : List Document → Type 0
-HaveAClash patches = (p : Document) × (q : Document) × (w : Path) × Contains patches p × Contains patches q × Clash p q w
+HaveAClash patches = (p : Document) × (q : Document) × (w : Path) × Contains patches p × Contains patches q
+    × Clash p q w
 
 -- where two members clash, no answer of `replay` is a document
 abbrev pub ClashesAreTold : Type 0

@@ -108,7 +108,8 @@ pointers_text (w ∷ ws) = pointer_text w ++ flat_map (λ u. codes ", " ++ point
 -- the two patches by their numbers, and the pointers to all their conflicts
 abbrev pub conflict_line : ℕ → ℕ → List Path → Answered
 conflict_line first second places =
-    line (codes "conflict: patches " ++ numeral first ++ codes " and " ++ numeral second ++ codes " at " ++ pointers_text places) status_no_result
+    line (codes "conflict: patches " ++ numeral first ++ codes " and " ++ numeral second
+    ++ codes " at " ++ pointers_text places) status_no_result
 
 abbrev pub no_patches : Answered
 no_patches = line (codes "no patches") status_no_result

@@ -2,23 +2,29 @@
 use Rattle.std.specs.Prelude.{◌≡◌, ◌≢◌, ◌+◌, ◌≤◌, ◌++◌, ℕ, List, Option, length}
 use Rattle.std.specs.Io.KnownBytes.{Appends, Consumes, IsAtEnd}
 use Rattle.mp_cli.specs.declared.counted.Counted.{Counted}
-use Rattle.mp_cli.specs.Lines.{Answered}
+use Rattle.mp_cli.specs.Lines.{Answered, status_result}
 use Rattle.mp_cli.specs.Counted.{device_of, calls_of, failures_of, bytes_of, IsFlushed}
+
+-- The most bytes that an input has. A run makes one read more at most, which finds the end.
+abbrev pub input_limit : ℕ
+input_limit = 1_048_576
 
 -- The reads gave these bytes, and but for one each gave some. `remaining` says which bytes a reader
 -- has left, where it says so.
-pub record ReadsBytes {R : Type 0} (remaining : R → Option (List ℕ)) (old new : Counted R) (bytes : List ℕ) : Type 0 where
+pub record ReadsBytes {R : Type 0} (remaining : R → Option (List ℕ)) (old new : Counted R)
+    (bytes : List ℕ) : Type 0 where
   pub consumed : Consumes (remaining (device_of old)) (remaining (device_of new)) bytes
   pub counted : bytes_of new ≡ bytes_of old + length bytes
   pub calls : calls_of new ≤ calls_of old + length bytes + 1
 
 -- The reads gave these bytes and then the end, none failed, and the bytes are within the limit. So
 -- where the reader says which bytes it has, they are these.
-pub record ReadsWhole {R : Type 0} (remaining : R → Option (List ℕ)) (old new : Counted R) (bytes : List ℕ) : Type 0 where
+pub record ReadsWhole {R : Type 0} (remaining : R → Option (List ℕ)) (old new : Counted R)
+    (bytes : List ℕ) : Type 0 where
   pub given : ReadsBytes remaining old new bytes
   pub ended : IsAtEnd (remaining (device_of new))
   pub failures : failures_of new ≡ failures_of old
-  pub short : length bytes ≤ 1_048_576
+  pub short : length bytes ≤ input_limit
 
 -- The writes took this text, in at most as many calls as it has bytes, but for one more. `contents`
 -- says which bytes a writer holds, where it says so.
@@ -28,7 +34,8 @@ pub record Writes {W : Type 0} (contents : W → Option (List ℕ)) (old new : C
   pub calls : calls_of new ≤ calls_of old + length text + 1
 
 -- The whole text was written and then flushed, and no call failed.
-pub record WritesWhole {W : Type 0} (contents : W → Option (List ℕ)) (old new : Counted W) (text : List ℕ) : Type 0 where
+pub record WritesWhole {W : Type 0} (contents : W → Option (List ℕ)) (old new : Counted W)
+    (text : List ℕ) : Type 0 where
   pub written : Writes contents old new text
   pub flushed : IsFlushed new
   pub failures : failures_of new ≡ failures_of old
@@ -41,16 +48,20 @@ pub record WritesPart {W : Type 0} (contents : W → Option (List ℕ)) (old new
   pub written : Writes contents old new front
   pub failures : failures_of new ≡ failures_of old + 1
 
--- `Result` was done to `out` where the status is 0, and else `Refusal` to `err`, and the other was
+-- `Result` was done to `out` where the status is that of a result, and else `Refusal` to `err`, and the other was
 -- not touched.
-pub record ToOneWriter {W E : Type 0} (Result : Counted W → Counted W → List ℕ → Type 0) (Refusal : Counted E → Counted E → List ℕ → Type 0) (answer : Answered) (out new_out : Counted W) (err new_err : Counted E) : Type 0 where
-  pub result : answer.status ≡ 0 → Result out new_out answer.text × (new_err ≡ err)
-  pub refusal : answer.status ≢ 0 → Refusal err new_err answer.text × (new_out ≡ out)
+pub record ToOneWriter {W E : Type 0} (Result : Counted W → Counted W → List ℕ → Type 0)
+    (Refusal : Counted E → Counted E → List ℕ → Type 0) (answer : Answered) (out new_out : Counted W)
+    (err new_err : Counted E) : Type 0 where
+  pub result : answer.status ≡ status_result → Result out new_out answer.text × (new_err ≡ err)
+  pub refusal : answer.status ≢ status_result → Refusal err new_err answer.text × (new_out ≡ out)
 
 -- The answer's text went whole to `out` where its status is 0, and else to `err`.
-abbrev pub Delivers : {W E : Type 0} → (W → Option (List ℕ)) → (E → Option (List ℕ)) → Answered → Counted W → Counted W → Counted E → Counted E → Type 0
+abbrev pub Delivers : {W E : Type 0} → (W → Option (List ℕ)) → (E → Option (List ℕ)) → Answered → Counted W → Counted W
+    → Counted E → Counted E → Type 0
 Delivers out_contents err_contents = ToOneWriter (WritesWhole out_contents) (WritesWhole err_contents)
 
 -- Its writing was broken off.
-abbrev pub BreaksOff : {W E : Type 0} → (W → Option (List ℕ)) → (E → Option (List ℕ)) → Answered → Counted W → Counted W → Counted E → Counted E → Type 0
+abbrev pub BreaksOff : {W E : Type 0} → (W → Option (List ℕ)) → (E → Option (List ℕ)) → Answered → Counted W → Counted W
+    → Counted E → Counted E → Type 0
 BreaksOff out_contents err_contents = ToOneWriter (WritesPart out_contents) (WritesPart err_contents)

@@ -2,7 +2,7 @@
 ghost use Rattle.std.specs.Prelude.{◌≡◌, ◌≢◌, ◌++◌, IfOk, option_map, string_bytes};
 ghost use Rattle.mp_tree.specs.View.{document};
 ghost use Rattle.mp_pointer.specs.Part.{numeral};
-ghost use Rattle.mp_cli.specs.Lines.{bad_tilde_line, conflict_line, form_fault, input_fault, line as line_with, operation_line, part_line, pointer_text, pointers_text, run_fault, spelling_fault, wrong_shape as shape_fault};
+ghost use Rattle.mp_cli.specs.Lines.{bad_tilde_line, conflict_line, form_fault, input_fault, line as line_with, operation_line, part_line, pointer_text, pointers_text, run_fault, spelling_fault, status_result, wrong_shape as shape_fault};
 ghost use Rattle.mp_cli.specs.Private.Answers.{Gives, list_fault};
 ghost use Rattle.mp_cli.specs.Lines.{line_of, status_of};
 
@@ -171,7 +171,7 @@ fn with_number(alloc: Global, before: &str, number: usize) -> Result<String, All
 }
 
 pub(crate) fn result_line(mut text: String) -> Result<Answer, AllocError>
-    ensures { Gives result (line_with (string_bytes text) 0) }
+    ensures { Gives result (line_with (string_bytes text) status_result) }
 {
     text.push_str("\n")?;
     Ok(Answer {

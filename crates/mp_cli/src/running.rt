@@ -1,9 +1,9 @@
 //! The run of the program: its input is read, answered and written.
-ghost use Rattle.std.specs.Prelude.{◌≡◌, ◌≢◌, ◌↔◌, ◌<◌, ◌≤◌, ℕ, List, IsErrOf, IfOk, IfErr, OnOk, OnErr};
+ghost use Rattle.std.specs.Prelude.{◌+◌, ◌≡◌, ◌≢◌, ◌↔◌, ◌<◌, ◌≤◌, ℕ, List, IsErrOf, IfOk, IfErr, OnOk, OnErr};
 ghost use Rattle.mp_cli.specs.Answered.{answered_by, IsAnswered};
 ghost use Rattle.mp_cli.specs.Lines.{Answered};
 ghost use Rattle.mp_cli.specs.Counted.{calls_of, failures_of, bytes_of};
-ghost use Rattle.mp_cli.specs.Run.{ReadsBytes, ReadsWhole, WritesPart, WritesWhole, BreaksOff, Delivers};
+ghost use Rattle.mp_cli.specs.Run.{ReadsBytes, ReadsWhole, WritesPart, WritesWhole, BreaksOff, Delivers, input_limit};
 ghost use Rattle.mp_cli.specs.declared.running.RunFault.TheVariants.{OutOfMemory};
 
 use crate::answering::answer;
@@ -79,10 +79,10 @@ pub fn run<R: Read, W: Write, E: Write>(
 
     // When a fault of the input comes.
     ensures read_failed { IsErrOf result RunFault.ReadFailed ↔ (0 < failures_of input.new) }
-    ensures too_long { IsErrOf result RunFault.TooLong ↔ (1_048_576 < bytes_of input.new) }
+    ensures too_long { IsErrOf result RunFault.TooLong ↔ (input_limit < bytes_of input.new) }
 
     // What was read.
-    ensures read_calls { calls_of input.new ≤ 1_048_577 }
+    ensures read_calls { calls_of input.new ≤ input_limit + 1 }
     ensures reads { (bytes : List ℕ) × ReadsBytes R.remaining input.old input.new bytes }
 
     // What was written.
@@ -109,9 +109,9 @@ fn read_whole<R: Read>(alloc: Global, input: &mut Counted<R>) -> Result<Vec<u8>,
     ensures whole { IfOk result (λ bytes. ReadsWhole R.remaining input.old input.new bytes.items) }
     ensures reads { (bytes : List ℕ) × ReadsBytes R.remaining input.old input.new bytes }
     ensures read_failed { IsErrOf result RunFault.ReadFailed ↔ (0 < failures_of input.new) }
-    ensures too_long { IsErrOf result RunFault.TooLong ↔ (1_048_576 < bytes_of input.new) }
+    ensures too_long { IsErrOf result RunFault.TooLong ↔ (input_limit < bytes_of input.new) }
     ensures no_write_failed { IfErr result (λ fault. fault ≢ RunFault.WriteFailed) }
-    ensures calls { calls_of input.new ≤ 1_048_577 }
+    ensures calls { calls_of input.new ≤ input_limit + 1 }
 {
     let mut bytes = Vec::new(alloc);
     let mut piece = [0u8; PIECE];

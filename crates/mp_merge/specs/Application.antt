@@ -1,6 +1,7 @@
 -- Applying a merge patch (RFC 7396 section 2).
 use Rattle.std.specs.Prelude.{List, [], ◌∷◌, ℕ, Option, None, Some}
-use Rattle.mp_tree.specs.Document.{Document, null, flag, whole, string, list, object, Members, no_members, member, find, put, without, depth}
+use Rattle.mp_tree.specs.Document.{Document, null, flag, whole, string, list, object, Members, no_members, member, find}
+use Rattle.mp_tree.specs.Document.{put, without, depth}
 
 -- the members of a target: none where it is absent or no object
 abbrev pub target_members : Option Document → Members

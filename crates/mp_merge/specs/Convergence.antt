@@ -37,7 +37,8 @@ pub record Converge (start : Document) (patches : List Document) : Type 0 where
   pub is_document : IsDocument joined
   pub end_is_document : IsDocument (merge_patch (Some start) joined)
   -- a replica may receive the patches in any order and with any repeats
-  pub reached : (received : List Document) → HaveSameMembers patches received → ReachesEnd start joined (merge_patch (Some start) joined) received
+  pub reached : (received : List Document) → HaveSameMembers patches received
+      → ReachesEnd start joined (merge_patch (Some start) joined) received
   -- the join is no deeper than the patches; rewritten against the start, it is a JSON Patch that leads to the end
   pub no_deeper : (n : ℕ) → AreWithin n patches → depth joined ≤ n
   pub operations : List Operation
@@ -46,4 +47,5 @@ pub record Converge (start : Document) (patches : List Document) : Type 0 where
 
 -- pairwise compatible patches, at least one, bring all replicas of a document to the same document
 abbrev pub ReplicasConverge : Type 0
-ReplicasConverge = (start : Document) (patches : List Document) → IsDocument start → patches ≢ [] → All IsDocument patches → PairwiseCompatible patches → Converge start patches
+ReplicasConverge = (start : Document) (patches : List Document) → IsDocument start → patches ≢ []
+    → All IsDocument patches → PairwiseCompatible patches → Converge start patches

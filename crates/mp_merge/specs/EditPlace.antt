@@ -14,5 +14,6 @@ pub data Changes (d p : Document) (w : Path) : Type 0 where
 
 pub record IsEditPlace (d p : Document) (w : Path) : Type 0 where
   -- both have a map at each proper prefix
-  pub above : (u : Path) (n : List ℕ) (rest : Path) → w ≡ u ++ n ∷ rest → (look d u ≡ an_object) × (look p u ≡ an_object)
+  pub above : (u : Path) (n : List ℕ) (rest : Path) → w ≡ u ++ n ∷ rest
+      → (look d u ≡ an_object) × (look p u ≡ an_object)
   pub here : Changes d p w

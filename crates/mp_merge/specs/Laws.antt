@@ -1,7 +1,9 @@
 -- Laws of merge patches alone. Each is the contract of a function of the module `laws` that runs nothing.
-use Rattle.std.specs.Prelude.{◌≡◌, ◌≢◌, ◌≤◌, ◌↔◌, ◌⊎◌, ℕ, max, List, [], ◌∷◌, ◌++◌, Option, None, Some, IfSome, slice_get}
+use Rattle.std.specs.Prelude.{◌≡◌, ◌≢◌, ◌≤◌, ◌↔◌, ◌⊎◌, ℕ, max, List, [], ◌∷◌, ◌++◌, Option, None, Some, IfSome}
+use Rattle.std.specs.Prelude.{slice_get}
 use Rattle.std.specs.List.{All, Contains}
-use Rattle.mp_tree.specs.Document.{Document, null, object, Members, find, IsDocument, IsMap, IsReadable, depth, depth_limit}
+use Rattle.mp_tree.specs.Document.{Document, null, object, Members, find, IsDocument, IsMap, IsReadable, depth}
+use Rattle.mp_tree.specs.Document.{depth_limit}
 use Rattle.mp_patch.specs.Form.{deepest}
 use Rattle.mp_patch.specs.Writable.{IsWritable}
 use Rattle.mp_tree.specs.Look.{Path, plain, look}
@@ -12,9 +14,9 @@ use Rattle.mp_pointer.specs.Part.{part}
 use Rattle.mp_merge.specs.EditPlace.{IsEditPlace}
 use Rattle.mp_merge.specs.Application.{merge_patch, in_turn, target_members, after_patch}
 use Rattle.mp_merge.specs.Clash.{Clash, Compatible, AreAllClashes}
-use Rattle.mp_merge.specs.Join.{IsJoin}
+use Rattle.mp_merge.specs.Join.{IsJoin, JoinsNames, HasJoin}
 use Rattle.mp_merge.specs.Lists.{PairwiseCompatible, AreWithin, IsToldPair, HaveSameMembers}
-use Rattle.mp_merge.specs.Outcome.{IsOutcome}
+use Rattle.mp_merge.specs.Outcome.{IsOutcome, HasOutcome}
 use Rattle.mp_merge.specs.Resumption.{AreTries, last_of}
 use Rattle.mp_merge.specs.Rewriting.{IsRewriting, ListsEdits}
 
@@ -24,7 +26,8 @@ use Rattle.mp_merge.specs.Rewriting.{IsRewriting, ListsEdits}
 abbrev pub AppliesAtEachName : Type 0
 AppliesAtEachName =
     (t : Option Document) (ps : Members) → IfSome t IsDocument → IsMap ps
-    → (ms : Members) × (merge_patch t (object ps) ≡ object ms) × IsMap ms × ((n : List ℕ) → find n ms ≡ after_patch (find n (target_members t)) (find n ps))
+    → (ms : Members) × (merge_patch t (object ps) ≡ object ms) × IsMap ms
+    × ((n : List ℕ) → find n ms ≡ after_patch (find n (target_members t)) (find n ps))
 
 -- and any other patch is the result
 abbrev pub OthersReplace : Type 0
@@ -40,11 +43,13 @@ MergesIntoNull = (p : Document) → merge_patch (Some null) p ≡ merge_patch No
 
 -- applying a patch twice is applying it once
 abbrev pub AppliedOnce : Type 0
-AppliedOnce = (d p : Document) → IsDocument d → IsDocument p → merge_patch (Some (merge_patch (Some d) p)) p ≡ merge_patch (Some d) p
+AppliedOnce = (d p : Document) → IsDocument d → IsDocument p
+    → merge_patch (Some (merge_patch (Some d) p)) p ≡ merge_patch (Some d) p
 
 -- after any number of tries that were refused, one that succeeds leaves one application to the first target
 abbrev pub TriesResume : Type 0
-TriesResume = (d p : Document) (tries : List Document) → AreTries p d tries → merge_patch (Some (last_of d tries)) p ≡ merge_patch (Some d) p
+TriesResume = (d p : Document) (tries : List Document) → AreTries p d tries
+    → merge_patch (Some (last_of d tries)) p ≡ merge_patch (Some d) p
 
 -- ---- outcomes
 
@@ -54,29 +59,31 @@ ApplicationIsOutcome = (d p : Document) → IsDocument d → IsDocument p → Is
 
 -- a start and a collection have at most one outcome
 abbrev pub HasOneOutcome : Type 0
-HasOneOutcome = (d : Document) (patches : List Document) (e f : Document) → IsDocument e → IsDocument f → IsOutcome d patches e → IsOutcome d patches f → e ≡ f
+HasOneOutcome = (d : Document) (patches : List Document) (e f : Document) → IsDocument e → IsDocument f
+    → IsOutcome d patches e → IsOutcome d patches f → e ≡ f
 
 -- pairwise compatible patches that are applied in turn make their outcome of the start
 abbrev pub AppliedInTurn : Type 0
-AppliedInTurn = (d : Document) (patches : List Document) → IsDocument d → All IsDocument patches → PairwiseCompatible patches → IsOutcome d patches (in_turn d patches)
-
--- e is a document, and the outcome of d and the patches
-abbrev pub HasOutcome : Document → List Document → Type 0
-HasOutcome d patches = (e : Document) × IsDocument e × IsOutcome d patches e
+AppliedInTurn = (d : Document) (patches : List Document) → IsDocument d → All IsDocument patches
+    → PairwiseCompatible patches → IsOutcome d patches (in_turn d patches)
 
 -- patches have an outcome exactly if they are pairwise compatible, and then on every document
 abbrev pub OutcomeExists : Type 0
-OutcomeExists = (d : Document) (patches : List Document) → IsDocument d → All IsDocument patches → HasOutcome d patches ↔ PairwiseCompatible patches
+OutcomeExists = (d : Document) (patches : List Document) → IsDocument d → All IsDocument patches
+    → HasOutcome d patches ↔ PairwiseCompatible patches
 
 -- replicas that start from one document and receive the same patches end with the same document
 abbrev pub ReplicasAgree : Type 0
-ReplicasAgree = (d : Document) (ps qs : List Document) (e f : Document) → HaveSameMembers ps qs → IsDocument e → IsDocument f → IsOutcome d ps e → IsOutcome d qs f → e ≡ f
+ReplicasAgree = (d : Document) (ps qs : List Document) (e f : Document) → HaveSameMembers ps qs → IsDocument e
+    → IsDocument f → IsOutcome d ps e → IsOutcome d qs f → e ≡ f
 
 -- ---- two patches, one after the other
 
--- two patches can be exchanged on a document exactly if they are compatible: so compatible ones on every document, and others on none
+-- two patches can be exchanged on a document exactly if they are compatible: so compatible ones on every document, and
+-- others on none
 abbrev pub Exchange : Type 0
-Exchange = (d p q : Document) → IsDocument d → IsDocument p → IsDocument q → (in_turn d (p ∷ q ∷ []) ≡ in_turn d (q ∷ p ∷ [])) ↔ Compatible p q
+Exchange = (d p q : Document) → IsDocument d → IsDocument p → IsDocument q
+    → (in_turn d (p ∷ q ∷ []) ≡ in_turn d (q ∷ p ∷ [])) ↔ Compatible p q
 
 -- ---- clashes
 
@@ -86,7 +93,8 @@ ClashesExist = (p q : Document) → IsDocument p → (places : List Path) × Are
 
 -- and one alone
 abbrev pub HaveOneList : Type 0
-HaveOneList = (p q : Document) (places others : List Path) → AreAllClashes p q places → AreAllClashes p q others → places ≡ others
+HaveOneList = (p q : Document) (places others : List Path) → AreAllClashes p q places → AreAllClashes p q others
+    → places ≡ others
 
 -- it is empty exactly if they are compatible
 abbrev pub EmptyIfCompatible : Type 0
@@ -96,11 +104,13 @@ EmptyIfCompatible = (p q : Document) (places : List Path) → AreAllClashes p q 
 abbrev pub CompatibleOrTold : Type 0
 CompatibleOrTold =
     (patches : List Document) → All IsDocument patches
-    → PairwiseCompatible patches ⊎ ((first : ℕ) × (second : ℕ) × (places : List Path) × IsToldPair patches first second places)
+    → PairwiseCompatible patches
+    ⊎ ((first : ℕ) × (second : ℕ) × (places : List Path) × IsToldPair patches first second places)
 
 -- and not both
 abbrev pub CompatibleHaveNone : Type 0
-CompatibleHaveNone = (patches : List Document) (first second : ℕ) (places : List Path) → IsToldPair patches first second places → ¬ PairwiseCompatible patches
+CompatibleHaveNone = (patches : List Document) (first second : ℕ) (places : List Path)
+    → IsToldPair patches first second places → ¬ PairwiseCompatible patches
 
 -- the pair that is told is one alone, and so are its conflicts
 abbrev pub HasOneToldPair : Type 0
@@ -114,11 +124,13 @@ abbrev pub ClashesWithAMember : List Document → Document → Path → Type 0
 ClashesWithAMember patches r w = (p : Document) × Contains patches p × Clash r p w
 
 abbrev pub ClashWithAJoin : Type 0
-ClashWithAJoin = (patches : List Document) (j r : Document) (w : Path) → IsJoin patches j → Clash r j w ↔ ClashesWithAMember patches r w
+ClashWithAJoin = (patches : List Document) (j r : Document) (w : Path) → IsJoin patches j
+    → Clash r j w ↔ ClashesWithAMember patches r w
 
 -- two objects are compatible exactly if each name that both carry has compatible values
 abbrev pub CompatibleByNames : Type 0
-CompatibleByNames = (ps qs : Members) → Compatible (object ps) (object qs) ↔ ((n : List ℕ) (p q : Document) → find n ps ≡ Some p → find n qs ≡ Some q → Compatible p q)
+CompatibleByNames = (ps qs : Members) → Compatible (object ps) (object qs)
+    ↔ ((n : List ℕ) (p q : Document) → find n ps ≡ Some p → find n qs ≡ Some q → Compatible p q)
 
 -- and what is no object is compatible with its equal alone, on either side
 abbrev pub CompatibleIfEqual : Type 0
@@ -126,21 +138,10 @@ CompatibleIfEqual = (p q : Document) → (look p [] ≡ plain p) ⊎ (look q [] 
 
 -- ---- joins
 
--- what a join has at a name: what one patch carries alone, or the join of the values of both
-abbrev pub IsJoinAt : Option Document → Option Document → Option Document → Type 0
-IsJoinAt None None j = j ≡ None
-IsJoinAt (Some p) None j = j ≡ Some p
-IsJoinAt None (Some q) j = j ≡ Some q
-IsJoinAt (Some p) (Some q) j = (d : Document) × (j ≡ Some d) × IsJoin (p ∷ q ∷ []) d
-
--- an object that has this at each name
-abbrev pub JoinsNames : Members → Members → Document → Type 0
-JoinsNames ps qs (object js) = (n : List ℕ) → IsJoinAt (find n ps) (find n qs) (find n js)
-JoinsNames ps qs j = ⊥
-
--- is the join of two objects, and nothing else is
+-- an object that has this at each name is the join of two objects, and nothing else is
 abbrev pub JoinByNames : Type 0
-JoinByNames = (ps qs : Members) (j : Document) → IsMap ps → IsMap qs → IsDocument j → IsJoin (object ps ∷ object qs ∷ []) j ↔ JoinsNames ps qs j
+JoinByNames = (ps qs : Members) (j : Document) → IsMap ps → IsMap qs → IsDocument j
+    → IsJoin (object ps ∷ object qs ∷ []) j ↔ JoinsNames ps qs j
 
 -- and where a patch is no object, the join is the one value that both are
 abbrev pub JoinOfEqual : Type 0
@@ -170,11 +171,13 @@ pub record IsJoinFromRight (p q r j : Document) : Type 0 where
 
 -- one of them exists exactly if the other does, and then they are equal
 abbrev pub JoinIsAssociative : Type 0
-JoinIsAssociative = (p q r j : Document) → IsDocument p → IsDocument q → IsDocument r → IsJoinFromLeft p q r j ↔ IsJoinFromRight p q r j
+JoinIsAssociative = (p q r j : Document) → IsDocument p → IsDocument q → IsDocument r
+    → IsJoinFromLeft p q r j ↔ IsJoinFromRight p q r j
 
 -- lists with the same members have at most one join
 abbrev pub HasOneJoin : Type 0
-HasOneJoin = (ps qs : List Document) (i j : Document) → HaveSameMembers ps qs → IsDocument i → IsDocument j → IsJoin ps i → IsJoin qs j → i ≡ j
+HasOneJoin = (ps qs : List Document) (i j : Document) → HaveSameMembers ps qs → IsDocument i → IsDocument j
+    → IsJoin ps i → IsJoin qs j → i ≡ j
 
 -- the empty collection has none, since `{}` changes 5: no patch leaves every document as it is
 abbrev pub EmptyHasNoJoin : Type 0
@@ -182,14 +185,13 @@ EmptyHasNoJoin = (j : Document) → ¬ IsJoin [] j
 
 -- the join of a list and one more patch is that of (the join of the list) with the patch
 abbrev pub JoinGrows : Type 0
-JoinGrows = (patches : List Document) (q kept j : Document) → IsJoin patches kept → IsJoin (patches ++ q ∷ []) j ↔ IsJoin (kept ∷ q ∷ []) j
-
-abbrev pub HasJoin : List Document → Type 0
-HasJoin patches = (j : Document) × IsDocument j × IsJoin patches j
+JoinGrows = (patches : List Document) (q kept j : Document) → IsJoin patches kept
+    → IsJoin (patches ++ q ∷ []) j ↔ IsJoin (kept ∷ q ∷ []) j
 
 -- a collection that is not empty has a join exactly if its members are pairwise compatible
 abbrev pub JoinExists : Type 0
-JoinExists = (patches : List Document) → patches ≢ [] → All IsDocument patches → HasJoin patches ↔ PairwiseCompatible patches
+JoinExists = (patches : List Document) → patches ≢ [] → All IsDocument patches
+    → HasJoin patches ↔ PairwiseCompatible patches
 
 -- so two patches have a join exactly if they are compatible
 abbrev pub PairHasJoin : Type 0
@@ -197,15 +199,18 @@ PairHasJoin = (p q : Document) → IsDocument p → IsDocument q → HasJoin (p 
 
 -- a join is no deeper than its deepest patch
 abbrev pub JoinIsNoDeeper : Type 0
-JoinIsNoDeeper = (patches : List Document) (j : Document) (n : ℕ) → IsDocument j → All IsDocument patches → IsJoin patches j → AreWithin n patches → depth j ≤ n
+JoinIsNoDeeper = (patches : List Document) (j : Document) (n : ℕ) → IsDocument j → All IsDocument patches
+    → IsJoin patches j → AreWithin n patches → depth j ≤ n
 
 -- and it can be read where they can
 abbrev pub JoinIsReadable : Type 0
-JoinIsReadable = (patches : List Document) (j : Document) → IsDocument j → All IsReadable patches → IsJoin patches j → IsReadable j
+JoinIsReadable = (patches : List Document) (j : Document) → IsDocument j → All IsReadable patches → IsJoin patches j
+    → IsReadable j
 
 -- one application of the join is the outcome of the patches
 abbrev pub JoinGivesOutcome : Type 0
-JoinGivesOutcome = (d : Document) (patches : List Document) (j : Document) → IsDocument d → IsDocument j → IsJoin patches j → IsOutcome d patches (merge_patch (Some d) j)
+JoinGivesOutcome = (d : Document) (patches : List Document) (j : Document) → IsDocument d → IsDocument j
+    → IsJoin patches j → IsOutcome d patches (merge_patch (Some d) j)
 
 -- ---- rewriting a patch as a JSON Patch
 
@@ -215,41 +220,51 @@ RewritingExists = (d p : Document) → IsDocument p → (operations : List Opera
 
 -- and one alone
 abbrev pub HasOneRewriting : Type 0
-HasOneRewriting = (d p : Document) (operations others : List Operation) → IsRewriting d p operations → IsRewriting d p others → operations ≡ others
+HasOneRewriting = (d p : Document) (operations others : List Operation) → IsRewriting d p operations
+    → IsRewriting d p others → operations ≡ others
 
 -- the values of its operations are documents
 abbrev pub RewritingHasDocuments : Type 0
-RewritingHasDocuments = (d p : Document) (operations : List Operation) → IsDocument d → IsDocument p → IsRewriting d p operations → HaveDocuments operations
+RewritingHasDocuments = (d p : Document) (operations : List Operation) → IsDocument d → IsDocument p
+    → IsRewriting d p operations → HaveDocuments operations
 
 -- its operations can be written where the document and the patch can be read
 abbrev pub RewritingIsWritable : Type 0
-RewritingIsWritable = (d p : Document) (operations : List Operation) → IsReadable d → IsReadable p → IsRewriting d p operations → All IsWritable operations
+RewritingIsWritable = (d p : Document) (operations : List Operation) → IsReadable d → IsReadable p
+    → IsRewriting d p operations → All IsWritable operations
 
 -- and their values are no deeper than the deeper of the two
 abbrev pub RewritingIsNoDeeper : Type 0
-RewritingIsNoDeeper = (d p : Document) (operations : List Operation) → IsRewriting d p operations → deepest operations ≤ max (depth d) (depth p)
+RewritingIsNoDeeper = (d p : Document) (operations : List Operation) → IsRewriting d p operations
+    → deepest operations ≤ max (depth d) (depth p)
 
 -- it is empty exactly if the application leaves the document as it is
 abbrev pub EmptyRewriting : Type 0
-EmptyRewriting = (d p : Document) (operations : List Operation) → IsDocument d → IsDocument p → IsRewriting d p operations → (operations ≡ []) ↔ (merge_patch (Some d) p ≡ d)
+EmptyRewriting = (d p : Document) (operations : List Operation) → IsDocument d → IsDocument p
+    → IsRewriting d p operations → (operations ≡ []) ↔ (merge_patch (Some d) p ≡ d)
 
--- where the rewriting of d runs from any document x, each place that it changes has in x the part that it has in d
+-- where the rewriting of d runs from any document x, each place that it changes and where d has something has in x the
+-- part that it has in d
 abbrev pub GuardedList : Type 0
 GuardedList =
-    (d p x e : Document) (operations : List Operation) (w : Path) (v : Document) → IsRewriting d p operations → Runs x operations e → IsEditPlace d p w
+    (d p x e : Document) (operations : List Operation) (w : Path) (v : Document)
+    → IsRewriting d p operations → Runs x operations e → IsEditPlace d p w
     → part d w ≡ Some v → part x w ≡ Some v
 
 -- what a test that is refused tells, where the rewriting of d is applied to x: it is of a part of d, x does not have
 -- that part there, and nothing of x was changed
 abbrev pub RefusedGuardTells : Type 0
 RefusedGuardTells =
-    (d p x : Document) (operations : List Operation) (k : ℕ) (cause : Cause) (w : Path) (v : Document) → IsRewriting d p operations
-    → (refused : RefusedAt x operations k cause) → slice_get operations k ≡ Some (test w v) → (part d w ≡ Some v) × (part x w ≢ Some v) × (refused.0 ≡ x)
+    (d p x : Document) (operations : List Operation) (k : ℕ) (cause : Cause) (w : Path) (v : Document)
+    → IsRewriting d p operations → (refused : RefusedAt x operations k cause) → slice_get operations k ≡ Some (test w v)
+    → (part d w ≡ Some v) × (part x w ≢ Some v) × (refused.0 ≡ x)
 
 -- the tests and then the edits of a document and a patch in any order lead to the application, and none is refused
 abbrev pub EditsInAnyOrder : Type 0
-EditsInAnyOrder = (d p : Document) (operations : List Operation) → IsDocument d → IsDocument p → depth p ≤ depth_limit → ListsEdits d p operations → Runs d operations (merge_patch (Some d) p)
+EditsInAnyOrder = (d p : Document) (operations : List Operation) → IsDocument d → IsDocument p → depth p ≤ depth_limit
+    → ListsEdits d p operations → Runs d operations (merge_patch (Some d) p)
 
 -- so does the rewriting
 abbrev pub RewritingRuns : Type 0
-RewritingRuns = (d p : Document) (operations : List Operation) → IsDocument d → IsDocument p → depth p ≤ depth_limit → IsRewriting d p operations → Runs d operations (merge_patch (Some d) p)
+RewritingRuns = (d p : Document) (operations : List Operation) → IsDocument d → IsDocument p → depth p ≤ depth_limit
+    → IsRewriting d p operations → Runs d operations (merge_patch (Some d) p)

@@ -23,7 +23,8 @@ CompatibleBelow patches k q = (i : ℕ) (p : Document) → i < k → slice_get p
 abbrev pub IsFreeBelow : List Document → ℕ → Type 0
 IsFreeBelow patches k = (q : Document) → slice_get patches k ≡ Some q → CompatibleBelow patches k q
 
--- `first` is the least number of a patch before number `second` that clashes with it, and `places` are all their conflicts
+-- `first` is the least number of a patch before number `second` that clashes with it, and `places` are all their
+-- conflicts
 pub record IsClashBelow (patches : List Document) (first second : ℕ) (places : List Path) : Type 0 where
   pub one : Document
   pub other : Document

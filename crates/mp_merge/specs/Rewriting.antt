@@ -1,5 +1,5 @@
--- Rewriting a merge patch against a document as a JSON Patch: tests of what the document has where it is changed, and then
--- one edit for each edit place.
+-- Rewriting a merge patch against a document as a JSON Patch: tests of what the document has where it is changed, and
+-- then one edit for each edit place.
 use Rattle.std.specs.Prelude.{◌≡◌, ◌↔◌, List, [], ◌∷◌, ◌++◌, map, Option, None, Some, ⊤}
 use Rattle.std.specs.List.{Contains, flat_map}
 use Rattle.std.specs.List.Sorted.{IsStrictlySortedBy}
@@ -11,7 +11,8 @@ use Rattle.mp_merge.specs.Application.{merge_patch, unless_null}
 use Rattle.mp_merge.specs.Clash.{path_cmp}
 use Rattle.mp_merge.specs.EditPlace.{IsEditPlace}
 
--- what a part of a patch leaves where nothing was: a null below the root leaves nothing (at an edit place the patch has a part)
+-- what a part of a patch leaves where nothing was: a null below the root leaves nothing (at an edit place the patch has
+-- a part)
 abbrev pub part_left : Path → Option Document → Option Document
 part_left w None = None
 part_left [] (Some q) = Some (merge_patch None q)

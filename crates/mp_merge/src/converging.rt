@@ -56,7 +56,7 @@ pub fn converge(
     ensures calls { MatchResult result
         (λ c. IsConverged (document start.now) (map document here.now) (map document there.now) c)
         (λ fault. IsConvergeFault fault (document start.now) (map document here.now)
-            (map document there.now)) }
+        (map document there.now)) }
     ensures replayed { AreReplicas (map document here.now) (map document there.now)
         → IfOk result (λ c. document c.here ≡ document c.there) }
     ensures joined { AreReplicas (map document here.now) (map document there.now)

@@ -1,5 +1,6 @@
 //! Worked values of merging in place, and the promise run on lists in several orders and with repeats.
 use crate::{converge, merge_into};
+use mp_patch::apply;
 use mp_tree::{Doc, read_doc, read_docs, write_doc};
 use std::process::Abort;
 use std::test::Fail;
@@ -83,18 +84,34 @@ fn replicas_converge_by_each_way(rt: HostRuntime) -> Result<(), Fail> {
         for joined in [&end.joined_here, &end.joined_there] {
             is_text(&rt, joined, join)?;
         }
+        is_text(&rt, &apply(rt.alloc(), &start, &end.edits)?, document)?;
     }
     Ok(())
 }
 
+/// Lists that are no replicas', and the first refusal.
+const REFUSED: &[(&str, &str, &str)] = &[
+    (r#"[{"a":1},{"a":2}]"#, "[]", "conflict of patches 0 and 1"),
+    (
+        r#"[{"a":1}]"#,
+        r#"[{},{"b":1},{"b":2}]"#,
+        "conflict of patches 1 and 2",
+    ),
+    ("[]", r#"[{"a":1}]"#, "no patches"),
+    (r#"[{"a":1}]"#, "[]", "no patches"),
+];
+
 #[test]
-fn replicas_that_clash_are_refused(rt: HostRuntime) -> Result<(), Fail> {
-    let patches = read_docs(rt.alloc(), br#"[{"a":1},{"a":2}]"#)?;
-    let Err(fault) = converge(rt.alloc(), &Doc::Null, patches.as_slice(), &[]) else {
-        assert!(rt; false, "patches that clash");
-        return Ok(());
-    };
-    let text = format!(in rt.alloc(); "{fault}")?;
-    assert_eq!(rt; text.as_str(), "conflict of patches 0 and 1");
+fn the_first_refusal_is_told(rt: HostRuntime) -> Result<(), Fail> {
+    for (here, there, wanted) in REFUSED {
+        let here = read_docs(rt.alloc(), here.as_bytes())?;
+        let there = read_docs(rt.alloc(), there.as_bytes())?;
+        let Err(fault) = converge(rt.alloc(), &Doc::Null, here.as_slice(), there.as_slice()) else {
+            assert!(rt; false, "{wanted}");
+            return Ok(());
+        };
+        let text = format!(in rt.alloc(); "{fault}")?;
+        assert_eq!(rt; text.as_str(), *wanted);
+    }
     Ok(())
 }

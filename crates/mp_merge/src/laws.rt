@@ -173,13 +173,14 @@ pub fn rewritings_are_writable()
     mp_pointer::laws::parts_are_shallower();
 }
 
-/// The tests at the head of a rewriting guard it: where it runs on another document, each place that it changes has
-/// there what it has in the document of the rewriting. And where a test is refused, that document differs at its place,
-/// and nothing of it was changed: the number of the operation tells where.
+/// The tests at the head of a rewriting guard it: where it runs on another document, each place that it changes and
+/// where the document of the rewriting has something has the same there. And where a test is refused, that document
+/// differs at its place, and nothing of it was changed: the number of the operation tells where.
 ///
-/// Not promised: that a document which passes the tests takes every add, as `{"a":5}` does not take one at `/a/b`, where
-/// the start has `{"a":{}}`; nor what the edits do to one that has an array where the start has an object with names
-/// that spell indices, as `{"a":[1,2]}` for `{"a":{"0":1}}`.
+/// Not promised: that a place which is added is free, since it has no test, and what stands there is overwritten; that a
+/// document which passes the tests takes every add, as `{"a":5}` does not take one at `/a/b`, where the start has
+/// `{"a":{}}`; nor what the edits do to one that has an array where the start has an object with names that spell
+/// indices, as `{"a":[1,2]}` for `{"a":{"0":1}}`.
 pub fn guards_tell()
     ensures passed { GuardedList }
     ensures refused { RefusedGuardTells }

@@ -24,8 +24,8 @@ use std::collections::BTreeMap;
 /// patch changes and where it has something, then one edit for each place that changes, both in the order of paths. It
 /// is empty where the patch changes nothing.
 ///
-/// So a peer that holds another document is refused before anything changes, and is told at which test. A place that is
-/// added has no test.
+/// So a peer whose document differs at a place with a test is refused before anything changes, and is told at which
+/// test. A place that is added has no test: what a peer has there is overwritten.
 ///
 /// A place is reached through objects in both. Where the patch has a null below its root and the document has
 /// something, that is removed. Where the patch has another value that is no object and the document has another one

@@ -138,8 +138,7 @@ module _ (spelled : SpellingsAreTexts) where
   HasTexts-shapes : (operations : List Operation) → All IsWritable operations → HasTexts (shapes operations)
   HasTexts-shapes [] all = tt
   HasTexts-shapes (o ∷ operations) all =
-      let is = All-head IsWritable o operations all in
-      (
+      let is = All-head IsWritable o operations all in (
         needed-each HasTexts (ThroughoutMembers (λ z. ⊤) IsUtf8) IsUtf8 tt (λ s utf8. utf8) (Throughout-put (λ z. ⊤) IsUtf8) names_are_texts o (spelled_tokens o is) (value-is HasTexts (λ v can. can.has_texts) o is),
         HasTexts-shapes operations (All-tail IsWritable o operations all),
       )

@@ -1,6 +1,7 @@
 -- What a JSON document is (RFC 8259 section 3, with whole numbers alone): null, a truth value, a whole number,
 -- a text, a list of documents, or a finite map from names to documents. Texts and names are UTF-8 bytes.
-use Rattle.std.specs.Prelude.{◌≡◌, ◌≤◌, ◌≤ℤ◌, ◌^◌, ◌-◌, ℕ, suc, max, ℤ, pos, negsuc, List, Bool, cond, Option, None, Some, ⊤, IsUtf8}
+use Rattle.std.specs.Prelude.{◌≡◌, ◌≤◌, ◌≤ℤ◌, ◌^◌, ◌-◌, ℕ, suc, max, ℤ, pos, negsuc, List, Bool, cond, Option, None}
+use Rattle.std.specs.Prelude.{Some, ⊤, IsUtf8}
 use Rattle.std.specs.declared.cmp.Ordering.{Ordering}
 use Rattle.std.specs.declared.cmp.Ordering.TheVariants.{Less}
 use Rattle.std.specs.Ordering.{nat_cmp, match_ordering, is_eq}
@@ -43,7 +44,8 @@ find n (member m d ms) = cond (is_name n m) (Some d) (find n ms)
 -- the members with n set to d
 abbrev pub put : List ℕ → Document → Members → Members
 put n d no_members = member n d no_members
-put n d (member m e ms) = match_ordering (name_cmp n m) (member n d (member m e ms)) (member n d ms) (member m e (put n d ms))
+put n d (member m e ms) =
+    match_ordering (name_cmp n m) (member n d (member m e ms)) (member n d ms) (member m e (put n d ms))
 
 -- the members without n
 abbrev pub without : List ℕ → Members → Members

@@ -1,5 +1,6 @@
 -- Reading and writing (RFC 8259), over `serde_json`'s own reading and compact text.
-use Rattle.std.specs.Prelude.{ℕ, ℤ, pos, nat_le, List, if◌then◌else◌, Option, None, Some, option_map, option_and_then, Result, Ok, Err}
+use Rattle.std.specs.Prelude.{ℕ, ℤ, pos, nat_le, List, if◌then◌else◌, Option, None, Some, option_map, option_and_then}
+use Rattle.std.specs.Prelude.{Result, Ok, Err}
 use Rattle.std.specs.Option.{option_or}
 use Rattle.std.specs.Str.{is_utf8}
 use Rattle.serde_json.specs.Data as json
@@ -7,7 +8,8 @@ use Rattle.serde_json.specs.Data.{Data, Num}
 use Rattle.serde_json.specs.Find.{as_u64, as_i64, of_integer}
 use Rattle.serde_json.specs.Read as serde_json
 use Rattle.serde_json.specs.Written.{compact_text}
-use Rattle.mp_tree.specs.Document.{Document, null, flag, whole, string, list, object, Items, no_items, item, Members, no_members, member, put, depth, depth_limit}
+use Rattle.mp_tree.specs.Document.{Document, null, flag, whole, string, list, object, Items, no_items, item, Members}
+use Rattle.mp_tree.specs.Document.{no_members, member, put, depth, depth_limit}
 use Rattle.mp_tree.specs.declared.reading.DocsFault.{DocsFault}
 use Rattle.mp_tree.specs.declared.reading.DocsFault.TheVariants.{NotJson, NotWhole, NotAnArray}
 use Rattle.mp_tree.specs.declared.reading.ReadFault.{ReadFault}

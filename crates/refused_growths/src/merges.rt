@@ -298,9 +298,7 @@ fn watch_converge(alloc: Global) -> Option<Seen> {
     let given = mp_merge::converge(alloc, &start, patches.as_slice(), patches.as_slice());
     Some(match &given {
         Ok(end) => Seen::answer_if(end.patched.same(&wanted) && end.joined_here.same(&join)),
-        Err(ConvergeFault::OutOfMemory | ConvergeFault::Lists(ListFault::OutOfMemory)) => {
-            Seen::NoMemory
-        }
+        Err(ConvergeFault::OutOfMemory) => Seen::NoMemory,
         Err(_) => Seen::Wrong,
     })
 }

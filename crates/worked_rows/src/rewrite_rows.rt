@@ -104,6 +104,32 @@ fn four_ways_to_one_document(rt: HostRuntime) -> Result<(), Fail> {
     Ok(())
 }
 
+/// A value of a rewriting stands three levels down in an input of `patch`: in its operation, in the JSON Patch, in
+/// the input.
+#[test]
+fn a_rewriting_that_is_too_deep_is_not_read(rt: HostRuntime) -> Result<(), Fail> {
+    for (depth, is_read) in [(124, true), (125, false)] {
+        let open = "[".repeat(rt.alloc(), depth)?;
+        let close = "]".repeat(rt.alloc(), depth)?;
+        let set = format!(in rt.alloc(); "{{\"a\":{open}{close}}}")?;
+        let input = format!(in rt.alloc(); "[{{}},{set}]")?;
+        let edits = line(&rt, &Command::Rewrite, input.as_str())?;
+        let patched = format!(in rt.alloc(); "[{{}},{edits}]")?;
+        if is_read {
+            check(&rt, &Command::Patch, patched.as_bytes(), set.as_str(), 0);
+        } else {
+            check(
+                &rt,
+                &Command::Patch,
+                patched.as_bytes(),
+                "input: not JSON",
+                2,
+            );
+        }
+    }
+    Ok(())
+}
+
 /// The text of an answer with status 0.
 pub fn line<R: Abort + AllocGlobal>(
     rt: &R,

@@ -5,8 +5,8 @@ use Rattle.mp_tree.specs.Document.{Document, object, Members, find, IsDocument, 
 use Rattle.mp_tree.specs.Look.{Path, nothing, an_object, plain, look_of, look}
 use Rattle.mp_tree.proofs.Facts.{equal_looks, is_here, IsDocument-find, same_plain}
 use Rattle.mp_merge.specs.Clash.{Compatible}
-use Rattle.mp_merge.specs.Join.{IsJoin}
-use Rattle.mp_merge.specs.Laws.{CompatibleByNames, CompatibleIfEqual, IsJoinAt, JoinByNames, JoinOfEqual}
+use Rattle.mp_merge.specs.Join.{IsJoin, IsJoinAt}
+use Rattle.mp_merge.specs.Laws.{CompatibleByNames, CompatibleIfEqual, JoinByNames, JoinOfEqual}
 use Rattle.mp_merge.proofs.Clashes.ByName.{clash_at_root, compatible-self, compatible-sym}
 use Rattle.mp_merge.proofs.Collections.Elements.{Contains-head, Contains-tail, Contains-cases, Contains-one}
 use Rattle.mp_merge.proofs.Joins.Laws.{compatible_from_join, join_is_idempotent}

@@ -18,4 +18,5 @@ abbrev mutual
   pub WalksMembers : Path → Members → Members → List Path → Type 0
   WalksMembers s no_members qs places = places ≡ []
   WalksMembers s (member n p ps) qs places =
-      (first : List Path) × (rest : List Path) × (places ≡ first ++ rest) × WalksClashes (s ++ n ∷ []) p (find n qs) first × WalksMembers s ps qs rest
+      (first : List Path) × (rest : List Path) × (places ≡ first ++ rest)
+      × WalksClashes (s ++ n ∷ []) p (find n qs) first × WalksMembers s ps qs rest

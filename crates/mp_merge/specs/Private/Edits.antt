@@ -43,4 +43,5 @@ abbrev mutual
   pub AreMemberEdits : Path → Members → Members → List GuardedEdit → Type 0
   AreMemberEdits s no_members ds found = found ≡ []
   AreMemberEdits s (member n p ps) ds found =
-      (first : List GuardedEdit) × (rest : List GuardedEdit) × (found ≡ first ++ rest) × AreEdits (s ++ n ∷ []) p (find n ds) first × AreMemberEdits s ps ds rest
+      (first : List GuardedEdit) × (rest : List GuardedEdit) × (found ≡ first ++ rest)
+      × AreEdits (s ++ n ∷ []) p (find n ds) first × AreMemberEdits s ps ds rest

@@ -1,6 +1,7 @@
 -- What the walk over two compatible patches computes. Only private clauses cite it.
 use Rattle.std.specs.Prelude.{Option, None, Some}
-use Rattle.mp_tree.specs.Document.{Document, null, flag, whole, string, list, object, Members, no_members, member, find, put}
+use Rattle.mp_tree.specs.Document.{Document, null, flag, whole, string, list, object, Members, no_members, member, find}
+use Rattle.mp_tree.specs.Document.{put}
 use Rattle.mp_merge.specs.Application.{target_members}
 
 -- what was joined before stays, where there is something
