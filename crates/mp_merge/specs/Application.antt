@@ -1,6 +1,6 @@
 -- Applying a merge patch (RFC 7396 section 2).
 use Rattle.std.specs.Prelude.{List, [], ◌∷◌, ℕ, Option, None, Some}
-use Rattle.mp_tree.specs.Document.{Document, null, flag, whole, string, list, object, Members, no_members, member, find}
+use Rattle.mp_tree.specs.Document.{Document, null, object, Members, no_members, member, find}
 use Rattle.mp_tree.specs.Document.{put, without, depth}
 
 -- the members of a target: none where it is absent or no object
@@ -11,21 +11,13 @@ target_members _ = no_members
 -- n is taken out where the patch has null there, and else is set to the merged value
 abbrev pub set_or_remove : List ℕ → Document → Document → Members → Members
 set_or_remove n null merged ms = without n ms
-set_or_remove n (flag b) merged ms = put n merged ms
-set_or_remove n (whole z) merged ms = put n merged ms
-set_or_remove n (string s) merged ms = put n merged ms
-set_or_remove n (list ds) merged ms = put n merged ms
-set_or_remove n (object ps) merged ms = put n merged ms
+set_or_remove n p merged ms = put n merged ms
 
 -- MergePatch(target, patch)
 abbrev mutual
   pub merge_patch : Option Document → Document → Document
-  merge_patch t null = null
-  merge_patch t (flag b) = flag b
-  merge_patch t (whole z) = whole z
-  merge_patch t (string s) = string s
-  merge_patch t (list ds) = list ds
   merge_patch t (object ps) = object (merge_patch_members (target_members t) ps)
+  merge_patch t p = p
 
   -- each name of the patch is changed, and what the patch does not carry stays
   pub merge_patch_members : Members → Members → Members
@@ -47,11 +39,7 @@ depth_of (Some d) = depth d
 -- nothing where the patch has null, else the merged value
 abbrev pub unless_null : Document → Document → Option Document
 unless_null null merged = None
-unless_null (flag b) merged = Some merged
-unless_null (whole z) merged = Some merged
-unless_null (string s) merged = Some merged
-unless_null (list ds) merged = Some merged
-unless_null (object ps) merged = Some merged
+unless_null p merged = Some merged
 
 -- what the target has stays where the patch does not carry the name
 abbrev pub after_patch : Option Document → Option Document → Option Document

@@ -19,10 +19,6 @@ PairwiseCompatible patches = (p q : Document) → Contains patches p → Contain
 abbrev pub CompatibleBelow : List Document → ℕ → Document → Type 0
 CompatibleBelow patches k q = (i : ℕ) (p : Document) → i < k → slice_get patches i ≡ Some p → Compatible p q
 
--- patch number k is compatible with those before it
-abbrev pub IsFreeBelow : List Document → ℕ → Type 0
-IsFreeBelow patches k = (q : Document) → slice_get patches k ≡ Some q → CompatibleBelow patches k q
-
 -- `first` is the least number of a patch before number `second` that clashes with it, and `places` are all their
 -- conflicts
 pub record IsClashBelow (patches : List Document) (first second : ℕ) (places : List Path) : Type 0 where
@@ -38,7 +34,7 @@ pub record IsClashBelow (patches : List Document) (first second : ℕ) (places :
 -- clashes with it, and `places` are all conflicts of the two: the pair that is told of the list
 pub record IsToldPair (patches : List Document) (first second : ℕ) (places : List Path) : Type 0 where
   pub clash : IsClashBelow patches first second places
-  pub least_second : (k : ℕ) → k < second → IsFreeBelow patches k
+  pub least_second : (k : ℕ) (q : Document) → k < second → slice_get patches k ≡ Some q → CompatibleBelow patches k q
 
 -- why a list has no join; want of memory says nothing of it
 abbrev pub IsJoinAllFault : ListFault → List Document → Type 0

@@ -2,18 +2,14 @@
 -- list of patches counts: neither order nor repetition can be expressed.
 use Rattle.std.specs.Prelude.{◌≡◌, ◌≢◌, ℕ, List, [], ◌∷◌, ◌++◌}
 use Rattle.std.specs.List.{Contains}
-use Rattle.mp_tree.specs.Document.{Document, IsDocument, null, flag, whole, string, list, object}
+use Rattle.mp_tree.specs.Document.{Document, IsDocument, null}
 use Rattle.mp_tree.specs.Look.{Path, Look, nothing, an_object, plain, look}
 
 -- what a value that is no map leaves where a patch has it: itself, but a null below the root removes
 abbrev pub left_by : Document → Path → Look
 left_by v [] = plain v
 left_by null (n ∷ w) = nothing
-left_by (flag b) (n ∷ w) = plain (flag b)
-left_by (whole z) (n ∷ w) = plain (whole z)
-left_by (string s) (n ∷ w) = plain (string s)
-left_by (list ds) (n ∷ w) = plain (list ds)
-left_by (object ms) (n ∷ w) = plain (object ms)
+left_by v w = plain v
 
 -- the patch has nothing at the path, and no value that is no map on the way there
 pub record LeavesAlone (p : Document) (w : Path) : Type 0 where

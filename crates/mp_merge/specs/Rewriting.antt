@@ -4,7 +4,7 @@ use Rattle.std.specs.Prelude.{◌≡◌, ◌↔◌, List, [], ◌∷◌, ◌++�
 use Rattle.std.specs.List.{Contains, flat_map}
 use Rattle.std.specs.List.Sorted.{IsStrictlySortedBy}
 use Rattle.mp_tree.specs.Document.{Document}
-use Rattle.mp_tree.specs.Look.{Path, Look, nothing, an_object, plain, look}
+use Rattle.mp_tree.specs.Look.{Path, Look, nothing, look}
 use Rattle.mp_pointer.specs.Part.{part}
 use Rattle.mp_patch.specs.Operation.{Operation, add, remove, replace, test}
 use Rattle.mp_merge.specs.Application.{merge_patch, unless_null}
@@ -22,8 +22,7 @@ part_left (n ∷ w) (Some q) = unless_null q (merge_patch None q)
 abbrev pub edit_to : Path → Look → Option Document → Operation
 edit_to w l None = remove w
 edit_to w nothing (Some v) = add w v
-edit_to w an_object (Some v) = replace w v
-edit_to w (plain x) (Some v) = replace w v
+edit_to w here (Some v) = replace w v
 
 -- the edit of d and p at the path
 abbrev pub edit : Document → Document → Path → Operation
@@ -37,15 +36,11 @@ guard_of w (Some v) = test w v ∷ []
 abbrev pub guards : Document → List Path → List Operation
 guards d places = flat_map (λ w. guard_of w (part d w)) places
 
--- the places are the edit places and no others
-abbrev pub AreEditPlaces : Document → Document → List Path → Type 0
-AreEditPlaces d p places = (w : Path) → Contains places w ↔ IsEditPlace d p w
-
 -- the guarded edits of d and p: first the tests, then each edit, both in the order of paths
 pub record IsRewriting (d p : Document) (operations : List Operation) : Type 0 where
   pub places : List Path
   pub rising : IsStrictlySortedBy path_cmp places
-  pub all : AreEditPlaces d p places
+  pub all : (w : Path) → Contains places w ↔ IsEditPlace d p w
   pub guarded : operations ≡ guards d places ++ map (edit d p) places
 
 abbrev pub HasNoRepeats : List Path → Type 0
@@ -56,8 +51,8 @@ HasNoRepeats (w ∷ places) = ¬ Contains places w × HasNoRepeats places
 pub record ListsEdits (d p : Document) (operations : List Operation) : Type 0 where
   pub places : List Path
   pub rising : IsStrictlySortedBy path_cmp places
-  pub all : AreEditPlaces d p places
+  pub all : (w : Path) → Contains places w ↔ IsEditPlace d p w
   pub taken : List Path
   pub once : HasNoRepeats taken
-  pub same : AreEditPlaces d p taken
+  pub same : (w : Path) → Contains taken w ↔ IsEditPlace d p w
   pub guarded : operations ≡ guards d places ++ map (edit d p) taken

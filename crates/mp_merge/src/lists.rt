@@ -3,7 +3,8 @@ ghost use Rattle.std.specs.Prelude.{◌≡◌, ◌<◌, ◌≤◌, ◌+◌, ℕ,
 ghost use Rattle.mp_tree.specs.Document.{depth};
 ghost use Rattle.mp_tree.specs.View.{document};
 ghost use Rattle.mp_merge.specs.Join.{IsJoin};
-ghost use Rattle.mp_merge.specs.Lists.{AreWithin, IsJoinAllFault, IsReplayFault, IsFreeBelow, IsClashBelow};
+ghost use Rattle.mp_merge.specs.Lists.{AreWithin, IsJoinAllFault, IsReplayFault, IsClashBelow};
+ghost use Rattle.mp_merge.specs.Private.Clashes.{IsFreeBelow};
 ghost use Rattle.mp_merge.specs.Outcome.{IsOutcome};
 
 use crate::comparing::{compatible, conflict};

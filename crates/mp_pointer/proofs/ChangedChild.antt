@@ -4,7 +4,7 @@ use Rattle.std.specs.Ordering.{match_ordering}
 use Rattle.std.specs.Str.{bytes_eq}
 use Rattle.mp_tree.specs.Document.{Document, list, object, Items, no_items, item, Members, member, no_members, name_cmp, is_name, find, put, IsMap}
 use Rattle.mp_tree.proofs.Facts.{same_from_cmp, find-below, IsBelow-trans, set_item, count_of-set, nth-set, find-put_same, find-put_other}
-use Rattle.mp_pointer.specs.Difference.{kind_here, names, elements, names_of}
+use Rattle.mp_pointer.specs.Difference.{kind_of, names, elements, names_of}
 use Rattle.mp_pointer.specs.Part.{child, element_from, numeral}
 use Rattle.mp_tree.specs.Elements.{nth}
 use Rattle.mp_pointer.proofs.Indices.{elsewhere, child-numeral}
@@ -12,7 +12,7 @@ use Rattle.mp_pointer.proofs.Parts.{child-object, child-list}
 
 -- d has x where the token names a child, e has y there, and nothing else differs
 pub record ChildChanges (token : List ℕ) (d e x y : Document) : Type 0 where
-  pub alike : kind_here d ≡ kind_here e
+  pub alike : kind_of (Some d) ≡ kind_of (Some e)
   pub others : (m : List ℕ) → m ≢ token → child m d ≡ child m e
   pub here : child token d ≡ Some x
   pub there : child token e ≡ Some y

@@ -5,7 +5,7 @@ use Rattle.std.specs.Str.{bytes_eq}
 use Rattle.mp_tree.specs.Document.{Document, null, flag, whole, string, list, object, Items, no_items, item, Members, no_members, member, find, IsDocument, AreDocuments, IsMap, depth, items_depth, members_depth}
 use Rattle.mp_tree.specs.Elements.{nth}
 use Rattle.mp_tree.proofs.Facts.{cases_same, is_name-self, find-below, value-depth}
-use Rattle.mp_pointer.specs.Difference.{DifferOnlyAt, Kind, absent, scalar, names, elements, kind, kind_here, kind_of}
+use Rattle.mp_pointer.specs.Difference.{DifferOnlyAt, Kind, absent, scalar, names, elements, kind, kind_of}
 use Rattle.mp_pointer.specs.Part.{part, child, element_from, numeral}
 use Rattle.mp_pointer.specs.Laws.{PartsAreShallower}
 use Rattle.mp_pointer.specs.Spelling.{Tokens}
@@ -54,7 +54,7 @@ IsWithin n d = (u : Tokens) → Nests (kind d u) → length u < n
 abbrev nests_from : Option Document → Tokens → Type 0
 nests_from o u = Nests (kind_of (option_and_then (λ d. part d u) o))
 
-nests-depth : (x : Document) → Nests (kind_here x) → 0 < depth x
+nests-depth : (x : Document) → Nests (kind_of (Some x)) → 0 < depth x
 nests-depth null nests = absurd nests
 nests-depth (flag b) nests = absurd nests
 nests-depth (whole z) nests = absurd nests

@@ -5,7 +5,7 @@ use Rattle.std.specs.Str.{bytes_eq}
 use Rattle.mp_tree.specs.Document.{Document, null, flag, whole, string, list, object, Items, no_items, item, Members, no_members, member, name_cmp, find, IsBelow, IsDocument, AreDocuments, IsMap}
 use Rattle.mp_tree.specs.Elements.{nth}
 use Rattle.mp_tree.proofs.Facts.{cases_same, is_name-self, find-below, IsDocument-find}
-use Rattle.mp_pointer.specs.Difference.{DifferOnlyAt, Kind, absent, scalar, names, elements, kind, kind_here, kind_of, names_of}
+use Rattle.mp_pointer.specs.Difference.{DifferOnlyAt, Kind, absent, scalar, names, elements, kind, kind_of, names_of}
 use Rattle.mp_pointer.specs.Part.{part, child, element_from, numeral}
 use Rattle.mp_pointer.specs.Laws.{PartsAreDocuments}
 use Rattle.mp_pointer.specs.Spelling.{Tokens}
@@ -68,7 +68,7 @@ ascends : (ms : Members) → IsMap ms → Ascends (names_of ms)
 ascends no_members good = tt
 ascends (member m d ms) good = (all_above m ms good.1, ascends ms good.2)
 
-here_ordered : (x : Document) → IsDocument x → IsOrdered (kind_here x)
+here_ordered : (x : Document) → IsDocument x → IsOrdered (kind_of (Some x))
 here_ordered null good = tt
 here_ordered (flag b) good = tt
 here_ordered (whole z) good = tt

@@ -3,7 +3,7 @@ use Rattle.std.proofs.Common.{◌≡◌, ℕ, suc, List, [], ◌∷◌, ◌++◌
 use Rattle.mp_tree.specs.Document.{Document, null, flag, whole, string, list, object, Items, no_items, item, Members, no_members, member, find, is_name, IsBelow, IsDocument, AreDocuments, IsMap}
 use Rattle.mp_tree.proofs.Facts.{find-below, cases_same, is_name-self}
 use Rattle.mp_pointer.specs.Laws.{EqualsByPart}
-use Rattle.mp_pointer.specs.Difference.{Kind, scalar, kind, kind_here, kind_of, names_of}
+use Rattle.mp_pointer.specs.Difference.{Kind, scalar, kind, kind_of, names_of}
 use Rattle.mp_pointer.specs.Part.{numeral, part}
 use Rattle.mp_tree.specs.Elements.{count_of, nth}
 use Rattle.mp_pointer.specs.Spelling.{Tokens, BeginsWith}
@@ -14,7 +14,7 @@ use Rattle.mp_pointer.proofs.Parts.{child-object, kind-append}
 abbrev kind_from : Option Document → Tokens → Kind
 kind_from o u = kind_of (option_and_then (λ d. part d u) o)
 
-same_scalar : (v e : Document) → scalar v ≡ kind_here e → v ≡ e
+same_scalar : (v e : Document) → scalar v ≡ kind_of (Some e) → v ≡ e
 same_scalar v null alike = cc
 same_scalar v (flag b) alike = cc
 same_scalar v (whole z) alike = cc

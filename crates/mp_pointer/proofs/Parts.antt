@@ -2,7 +2,7 @@
 use Rattle.std.proofs.Common.{◌≡◌, ℕ, List, [], ◌∷◌, ◌++◌, Option, None, Some, option_and_then, refl, sym, ap, ◌∙◌, ◌≢◌, ap₂, true≢false}
 use Rattle.mp_tree.specs.Document.{is_name, Document, list, object, Items, Members, find}
 use Rattle.mp_tree.proofs.Facts.{cases_same, is_name-self}
-use Rattle.mp_pointer.specs.Difference.{DifferOnlyAt, kind, kind_here, kind_of}
+use Rattle.mp_pointer.specs.Difference.{DifferOnlyAt, kind, kind_of}
 use Rattle.mp_pointer.specs.Part.{child, element_from, part}
 use Rattle.mp_pointer.specs.Spelling.{Tokens, BeginsWith}
 
@@ -51,7 +51,7 @@ pub DifferOnlyAt-root : (d e : Document) → DifferOnlyAt [] d e
 DifferOnlyAt-root d e u apart = absurd (apart (u, refl))
 
 -- where two documents of one kind have the same children but for that of one token, and those differ at t alone
-pub DifferOnlyAt-child : (token : List ℕ) (t : Tokens) (d e x y : Document) → kind_here d ≡ kind_here e → ((m : List ℕ) → m ≢ token → child m d ≡ child m e) → child token d ≡ Some x → child token e ≡ Some y → DifferOnlyAt t x y
+pub DifferOnlyAt-child : (token : List ℕ) (t : Tokens) (d e x y : Document) → kind_of (Some d) ≡ kind_of (Some e) → ((m : List ℕ) → m ≢ token → child m d ≡ child m e) → child token d ≡ Some x → child token e ≡ Some y → DifferOnlyAt t x y
     → DifferOnlyAt (token ∷ t) d e
 DifferOnlyAt-child token t d e x y alike others here there only [] apart = alike
 DifferOnlyAt-child token t d e x y alike others here there only (m ∷ u) apart =

@@ -1,6 +1,6 @@
 -- Two documents that differ at one place of a pointer alone.
 use Rattle.std.specs.Prelude.{◌≡◌, ℕ, List, [], ◌∷◌, Option, None, Some}
-use Rattle.mp_tree.specs.Document.{Document, null, flag, whole, string, list, object, Members, no_members, member}
+use Rattle.mp_tree.specs.Document.{Document, list, object, Members, no_members, member}
 use Rattle.mp_tree.specs.Elements.{count_of}
 use Rattle.mp_pointer.specs.Part.{part}
 use Rattle.mp_pointer.specs.Spelling.{Tokens, BeginsWith}
@@ -17,17 +17,11 @@ names_of no_members = []
 names_of (member n d ms) = n ∷ names_of ms
 
 -- a scalar with its value, a map with its names, a list with its length
-abbrev pub kind_here : Document → Kind
-kind_here null = scalar null
-kind_here (flag b) = scalar (flag b)
-kind_here (whole z) = scalar (whole z)
-kind_here (string s) = scalar (string s)
-kind_here (list ds) = elements (count_of ds)
-kind_here (object ms) = names (names_of ms)
-
 abbrev pub kind_of : Option Document → Kind
 kind_of None = absent
-kind_of (Some d) = kind_here d
+kind_of (Some (list ds)) = elements (count_of ds)
+kind_of (Some (object ms)) = names (names_of ms)
+kind_of (Some d) = scalar d
 
 abbrev pub kind : Document → Tokens → Kind
 kind d t = kind_of (part d t)

@@ -2,7 +2,7 @@
 use Rattle.std.specs.Prelude.{◌+◌, ℕ, zero, suc, List, [], ◌∷◌, map, if◌then◌else◌, Option, None, Some, option_and_then}
 use Rattle.std.specs.Int.Digits.{digits_of}
 use Rattle.std.specs.Str.{bytes_eq}
-use Rattle.mp_tree.specs.Document.{Document, null, flag, whole, string, list, object, Items, no_items, item, find}
+use Rattle.mp_tree.specs.Document.{Document, list, object, Items, no_items, item, find}
 use Rattle.mp_pointer.specs.Bytes.{digit_zero}
 use Rattle.mp_pointer.specs.Spelling.{Tokens}
 
@@ -18,12 +18,9 @@ element_from i token (item d ds) = if bytes_eq token (numeral i) then Some d els
 
 -- what one token names: at a map the value of that name, at a list the element of that index, at a scalar nothing
 unfoldable pub child : List ℕ → Document → Option Document
-child token null = None
-child token (flag b) = None
-child token (whole z) = None
-child token (string s) = None
 child token (list ds) = element_from 0 token ds
 child token (object ms) = find token ms
+child token scalar = None
 
 abbrev pub part : Document → Tokens → Option Document
 part d [] = Some d

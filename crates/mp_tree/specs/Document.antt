@@ -60,12 +60,9 @@ IsBelow n (member m d ms) = (name_cmp n m ≡ Less) × IsBelow n ms
 -- Each object has its names once, in ascending order: such a list of members is a finite map.
 abbrev mutual
   pub IsDocument : Document → Type 0
-  IsDocument null = ⊤
-  IsDocument (flag b) = ⊤
-  IsDocument (whole z) = ⊤
-  IsDocument (string s) = ⊤
   IsDocument (list ds) = AreDocuments ds
   IsDocument (object ms) = IsMap ms
+  IsDocument scalar = ⊤
 
   pub AreDocuments : Items → Type 0
   AreDocuments no_items = ⊤
@@ -80,12 +77,9 @@ abbrev mutual
 -- 0 for a scalar; one more than the deepest part for a list or an object, and 1 for an empty one
 abbrev mutual
   pub depth : Document → ℕ
-  depth null = 0
-  depth (flag b) = 0
-  depth (whole z) = 0
-  depth (string s) = 0
   depth (list ds) = suc (items_depth ds)
   depth (object ms) = suc (members_depth ms)
+  depth scalar = 0
 
   pub items_depth : Items → ℕ
   items_depth no_items = 0
@@ -106,12 +100,11 @@ IsWhole z = (negsuc (2 ^ 63 - 1) ≤ℤ z) × (z ≤ℤ pos (2 ^ 64 - 1))
 -- N holds of each number, and S of each text and of each name
 abbrev mutual
   pub Throughout : (ℤ → Type 0) → (List ℕ → Type 0) → Document → Type 0
-  Throughout N S null = ⊤
-  Throughout N S (flag b) = ⊤
   Throughout N S (whole z) = N z
   Throughout N S (string s) = S s
   Throughout N S (list ds) = ThroughoutItems N S ds
   Throughout N S (object ms) = ThroughoutMembers N S ms
+  Throughout N S other = ⊤
 
   pub ThroughoutItems : (ℤ → Type 0) → (List ℕ → Type 0) → Items → Type 0
   ThroughoutItems N S no_items = ⊤

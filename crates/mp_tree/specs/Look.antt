@@ -1,6 +1,6 @@
 -- What stands at a path: the way in which a merge patch (RFC 7396) sees a document. A list is seen whole.
 use Rattle.std.specs.Prelude.{ℕ, List, [], ◌∷◌, Option, None, Some}
-use Rattle.mp_tree.specs.Document.{Document, null, flag, whole, string, list, object, find}
+use Rattle.mp_tree.specs.Document.{Document, object, find}
 
 -- a list of names
 abbrev pub Path : Type 0
@@ -14,21 +14,13 @@ pub data Look : Type 0 where
 
 -- the look at the empty path: the document itself, where it is no map
 abbrev pub look_here : Document → Look
-look_here null = plain null
-look_here (flag b) = plain (flag b)
-look_here (whole z) = plain (whole z)
-look_here (string s) = plain (string s)
-look_here (list ds) = plain (list ds)
 look_here (object ms) = an_object
+look_here d = plain d
 
 -- d[n], where d is a map that has n
 abbrev pub at_name : List ℕ → Document → Option Document
-at_name n null = None
-at_name n (flag b) = None
-at_name n (whole z) = None
-at_name n (string s) = None
-at_name n (list ds) = None
 at_name n (object ms) = find n ms
+at_name n d = None
 
 -- the look of a document that may be absent
 abbrev pub look_of : Option Document → Path → Look

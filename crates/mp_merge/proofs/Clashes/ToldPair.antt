@@ -9,7 +9,8 @@ use Rattle.mp_merge.specs.Application.{in_turn}
 use Rattle.mp_merge.specs.Clash.{Compatible, AreConflictsOfPair}
 use Rattle.mp_merge.specs.Join.{IsJoin}
 use Rattle.mp_merge.specs.Laws.{CompatibleHaveNone, CompatibleOrTold, HasOneToldPair, OutcomeExists}
-use Rattle.mp_merge.specs.Lists.{PairwiseCompatible, CompatibleBelow, IsFreeBelow, IsClashBelow, IsToldPair}
+use Rattle.mp_merge.specs.Lists.{PairwiseCompatible, CompatibleBelow, IsClashBelow, IsToldPair}
+use Rattle.mp_merge.specs.Private.Clashes.{IsFreeBelow}
 use Rattle.mp_merge.specs.Outcome.{IsOutcome}
 use Rattle.mp_merge.proofs.Clashes.Conflicts.{compatible_or_conflicts, conflicts_clash, one_list}
 use Rattle.mp_merge.proofs.Clashes.ByName.{compatible-self, compatible-sym}
@@ -30,7 +31,7 @@ no_earlier : (patches : List Document) (first second other_first other_second : 
     → IsToldPair patches first second places → IsClashBelow patches other_first other_second other_places → other_second < second → ⊥
 no_earlier patches first second other_first other_second places other_places told clash less =
     conflicts_clash clash.one clash.other other_places clash.conflicts
-    (told.least_second other_second less clash.other clash.at_second other_first clash.one clash.in_order clash.at_first)
+    (told.least_second other_second clash.other less clash.at_second other_first clash.one clash.in_order clash.at_first)
 
 module _ (patches : List Document) (second : ℕ) where
   no_less : (first other_first : ℕ) (places other_places : List Path)
@@ -183,7 +184,7 @@ module _ (patches : List Document) (good : All IsDocument patches) where
               conflicts = clash.5;
               least_first = clash.6;
             };
-            least_second = free;
+            least_second = λ j q below at. free j below q at;
           },
         )
       ]

@@ -11,7 +11,8 @@ use Rattle.mp_tree.specs.declared.doc.Doc.{Doc}
 use Rattle.mp_tree.proofs.Facts.{IsDocument-document}
 use Rattle.mp_merge.specs.Clash.{Compatible}
 use Rattle.mp_merge.specs.Join.{IsJoin}
-use Rattle.mp_merge.specs.Lists.{CompatibleBelow, IsFreeBelow, IsClashBelow, IsToldPair}
+use Rattle.mp_merge.specs.Lists.{CompatibleBelow, IsClashBelow, IsToldPair}
+use Rattle.mp_merge.specs.Private.Clashes.{IsFreeBelow}
 use Rattle.mp_merge.specs.Private.Unions.{union}
 use Rattle.mp_merge.proofs.Clashes.ByName.{compatible-sym}
 use Rattle.mp_merge.proofs.Joins.Laws.{compatible_from_join, compatible_with_join}
@@ -62,7 +63,7 @@ below_contains patches k p within at =
 pub told_pair : (patches : List Document) (first second : ℕ) (places : List Path) (j : Document) → second < length patches → IsJoin (take second patches) j → IsClashBelow patches first second places → IsToldPair patches first second places
 told_pair patches first second places j within joined clash = record {
   clash = clash;
-  least_second = λ k below q at_k i p less at_i. compatible_from_join (take second patches) j joined p q (contains_below patches second i p (omega arith) (omega arith) at_i) (contains_below patches second k q below (omega arith) at_k);
+  least_second = λ k q below at_k i p less at_i. compatible_from_join (take second patches) j joined p q (contains_below patches second i p (omega arith) (omega arith) at_i) (contains_below patches second k q below (omega arith) at_k);
 }
 
 -- a patch that is compatible with those below is so with their join

@@ -1,5 +1,5 @@
 -- The edits of a document and a patch, taken in any order, lead to the application.
-use Rattle.std.proofs.Common.{◌≡◌, ◌≢◌, ◌≤◌, ◌+◌, ◌⊎◌, inl, inr, ℕ, List, [], ◌∷◌, ◌++◌, map, length, Option, Some, None, IfSome, refl, sym, ap, ◌∙◌, subst, arith, append_assoc, append-nil}
+use Rattle.std.proofs.Common.{◌↔◌, ◌≡◌, ◌≢◌, ◌≤◌, ◌+◌, ◌⊎◌, inl, inr, ℕ, List, [], ◌∷◌, ◌++◌, map, length, Option, Some, None, IfSome, refl, sym, ap, ◌∙◌, subst, arith, append_assoc, append-nil}
 use Rattle.std.specs.List.{Contains}
 use Rattle.mp_tree.specs.Document.{Document, null, flag, whole, string, list, object, find, IsDocument, depth, depth_limit}
 use Rattle.mp_tree.specs.Look.{Path, nothing, an_object, look, look_of}
@@ -12,7 +12,7 @@ use Rattle.mp_patch.specs.Run.{IsRefused, Runs}
 use Rattle.mp_merge.specs.Application.{target_members, merge_patch, merge_patch_members, unless_null, after_patch, depth_of}
 use Rattle.mp_merge.specs.EditPlace.{IsEditPlace}
 use Rattle.mp_merge.specs.Laws.{EditsInAnyOrder, RewritingRuns}
-use Rattle.mp_merge.specs.Rewriting.{part_left, edit_to, edit, AreEditPlaces, HasNoRepeats}
+use Rattle.mp_merge.specs.Rewriting.{part_left, edit_to, edit, HasNoRepeats}
 use Rattle.mp_merge.proofs.Application.ByName.{IsDocument-merge_patch}
 use Rattle.mp_merge.proofs.Application.Depth.{depth-find, depth-merge_patch}
 use Rattle.mp_merge.proofs.Rewritings.ChangedPath.{with_at, IsDocument-with_at, look-with_at, look-elsewhere, made}
@@ -242,7 +242,7 @@ module _ (takes : OperationsAreTaken) (d p : Document) (good : IsDocument d) (pa
     kept = λ v none. refl;
   }
 
-edits_run : OperationsAreTaken → (d p : Document) → IsDocument d → IsDocument p → depth p ≤ depth_limit → (taken : List Path) → HasNoRepeats taken → AreEditPlaces d p taken → Runs d (map (edit d p) taken) (merge_patch (Some d) p)
+edits_run : OperationsAreTaken → (d p : Document) → IsDocument d → IsDocument p → depth p ≤ depth_limit → (taken : List Path) → HasNoRepeats taken → ((w : Path) → Contains taken w ↔ IsEditPlace d p w) → Runs d (map (edit d p) taken) (merge_patch (Some d) p)
 edits_run takes d p good patch shallow taken once all =
     run_from takes d p good patch shallow taken [] d (λ u at. absurd (Contains-nil u at)) (λ u at. (all u).0 at) once (λ u at none. Contains-nil u none) (λ u place. inr ((all u).1 place)) (start takes d p good patch shallow)
 

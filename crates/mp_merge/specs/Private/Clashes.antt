@@ -1,7 +1,8 @@
 -- What the walk over two patches adds to a list of paths. Only private clauses cite it.
-use Rattle.std.specs.Prelude.{◌≡◌, ◌≢◌, ◌⊎◌, List, [], ◌∷◌, ◌++◌, Option, None, Some}
+use Rattle.std.specs.Prelude.{◌≡◌, ◌≢◌, ◌⊎◌, ℕ, List, [], ◌∷◌, ◌++◌, Option, None, Some, slice_get}
 use Rattle.mp_tree.specs.Document.{Document, object, Members, no_members, member, find}
 use Rattle.mp_tree.specs.Look.{Path}
+use Rattle.mp_merge.specs.Lists.{CompatibleBelow}
 
 -- at the path s: no clash where the two are equal, else that one alone
 abbrev pub IsOneClash : Path → Document → Document → List Path → Type 0
@@ -20,3 +21,7 @@ abbrev mutual
   WalksMembers s (member n p ps) qs places =
       (first : List Path) × (rest : List Path) × (places ≡ first ++ rest)
       × WalksClashes (s ++ n ∷ []) p (find n qs) first × WalksMembers s ps qs rest
+
+-- patch number k is compatible with those before it
+abbrev pub IsFreeBelow : List Document → ℕ → Type 0
+IsFreeBelow patches k = (q : Document) → slice_get patches k ≡ Some q → CompatibleBelow patches k q

@@ -5,7 +5,8 @@ use Rattle.mp_tree.specs.View.{document}
 use Rattle.mp_tree.proofs.Facts.{IsDocument-document}
 use Rattle.mp_merge.specs.Clash.{Compatible}
 use Rattle.mp_merge.specs.Join.{IsJoin}
-use Rattle.mp_merge.specs.Lists.{IsFreeBelow, IsClashBelow}
+use Rattle.mp_merge.specs.Lists.{IsClashBelow}
+use Rattle.mp_merge.specs.Private.Clashes.{IsFreeBelow}
 use Rattle.mp_merge.proofs.Joins.Numbered.{at_number, told_pair, free_of_join, joined_more}
 use Rattle.mp_merge.proofs.lists.join_next.Goals as goal
 use Rattle.mp_merge.proofs.lists.join_next.Goals.{then-not-compatible+in_ok-first+in_default, else-not-compatible}
