@@ -1,6 +1,5 @@
 pub mod Depth
 pub mod Documents
-pub mod Facts
 pub mod FaultLaws
 pub mod FirstCause
 pub mod FormLaws

@@ -7,5 +7,5 @@ pub use Rattle.mp_pointer.proofs.PartDocuments.{document-changed, part-document}
 pub use Rattle.mp_pointer.proofs.PartKinds.{equals_by_part}
 pub use Rattle.mp_pointer.proofs.Parts.{child-object, part-push, DifferOnlyAt-sym, DifferOnlyAt-trans, DifferOnlyAt-root, DifferOnlyAt-child}
 pub use Rattle.mp_pointer.proofs.SomeChange.{rewrite_part}
-pub use Rattle.mp_pointer.proofs.Spellings.{has_one_fault, has_one_spelling, spellings_have_no_fault, spells_or_is_faulty}
+pub use Rattle.mp_pointer.proofs.Spellings.{has_one_spelling, spellings_have_no_fault, spells_or_is_faulty}
 pub use Rattle.mp_pointer.proofs.TokenLists.{are_same_tokens-Decides, decide_prefix, last_of, not_empty, root_is_prefix, same_last, some_last, to_end, to_last}

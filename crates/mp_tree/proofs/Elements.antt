@@ -1,8 +1,8 @@
 -- The elements of a list: as many, at an index, one of them set, one list after another.
 use Rattle.std.proofs.Common.{◌≡◌, ◌≤◌, ◌<◌, ◌++◌, ℕ, zero, suc, max, List, [], ◌∷◌, length, map, get_or, set, take, None, Some, option_map, refl, sym, ap, ap₂, ◌∙◌, arith}
 use Rattle.std.proofs.lemmas.List.{length-take-le}
-use Rattle.std.specs.List.{All, slice_get}
-use Rattle.mp_tree.specs.Document.{Document, Items, no_items, item, IsDocument, AreDocuments, items_depth}
+use Rattle.std.specs.List.{slice_get}
+use Rattle.mp_tree.specs.Document.{Document, Items, no_items, item, AreDocuments, items_depth}
 use Rattle.mp_tree.specs.Elements.{append, count_of, list_of, nth}
 use Rattle.mp_tree.specs.View.{document, items}
 use Rattle.mp_tree.specs.declared.doc.Doc.{Doc}
@@ -19,11 +19,6 @@ count-take i ds within = count_of-items (take i ds) ∙ length-take-le i ds with
 pub list_of-items : (docs : List Doc) → list_of (items docs) ≡ map document docs
 list_of-items [] = refl
 list_of-items (d ∷ docs) = ap (λ ds. document d ∷ ds) (list_of-items docs)
-
-pub IsDocument-list_of : (ds : Items) → AreDocuments ds → All IsDocument (list_of ds)
-IsDocument-list_of no_items good k d less = absurd (omega arith)
-IsDocument-list_of (item e ds) good zero d less = good.0
-IsDocument-list_of (item e ds) good (suc k) d less = IsDocument-list_of ds good.1 k d (omega arith)
 
 -- ---- at an index
 

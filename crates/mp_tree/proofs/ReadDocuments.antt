@@ -1,9 +1,9 @@
 -- What is read of the input is documents: a map is built name by name.
-use Rattle.std.proofs.Common.{◌≡◌, ℕ, List, Option, None, Some, IfSome, option_map, option_and_then, Ok, refl, subst}
+use Rattle.std.proofs.Common.{Option, None, Some, IfSome, option_map, option_and_then}
 use Rattle.serde_json.specs.Data as json
 use Rattle.serde_json.specs.Data.{Data}
-use Rattle.mp_tree.specs.Document.{Document, null, flag, whole, string, list, object, Items, item, put, IsDocument, AreDocuments, IsMap}
-use Rattle.mp_tree.specs.Text.{document_from, items_from, members_from, whole_number, reading, elements, documents_in}
+use Rattle.mp_tree.specs.Document.{whole, list, object, item, put, IsDocument, AreDocuments, IsMap}
+use Rattle.mp_tree.specs.Text.{document_from, items_from, members_from, whole_number}
 use Rattle.mp_tree.proofs.Maps.{IsMap-put}
 
 -- what holds of a value holds of what it is mapped to
@@ -32,22 +32,3 @@ mutual
   from_members : (ms : json.Members) → IfSome (members_from ms) IsMap
   from_members json.no_members = tt
   from_members (json.member n d ms) = if_both (put n) IsDocument IsMap IsMap (document_from d) (members_from ms) (λ e es good fine. IsMap-put n e es good fine) (from_data d) (from_members ms)
-
-of_elements : (d : Document) (ds : Items) → IsDocument d → elements d ≡ Ok ds → AreDocuments ds
-of_elements (list es) ds good is = let same : es ≡ ds = cc in subst AreDocuments same good
-of_elements null ds good is = absurd (cc)
-of_elements (flag b) ds good is = absurd (cc)
-of_elements (whole z) ds good is = absurd (cc)
-of_elements (string s) ds good is = absurd (cc)
-of_elements (object ms) ds good is = absurd (cc)
-
-pub AreDocuments-documents_in : (input : List ℕ) (ds : Items) → documents_in input ≡ Ok ds → AreDocuments ds
-AreDocuments-documents_in input ds is = by_reading (reading input) refl
-  where
-    by_document : (x : Data) (o : Option Document) → reading input ≡ Some x → document_from x ≡ o → AreDocuments ds
-    by_document x None read none = let fault = rw (read, none) at is in absurd (cc)
-    by_document x (Some d) read whole_ones = of_elements d ds (subst (λ (o : Option Document). IfSome o IsDocument) whole_ones (from_data x)) (rw (read, whole_ones) at is)
-
-    by_reading : (o : Option Data) → reading input ≡ o → AreDocuments ds
-    by_reading None none = let fault = rw none at is in absurd (cc)
-    by_reading (Some x) read = by_document x (document_from x) read refl

@@ -7,7 +7,6 @@ use Rattle.mp_tree.specs.Document.{Document, IsDocument}
 use Rattle.mp_tree.specs.Look.{Path, look}
 use Rattle.mp_merge.specs.Application.{in_turn}
 use Rattle.mp_merge.specs.Clash.{Compatible, AreConflictsOfPair}
-use Rattle.mp_merge.specs.Join.{IsJoin}
 use Rattle.mp_merge.specs.Laws.{CompatibleHaveNone, CompatibleOrTold, HasOneToldPair, OutcomeExists}
 use Rattle.mp_merge.specs.Lists.{PairwiseCompatible, CompatibleBelow, IsClashBelow, IsToldPair}
 use Rattle.mp_merge.specs.Private.Clashes.{IsFreeBelow}
@@ -17,7 +16,6 @@ use Rattle.mp_merge.proofs.Clashes.ByName.{compatible-self, compatible-sym}
 use Rattle.mp_merge.proofs.Collections.Elements.{Contains-head, Contains-tail}
 use Rattle.mp_merge.proofs.Clashes.Exchange.{left_of-once}
 use Rattle.mp_merge.proofs.Application.InTurn.{IsDocument-in_turn, applied_in_turn}
-use Rattle.mp_merge.proofs.Joins.Laws.{compatible_from_join}
 use Rattle.mp_merge.proofs.Joins.Numbered.{same_at}
 use Rattle.mp_merge.proofs.Outcome.{follows_from_outcome}
 use Rattle.mp_merge.proofs.Application.Looks.{left_of, says-has}
@@ -68,13 +66,6 @@ one_told_pair patches first second other_first other_second places other_places 
     let there : IsClashBelow patches other_first other_second places = subst (λ (k : ℕ). IsClashBelow patches k other_second places) at_first clash in
     (at_first, at_second, same_places patches other_second other_first places other_places there two.clash)
 
--- what is told of a pair is told of one alone
-pub one_told : {X : Type 0} (tell : ℕ → ℕ → List Path → X) (patches : List Document) (first second other_first other_second : ℕ) (places other_places : List Path)
-    → IsToldPair patches first second places → IsToldPair patches other_first other_second other_places → tell first second places ≡ tell other_first other_second other_places
-one_told tell patches first second other_first other_second places other_places one two =
-    let same = one_told_pair patches first second other_first other_second places other_places one two in
-    ap (λ k. tell k second places) same.0 ∙ ap (λ k. tell other_first k places) same.1 ∙ ap (λ ws. tell other_first other_second ws) same.2
-
 -- ---- where a pair is told
 
 Contains-numbered : (patches : List Document) (k : ℕ) (p : Document) → slice_get patches k ≡ Some p → Contains patches p
@@ -82,17 +73,11 @@ Contains-numbered [] k p at = absurd (cc)
 Contains-numbered (q ∷ patches) zero p at = let same : q ≡ p = cc in subst (λ (x : Document). Contains (q ∷ patches) x) same (Contains-head q patches)
 Contains-numbered (q ∷ patches) (suc k) p at = Contains-tail q p patches (Contains-numbered patches k p at)
 
-pub told_has_patches : (first second : ℕ) (places : List Path) → IsToldPair [] first second places → ⊥
-told_has_patches first second places told = let at = told.clash.at_first in absurd (cc)
-
 pub compatible_have_none : CompatibleHaveNone
 compatible_have_none patches first second places told free =
     let clash = told.clash in
     conflicts_clash clash.one clash.other places clash.conflicts
     (free clash.one clash.other (Contains-numbered patches first clash.one clash.at_first) (Contains-numbered patches second clash.other clash.at_second))
-
-pub told_has_no_join : (patches : List Document) (j : Document) (first second : ℕ) (places : List Path) → IsJoin patches j → IsToldPair patches first second places → ⊥
-told_has_no_join patches j first second places joined told = compatible_have_none patches first second places told (compatible_from_join patches j joined)
 
 -- patches that have an outcome are pairwise compatible
 compatible_from_outcome : (d : Document) (patches : List Document) (e : Document) → IsOutcome d patches e → PairwiseCompatible patches
@@ -106,9 +91,6 @@ outcome_exists d patches good all = (
   λ found. compatible_from_outcome d patches found.0 found.2,
   λ free. (in_turn d patches, IsDocument-in_turn d patches good all, applied_in_turn d patches good all free),
 )
-
-pub told_has_no_outcome : (d e : Document) (patches : List Document) (first second : ℕ) (places : List Path) → IsOutcome d patches e → IsToldPair patches first second places → ⊥
-told_has_no_outcome d e patches first second places outcome told = compatible_have_none patches first second places told (compatible_from_outcome d patches e outcome)
 
 -- ---- a pair is told, or the patches are pairwise compatible
 
