@@ -1,5 +1,5 @@
 -- What the commands over lists of patches answer.
-use Rattle.std.proofs.Common.{◌≡◌, ◌≢◌, ℕ, List, [], ◌∷◌, map, Result, Ok, Err, IfOk, refl, sym, subst}
+use Rattle.std.proofs.Common.{◌≡◌, ◌≢◌, ℕ, List, [], ◌∷◌, Some, map, refl, sym, subst}
 use Rattle.mp_tree.specs.Document.{Document}
 use Rattle.mp_tree.specs.View.{document, items}
 use Rattle.mp_tree.specs.declared.doc.Doc.{Doc}
@@ -11,20 +11,15 @@ use Rattle.mp_cli.specs.Lines.{Answered, wrong_shape}
 use Rattle.mp_cli.specs.Private.Answers.{list_fault}
 use Rattle.mp_tree.proofs.Facts.{list_of-items}
 
-pub no_join : (fault : ListFault) (patches : List Document) (a : Answered) → (fault ≡ OutOfMemory → ⊥) → IsJoinAllFault fault patches → a ≡ list_fault fault → IsJoinAnswer patches a
-no_join NoPatches patches a memory none is = none_joined none is
-no_join (ConflictOf first second places) patches a memory clash is = join_refused first second places.items clash is
-no_join OutOfMemory patches a memory none is = absurd (memory refl)
+pub no_join : (fault : ListFault) (patches : List Document) (a : Answered) → IsJoinAllFault fault patches → list_fault fault ≡ Some a → IsJoinAnswer patches a
+no_join NoPatches patches a none is = none_joined none (cc)
+no_join (ConflictOf first second places) patches a clash is = join_refused first second places.items clash (cc)
+no_join OutOfMemory patches a none is = absurd (cc)
 
-pub no_replay : (fault : ListFault) (start : Document) (patches : List Document) (a : Answered) → (fault ≡ OutOfMemory → ⊥) → IsReplayFault fault patches → a ≡ list_fault fault → IsReplayAnswer start patches a
-no_replay NoPatches start patches a memory never is = absurd never
-no_replay (ConflictOf first second places) start patches a memory clash is = replay_refused first second places.items clash is
-no_replay OutOfMemory start patches a memory none is = absurd (memory refl)
-
--- two facts of a result, together
-pub if_both : {X Y : Type 0} (r : Result X Y) (P Q R : X → Type 0) → IfOk r P → IfOk r Q → ((x : X) → P x → Q x → R x) → IfOk r R
-if_both (Ok x) P Q R one other both = both x one other
-if_both (Err e) P Q R one other both = tt
+pub no_replay : (fault : ListFault) (start : Document) (patches : List Document) (a : Answered) → IsReplayFault fault patches → list_fault fault ≡ Some a → IsReplayAnswer start patches a
+no_replay NoPatches start patches a never is = absurd never
+no_replay (ConflictOf first second places) start patches a clash is = replay_refused first second places.items clash (cc)
+no_replay OutOfMemory start patches a none is = absurd (cc)
 
 -- the input of `replay` is its start and the patches
 pub replay_answer : (docs ps : List Doc) (d : Doc) (a : Answered) → docs ≡ d ∷ ps → IsReplayAnswer (document d) (map document ps) a → IsReplayAnswerTo (items docs) a

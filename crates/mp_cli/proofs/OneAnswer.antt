@@ -1,5 +1,5 @@
 -- The program has one answer to a command and its input bytes.
-use Rattle.std.proofs.Common.{◌≡◌, ◌≢◌, ℕ, List, Result, Ok, Err, string_bytes, refl, sym, ap, ◌∙◌, subst}
+use Rattle.std.proofs.Common.{◌≡◌, ◌≢◌, ℕ, List, Some, Result, Ok, Err, string_bytes, refl, sym, ap, ◌∙◌, subst}
 use Rattle.std.proofs.lemmas.List.Elements.{All-head, All-tail}
 use Rattle.std.specs.List.{All}
 use Rattle.mp_tree.specs.Document.{Document, Items, no_items, item, IsDocument, IsReadable, AreDocuments}
@@ -10,11 +10,15 @@ use Rattle.mp_tree.specs.Text.{documents_in}
 use Rattle.mp_tree.specs.declared.reading.DocsFault.{DocsFault}
 use Rattle.mp_pointer.specs.Part.{part}
 use Rattle.mp_pointer.specs.Spelling.{IsFaultOf}
+use Rattle.mp_pointer.specs.declared.fault.PointerFault.{PointerFault}
+use Rattle.mp_pointer.specs.declared.fault.PointerFault.TheVariants.{OutOfMemory as PointerMemory}
 use Rattle.mp_patch.specs.Form.{shapes}
 use Rattle.mp_patch.specs.Operation.{HaveDocuments, Operation}
 use Rattle.mp_patch.specs.Run.{Runs, IsFaultOf as IsFaultOfRun}
 use Rattle.mp_patch.specs.declared.fault.ApplyFault.{ApplyFault}
 use Rattle.mp_patch.specs.declared.fault.ApplyFault.TheVariants.{Refused, OutOfMemory}
+use Rattle.mp_patch.specs.declared.fault.FormFault.{FormFault}
+use Rattle.mp_patch.specs.declared.fault.FormFault.TheVariants.{OutOfMemory as FormMemory}
 use Rattle.mp_merge.specs.Join.{IsJoin}
 use Rattle.mp_merge.specs.Lists.{HaveSameMembers, IsToldPair}
 use Rattle.mp_merge.specs.Outcome.{IsOutcome}
@@ -26,31 +30,42 @@ use Rattle.mp_cli.specs.declared.command.Command.{Command}
 use Rattle.mp_cli.specs.declared.command.Command.TheVariants.{Get, Patch, Merge, Join, Replay, Rewrite}
 use Rattle.mp_cli.proofs.ReadInputs.{are_documents, documents_of, join_is_of_some, joined_are_compatible, replayed_are_compatible, told_are_some}
 
+-- ---- a fault has one line at most, and want of memory has none
+
+one_line : {a b : Answered} → Some a ≡ Some b → a ≡ b
+one_line same = cc
+
+pub told_form : (fault : FormFault) (a : Answered) → form_fault fault ≡ Some a → fault ≢ FormMemory
+told_form fault a is memory = let none : form_fault FormMemory ≡ Some a = subst (λ f. form_fault f ≡ Some a) memory is in cc
+
+told_spelling : (fault : PointerFault) (a : Answered) → spelling_fault fault ≡ Some a → fault ≢ PointerMemory
+told_spelling fault a is memory = let none : spelling_fault PointerMemory ≡ Some a = subst (λ f. spelling_fault f ≡ Some a) memory is in cc
+
 module _ (pointers : PointerLaws) (json : PatchLaws) (merges : MergeLaws) (rewritings : RewritingLaws) where
   -- ---- `patch`
 
   module _ (d : Document) (operations : List Operation) (a b : Answered) (good : IsDocument d) (values : HaveDocuments operations) where
-    not_both : (e : Document) (fault : ApplyFault) → Runs d operations e → fault ≢ OutOfMemory → IsFaultOfRun fault d operations → ⊥
-    not_both e OutOfMemory runs memory refused = memory refl
-    not_both e (Refused k cause) runs memory refused = json.unrefused d e operations k cause good values runs refused
+    not_both : (e : Document) (fault : ApplyFault) (c : Answered) → Runs d operations e → IsFaultOfRun fault d operations → run_fault fault ≡ Some c → ⊥
+    not_both e OutOfMemory c runs refused is = cc
+    not_both e (Refused k cause) c runs refused is = json.unrefused d e operations k cause good values runs refused
 
-    one_fault : (fault other : ApplyFault) → fault ≢ OutOfMemory → other ≢ OutOfMemory → IsFaultOfRun fault d operations → IsFaultOfRun other d operations → run_fault fault ≡ run_fault other
-    one_fault OutOfMemory other memory also one two = absurd (memory refl)
-    one_fault (Refused k cause) OutOfMemory memory also one two = absurd (also refl)
-    one_fault (Refused k cause) (Refused n other) memory also one two =
+    one_fault : (fault other : ApplyFault) → IsFaultOfRun fault d operations → IsFaultOfRun other d operations → run_fault fault ≡ Some a → run_fault other ≡ Some b → a ≡ b
+    one_fault OutOfMemory other one two is was = absurd (cc)
+    one_fault (Refused k cause) OutOfMemory one two is was = absurd (cc)
+    one_fault (Refused k cause) (Refused n other) one two is was =
         let same = json.one_refusal d operations k n cause other good values one two in
-        ap (λ i. run_fault (Refused i cause)) same.0 ∙ ap (λ c. run_fault (Refused n c)) same.1
+        one_line (sym is ∙ ap (λ i. run_fault (Refused i cause)) same.0 ∙ ap (λ c. run_fault (Refused n c)) same.1 ∙ was)
 
     one_run : IsRunAnswer d operations a → IsRunAnswer d operations b → a ≡ b
     one_run (ran e fine runs is) (ran f also more was) = is ∙ ap result_line (json.one_end d e f operations good values runs more) ∙ sym was
-    one_run (ran e fine runs is) (halted fault memory refused was) = absurd (not_both e fault runs memory refused)
-    one_run (halted fault memory refused is) (ran f also more was) = absurd (not_both f fault more memory refused)
-    one_run (halted fault memory refused is) (halted other also again was) = is ∙ one_fault fault other memory also refused again ∙ sym was
+    one_run (ran e fine runs is) (halted fault refused was) = absurd (not_both e fault b runs refused was)
+    one_run (halted fault refused is) (ran f also more was) = absurd (not_both f fault a more refused is)
+    one_run (halted fault refused is) (halted other again was) = one_fault fault other refused again is was
 
   one_patch : (d patch : Document) (a b : Answered) → IsDocument d → IsDocument patch → IsPatchAnswer d patch a → IsPatchAnswer d patch b → a ≡ b
-  one_patch d patch a b good fine (malformed fault memory one is) (malformed other also two was) = is ∙ ap form_fault (json.one_fault patch fault other memory also one two) ∙ sym was
-  one_patch d patch a b good fine (malformed fault memory one is) (formed operations forms runs) = absurd (memory (json.form_unfaulty patch operations fault forms one))
-  one_patch d patch a b good fine (formed operations forms runs) (malformed fault memory one is) = absurd (memory (json.form_unfaulty patch operations fault forms one))
+  one_patch d patch a b good fine (malformed fault one is) (malformed other two was) = one_line (sym is ∙ ap form_fault (json.one_fault patch fault other (told_form fault a is) (told_form other b was) one two) ∙ was)
+  one_patch d patch a b good fine (malformed fault one is) (formed operations forms runs) = absurd (told_form fault a is (json.form_unfaulty patch operations fault forms one))
+  one_patch d patch a b good fine (formed operations forms runs) (malformed fault one is) = absurd (told_form fault b is (json.form_unfaulty patch operations fault forms one))
   one_patch d patch a b good fine (formed operations forms runs) (formed others also more) =
       let same = json.one_reading patch others operations also forms in
       one_run d operations a b good (json.form_documents patch operations fine forms) runs (subst (λ (os : List Operation). IsRunAnswer d os b) same more)
@@ -118,9 +133,10 @@ module _ (pointers : PointerLaws) (json : PatchLaws) (merges : MergeLaws) (rewri
 
   one_part : (d : Document) (pointer : List ℕ) (a b : Answered) → IsPartAnswer d pointer a → IsPartAnswer d pointer b → a ≡ b
   one_part d pointer a b (spelled t one is) (spelled u two was) = is ∙ ap (λ tokens. part_line (part d tokens)) (pointers.one_spelling t u (sym one ∙ two)) ∙ sym was
-  one_part d pointer a b (spelled t one is) (misspelled fault memory two was) = absurd (memory (pointers.spelling_unfaulty t fault (subst (IsFaultOf fault) one two)))
-  one_part d pointer a b (misspelled fault memory one is) (spelled u two was) = absurd (memory (pointers.spelling_unfaulty u fault (subst (IsFaultOf fault) two one)))
-  one_part d pointer a b (misspelled fault memory one is) (misspelled other also two was) = is ∙ ap spelling_fault (pointers.one_fault pointer fault other memory also one two) ∙ sym was
+  one_part d pointer a b (spelled t one is) (misspelled fault two was) = absurd (told_spelling fault b was (pointers.spelling_unfaulty t fault (subst (IsFaultOf fault) one two)))
+  one_part d pointer a b (misspelled fault one is) (spelled u two was) = absurd (told_spelling fault a is (pointers.spelling_unfaulty u fault (subst (IsFaultOf fault) two one)))
+  one_part d pointer a b (misspelled fault one is) (misspelled other two was) =
+      one_line (sym is ∙ ap spelling_fault (pointers.one_fault pointer fault other (told_spelling fault a is) (told_spelling other b was) one two) ∙ was)
 
   one_get_to : (pointer : List ℕ) (ds : Items) (a b : Answered) → IsGetAnswerTo pointer ds a → IsGetAnswerTo pointer ds b → a ≡ b
   one_get_to pointer no_items a b is was = is ∙ sym was
@@ -138,7 +154,7 @@ module _ (pointers : PointerLaws) (json : PatchLaws) (merges : MergeLaws) (rewri
   one_answer_to Rewrite ds a b can is was = one_rewrite_to ds a b is was
 
   one_checked : (command : Command) (r : Result Items DocsFault) (a b : Answered) → ((ds : Items) → r ≡ Ok ds → All IsReadable (list_of ds)) → IsChecked command r a → IsChecked command r b → a ≡ b
-  one_checked command (Err fault) a b can is was = is ∙ sym was
+  one_checked command (Err fault) a b can is was = one_line (sym is ∙ was)
   one_checked command (Ok ds) a b can is was = one_answer_to command ds a b (can ds refl) is was
 
   pub one_answer : ReadsReadables → HasOneAnswer

@@ -17,6 +17,7 @@ use Rattle.mp_merge.specs.Join.{IsJoin}
 use Rattle.mp_merge.specs.Lists.{HaveSameMembers, IsToldPair, PairwiseCompatible}
 use Rattle.mp_merge.specs.Outcome.{IsOutcome}
 use Rattle.mp_merge.specs.Rewriting.{IsRewriting}
+use Rattle.mp_cli.proofs.OneAnswer.{told_form}
 use Rattle.mp_cli.specs.Answered.{IsRunAnswer, ran, halted, IsPatchAnswer, malformed, formed, IsJoinAnswer, joined, none_joined, join_refused, IsReplayAnswer, replayed, replay_refused, IsRewriteAnswer, rewritten, IsChecked, IsAnswered}
 use Rattle.mp_cli.specs.Lines.{Answered, conflict_line, line, no_patches, result_line, status_no_result, status_result}
 use Rattle.mp_cli.specs.Laws.{ReplicasPrintTheSame, JoinsPrintTheSame, TellsPair, HaveAClash, ClashesAreTold, JoinTellsClashes, JoinPrintedIsRead, RewritingPrintedIsRead}
@@ -165,11 +166,11 @@ module _ (texts : TextLaws) (merges : MergeLaws) where
 
     run_gives : (d e : Document) (operations : List Operation) (a : Answered) → IsDocument d → HaveDocuments operations → Runs d operations e → IsRunAnswer d operations a → a ≡ result_line e
     run_gives d e operations a good values runs (ran f fine also is) = is ∙ ap result_line (json.one_end d f e operations good values also runs)
-    run_gives d e operations a good values runs (halted OutOfMemory memory refused is) = absurd (memory refl)
-    run_gives d e operations a good values runs (halted (Refused k cause) memory refused is) = absurd (json.unrefused d e operations k cause good values runs refused)
+    run_gives d e operations a good values runs (halted OutOfMemory refused is) = absurd (cc)
+    run_gives d e operations a good values runs (halted (Refused k cause) refused is) = absurd (json.unrefused d e operations k cause good values runs refused)
 
     patch_gives : (d e : Document) (operations : List Operation) (a : Answered) → IsDocument d → HaveDocuments operations → Runs d operations e → IsPatchAnswer d (shapes operations) a → a ≡ result_line e
-    patch_gives d e operations a good values runs (malformed fault memory faulty is) = absurd (memory (json.form_unfaulty (shapes operations) operations fault (json.shapes operations) faulty))
+    patch_gives d e operations a good values runs (malformed fault faulty is) = absurd (told_form fault a is (json.form_unfaulty (shapes operations) operations fault (json.shapes operations) faulty))
     patch_gives d e operations a good values runs (formed others forms run) =
         let same = json.one_reading (shapes operations) others operations forms (json.shapes operations) in
         run_gives d e operations a good values runs (subst (λ (os : List Operation). IsRunAnswer d os a) same run)

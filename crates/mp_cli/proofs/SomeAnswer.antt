@@ -1,17 +1,23 @@
 -- The program has an answer to each command and its input bytes.
-use Rattle.std.proofs.Common.{◌≡◌, ℕ, List, [], ◌∷◌, Result, Ok, Err, string_bytes, inl, inr, refl}
+use Rattle.std.proofs.Common.{◌≡◌, ◌≢◌, ℕ, List, [], ◌∷◌, Some, Result, Ok, Err, string_bytes, inl, inr, refl, ap}
 use Rattle.std.proofs.lemmas.List.Elements.{All-head, All-tail}
 use Rattle.std.specs.List.{All}
 use Rattle.mp_tree.specs.Document.{Document, Items, no_items, item, IsDocument, IsReadable, AreDocuments}
 use Rattle.mp_tree.specs.Elements.{list_of}
-use Rattle.mp_tree.specs.Laws.{ReadsReadables}
+use Rattle.mp_tree.specs.Laws.{ReadsReadables, FaultsAreOfArrays}
 use Rattle.mp_tree.specs.Text.{documents_in}
 use Rattle.mp_tree.specs.declared.reading.DocsFault.{DocsFault}
+use Rattle.mp_tree.specs.declared.reading.DocsFault.TheVariants.{NotJson, NotWhole, NotAnArray, OutOfMemory as NoMemory}
+use Rattle.mp_pointer.specs.declared.fault.PointerFault.{PointerFault}
+use Rattle.mp_pointer.specs.declared.fault.PointerFault.TheVariants.{NoSlash, BadTilde, OutOfMemory as PointerMemory}
+use Rattle.mp_patch.specs.Texts.{cause_text}
+use Rattle.mp_patch.specs.declared.fault.FormFault.{FormFault}
+use Rattle.mp_patch.specs.declared.fault.FormFault.TheVariants.{NotAnArray as NoList, Form, OutOfMemory as FormMemory}
 use Rattle.mp_pointer.specs.Part.{part}
 use Rattle.mp_patch.specs.Operation.{HaveDocuments, Operation}
 use Rattle.mp_patch.specs.declared.fault.ApplyFault.TheVariants.{Refused}
 use Rattle.mp_cli.specs.Answered.{merge_answer, IsPartAnswer, spelled, misspelled, IsGetAnswerTo, IsRunAnswer, ran, halted, IsPatchAnswer, malformed, formed, IsJoinAnswer, joined, none_joined, join_refused, IsReplayAnswer, replayed, replay_refused, IsRewriteAnswer, rewritten, IsPatchAnswerTo, IsReplayAnswerTo, IsRewriteAnswerTo, IsAnswerTo, IsChecked, IsAnswered}
-use Rattle.mp_cli.specs.Lines.{Answered, result_line, conflict_line, form_fault, part_line, run_fault, spelling_fault, no_patches, wrong_shape, input_fault}
+use Rattle.mp_cli.specs.Lines.{Answered, result_line, conflict_line, form_fault, operation_line, part_line, spelling_fault, status_no_result, no_patches, wrong_shape, input_fault}
 use Rattle.mp_cli.specs.Laws.{AnswerExists}
 use Rattle.mp_cli.specs.Private.LawsBelow.{PointerLaws, PatchLaws, MergeLaws, RewritingLaws}
 use Rattle.mp_cli.specs.declared.command.Command.{Command}
@@ -21,17 +27,35 @@ use Rattle.mp_cli.proofs.ReadInputs.{are_documents, documents_of}
 abbrev Has : (Answered → Type 0) → Type 0
 Has Is = (a : Answered) × Is a
 
+-- ---- each fault but want of memory has its line
+
+input_line : (fault : DocsFault) → fault ≢ NoMemory → Has (λ a. input_fault fault ≡ Some a)
+input_line NotJson other = (_, refl)
+input_line NotWhole other = (_, refl)
+input_line NotAnArray other = (_, refl)
+input_line NoMemory other = absurd (other refl)
+
+spelling_line : (fault : PointerFault) → fault ≢ PointerMemory → Has (λ a. spelling_fault fault ≡ Some a)
+spelling_line NoSlash other = (_, refl)
+spelling_line (BadTilde offset) other = (_, refl)
+spelling_line PointerMemory other = absurd (other refl)
+
+form_line : (fault : FormFault) → fault ≢ FormMemory → Has (λ a. form_fault fault ≡ Some a)
+form_line NoList other = (_, refl)
+form_line (Form number cause) other = (_, refl)
+form_line FormMemory other = absurd (other refl)
+
 module _ (pointers : PointerLaws) (json : PatchLaws) (merges : MergeLaws) (rewritings : RewritingLaws) where
   some_run : (d : Document) (operations : List Operation) → IsDocument d → HaveDocuments operations → Has (IsRunAnswer d operations)
   some_run d operations good values = elim (json.runs_or_is_refused d operations good values) [
     | inl run ↦ (result_line run.0, ran run.0 run.1 run.2 refl)
-    | inr refused ↦ (run_fault (Refused refused.0 refused.1), halted (Refused refused.0 refused.1) (λ memory. cc) refused.2 refl)
+    | inr refused ↦ (operation_line refused.0 (cause_text refused.1) status_no_result, halted (Refused refused.0 refused.1) refused.2 refl)
   ]
 
   some_patch : (d patch : Document) → IsDocument d → IsDocument patch → Has (IsPatchAnswer d patch)
   some_patch d patch good fine = elim (json.form_or_faulty patch) [
     | inl forms ↦ let run = some_run d forms.0 good (json.form_documents patch forms.0 fine forms.1) in (run.0, formed forms.0 forms.1 run.1)
-    | inr fault ↦ (form_fault fault.0, malformed fault.0 fault.1 fault.2 refl)
+    | inr fault ↦ let told = form_line fault.0 fault.1 in (told.0, malformed fault.0 fault.2 told.1)
   ]
 
   some_patch_to : (ds : Items) → AreDocuments ds → Has (IsPatchAnswerTo ds)
@@ -69,7 +93,7 @@ module _ (pointers : PointerLaws) (json : PatchLaws) (merges : MergeLaws) (rewri
   some_part : (d : Document) (pointer : List ℕ) → Has (IsPartAnswer d pointer)
   some_part d pointer = elim (pointers.spells_or_is_faulty pointer) [
     | inl spelling ↦ (part_line (part d spelling.0), spelled spelling.0 spelling.1 refl)
-    | inr fault ↦ (spelling_fault fault.0, misspelled fault.0 fault.1 fault.2 refl)
+    | inr fault ↦ let told = spelling_line fault.0 fault.1 in (told.0, misspelled fault.0 fault.2 told.1)
   ]
 
   some_get_to : (pointer : List ℕ) (ds : Items) → Has (IsGetAnswerTo pointer ds)
@@ -85,10 +109,10 @@ module _ (pointers : PointerLaws) (json : PatchLaws) (merges : MergeLaws) (rewri
   some_answer_to Replay ds can = some_replay_to ds (documents_of ds can)
   some_answer_to Rewrite ds can = some_rewrite_to ds (are_documents ds can)
 
-  some_checked : (command : Command) (r : Result Items DocsFault) → ((ds : Items) → r ≡ Ok ds → All IsReadable (list_of ds)) → Has (IsChecked command r)
-  some_checked command (Err fault) can = (input_fault fault, refl)
-  some_checked command (Ok ds) can = some_answer_to command ds (can ds refl)
+  some_checked : (command : Command) (r : Result Items DocsFault) → r ≢ Err NoMemory → ((ds : Items) → r ≡ Ok ds → All IsReadable (list_of ds)) → Has (IsChecked command r)
+  some_checked command (Err fault) given can = input_line fault (λ memory. given (ap Err memory))
+  some_checked command (Ok ds) given can = some_answer_to command ds (can ds refl)
 
-  pub answer_exists : ReadsReadables → AnswerExists
+  pub answer_exists : ReadsReadables → FaultsAreOfArrays → AnswerExists
   unfolding IsAnswered
-  answer_exists reads command input = some_checked command (documents_in input) (reads input)
+  answer_exists reads faults command input = some_checked command (documents_in input) (faults input) (reads input)

@@ -1,5 +1,5 @@
 -- What the program answers to its command and its input bytes.
-use Rattle.std.specs.Prelude.{◌≡◌, ◌≢◌, ℕ, string_bytes, List, [], Result, Ok, Err}
+use Rattle.std.specs.Prelude.{◌≡◌, ℕ, string_bytes, List, [], Some, Result, Ok, Err}
 use Rattle.mp_tree.specs.Document.{Document, Items, no_items, item, IsDocument}
 use Rattle.mp_tree.specs.Look.{Path}
 use Rattle.mp_tree.specs.Text.{documents_in}
@@ -8,7 +8,6 @@ use Rattle.mp_tree.specs.Elements.{list_of}
 use Rattle.mp_pointer.specs.Part.{part}
 use Rattle.mp_pointer.specs.Spelling.{Tokens, spell, IsFaultOf}
 use Rattle.mp_pointer.specs.declared.fault.PointerFault.{PointerFault}
-use Rattle.mp_pointer.specs.declared.fault.PointerFault.TheVariants.{OutOfMemory as PointerMemory}
 use Rattle.mp_merge.specs.Application.{in_turn}
 use Rattle.mp_cli.specs.Lines.{Answered, result_line, wrong_shape, input_fault, spelling_fault, part_line, form_fault}
 use Rattle.mp_cli.specs.Lines.{run_fault, conflict_line, no_patches}
@@ -20,9 +19,7 @@ use Rattle.mp_patch.specs.Form.{AreForms, IsFormFault, shapes}
 use Rattle.mp_patch.specs.Operation.{Operation}
 use Rattle.mp_patch.specs.Run.{Runs, IsFaultOf as IsFaultOfRun}
 use Rattle.mp_patch.specs.declared.fault.ApplyFault.{ApplyFault}
-use Rattle.mp_patch.specs.declared.fault.ApplyFault.TheVariants.{OutOfMemory as RunMemory}
 use Rattle.mp_patch.specs.declared.fault.FormFault.{FormFault}
-use Rattle.mp_patch.specs.declared.fault.FormFault.TheVariants.{OutOfMemory as FormMemory}
 use Rattle.mp_cli.specs.declared.answers.Answer.{Answer}
 use Rattle.mp_cli.specs.declared.command.Command.{Command}
 use Rattle.mp_cli.specs.declared.command.Command.TheVariants.{Get, Patch, Merge, Join, Replay, Rewrite}
@@ -32,8 +29,7 @@ use Rattle.mp_cli.specs.declared.command.Command.TheVariants.{Get, Patch, Merge,
 -- the part that the tokens name, or what is wrong with their spelling
 pub data IsPartAnswer (d : Document) (pointer : List ℕ) (a : Answered) : Type 0 where
   spelled : (tokens : Tokens) → pointer ≡ spell tokens → a ≡ part_line (part d tokens) → IsPartAnswer d pointer a
-  misspelled : (fault : PointerFault) → fault ≢ PointerMemory → IsFaultOf fault pointer → a ≡ spelling_fault fault
-      → IsPartAnswer d pointer a
+  misspelled : (fault : PointerFault) → IsFaultOf fault pointer → spelling_fault fault ≡ Some a → IsPartAnswer d pointer a
 
 -- `get` wants `[document]`
 abbrev pub IsGetAnswerTo : List ℕ → Items → Answered → Type 0
@@ -53,13 +49,11 @@ merge_answer (item d ps) = result_line (in_turn d (list_of ps))
 -- where the operations run, the document that they lead to, and else the first that is refused
 pub data IsRunAnswer (d : Document) (operations : List Operation) (a : Answered) : Type 0 where
   ran : (e : Document) → IsDocument e → Runs d operations e → a ≡ result_line e → IsRunAnswer d operations a
-  halted : (fault : ApplyFault) → fault ≢ RunMemory → IsFaultOfRun fault d operations → a ≡ run_fault fault
-      → IsRunAnswer d operations a
+  halted : (fault : ApplyFault) → IsFaultOfRun fault d operations → run_fault fault ≡ Some a → IsRunAnswer d operations a
 
 -- the form of all operations is checked before any is applied
 pub data IsPatchAnswer (d patch : Document) (a : Answered) : Type 0 where
-  malformed : (fault : FormFault) → fault ≢ FormMemory → IsFormFault fault patch → a ≡ form_fault fault
-      → IsPatchAnswer d patch a
+  malformed : (fault : FormFault) → IsFormFault fault patch → form_fault fault ≡ Some a → IsPatchAnswer d patch a
   formed : (operations : List Operation) → AreForms patch operations → IsRunAnswer d operations a
       → IsPatchAnswer d patch a
 
@@ -113,7 +107,7 @@ IsAnswerTo Rewrite inputs a = IsRewriteAnswerTo inputs a
 
 -- the first check that fails, or else the command's answer
 abbrev pub IsChecked : Command → Result Items DocsFault → Answered → Type 0
-IsChecked command (Err fault) a = a ≡ input_fault fault
+IsChecked command (Err fault) a = input_fault fault ≡ Some a
 IsChecked command (Ok inputs) a = IsAnswerTo command inputs a
 
 -- what the program answers to the input bytes

@@ -47,12 +47,6 @@ pub record Answered : Type 0 where
 abbrev pub line : List ℕ → ℕ → Answered
 line s status = record { text = s ++ 10 ∷ []; status = status }
 
-abbrev pub out_of_memory : List ℕ
-out_of_memory = codes "out of memory"
-
-abbrev pub memory_line : Answered
-memory_line = line out_of_memory status_failed
-
 -- a result is its compact text
 abbrev pub result_line : Document → Answered
 result_line d = line (compact d) status_result
@@ -60,21 +54,23 @@ result_line d = line (compact d) status_result
 abbrev pub wrong_shape : Answered
 wrong_shape = line (codes "input: wrong shape") status_refused
 
--- what is wrong with the input (want of memory is no fault of the bytes)
-abbrev pub input_fault : DocsFault → Answered
-input_fault NotJson = line (codes "input: not JSON") status_refused
-input_fault NotWhole = line (codes "input: number not whole") status_refused
-input_fault NotAnArray = wrong_shape
-input_fault OutOfMemory = memory_line
+-- Want of memory is no fault of the bytes: among the answers it has no line.
+
+-- what is wrong with the input
+abbrev pub input_fault : DocsFault → Option Answered
+input_fault NotJson = Some (line (codes "input: not JSON") status_refused)
+input_fault NotWhole = Some (line (codes "input: number not whole") status_refused)
+input_fault NotAnArray = Some wrong_shape
+input_fault OutOfMemory = None
 
 -- what is wrong with the spelling of a pointer, a tilde with its place in plain decimals
 abbrev pub bad_tilde_line : ℕ → Answered
 bad_tilde_line offset = line (codes "pointer: bad tilde at " ++ numeral offset) status_refused
 
-abbrev pub spelling_fault : PointerFault → Answered
-spelling_fault NoSlash = line (codes "pointer: no slash") status_refused
-spelling_fault (BadTilde offset) = bad_tilde_line offset
-spelling_fault NoMemory = memory_line
+abbrev pub spelling_fault : PointerFault → Option Answered
+spelling_fault NoSlash = Some (line (codes "pointer: no slash") status_refused)
+spelling_fault (BadTilde offset) = Some (bad_tilde_line offset)
+spelling_fault NoMemory = None
 
 -- a part of a document, where there is one
 abbrev pub part_line : Option Document → Answered
@@ -86,15 +82,15 @@ abbrev pub operation_line : ℕ → List ℕ → ℕ → Answered
 operation_line number words status = line (codes "operation " ++ numeral number ++ codes ": " ++ words) status
 
 -- what is wrong with the form of a patch
-abbrev pub form_fault : FormFault → Answered
-form_fault NoList = wrong_shape
-form_fault (Form number cause) = operation_line number (form_text cause) status_refused
-form_fault FormMemory = memory_line
+abbrev pub form_fault : FormFault → Option Answered
+form_fault NoList = Some wrong_shape
+form_fault (Form number cause) = Some (operation_line number (form_text cause) status_refused)
+form_fault FormMemory = None
 
 -- why a patch has no result
-abbrev pub run_fault : ApplyFault → Answered
-run_fault (Refused number cause) = operation_line number (cause_text cause) status_no_result
-run_fault RunMemory = memory_line
+abbrev pub run_fault : ApplyFault → Option Answered
+run_fault (Refused number cause) = Some (operation_line number (cause_text cause) status_no_result)
+run_fault RunMemory = None
 
 -- a pointer as a JSON string
 abbrev pub pointer_text : Path → List ℕ
@@ -121,7 +117,7 @@ abbrev pub line_of : RunFault → List ℕ
 line_of run_fails.ReadFailed = codes "read failed"
 line_of run_fails.WriteFailed = codes "write failed"
 line_of run_fails.TooLong = codes "input: too long"
-line_of run_fails.OutOfMemory = out_of_memory
+line_of run_fails.OutOfMemory = codes "out of memory"
 
 -- 2 where the input is at fault, 3 where the machine is
 abbrev pub status_of : RunFault → ℕ

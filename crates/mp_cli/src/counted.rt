@@ -28,7 +28,7 @@ pub struct Counted<T> {
 }
 
 impl<T> Counted<T> {
-    ghost use Rattle.mp_cli.specs.Counted.{device_of, calls_of, failures_of, bytes_of};
+    ghost use Rattle.mp_cli.specs.Counted.{device_of, calls_of, failures_of, bytes_of, IsFlushed};
 
     /// The device with all counts 0.
     pub fn new(device: T) -> Counted<T>
@@ -36,6 +36,7 @@ impl<T> Counted<T> {
         ensures calls { calls_of result ≡ 0 }
         ensures failures { failures_of result ≡ 0 }
         ensures bytes { bytes_of result ≡ 0 }
+        ensures unflushed { IsFlushed result → ⊥ }
     {
         Counted {
             device,

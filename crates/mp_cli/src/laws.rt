@@ -74,6 +74,7 @@ fn laws_below()
     ensures rewritings { RewritingLaws }
 {
     tree::readings_are_documents();
+    tree::bytes_have_faults();
     tree::arrays_read_back();
     pointer::one_spelling();
     pointer::spells_or_is_faulty();

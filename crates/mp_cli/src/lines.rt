@@ -1,9 +1,9 @@
 //! The lines of the program, each with its status: the texts stand here alone.
-ghost use Rattle.std.specs.Prelude.{◌≡◌, ◌≢◌, ◌++◌, IfOk, option_map, string_bytes};
+ghost use Rattle.std.specs.Prelude.{◌≡◌, ◌++◌, IfOk, option_map, string_bytes};
 ghost use Rattle.mp_tree.specs.View.{document};
 ghost use Rattle.mp_pointer.specs.Part.{numeral};
 ghost use Rattle.mp_cli.specs.Lines.{bad_tilde_line, conflict_line, form_fault, input_fault, line as line_with, operation_line, part_line, pointer_text, pointers_text, run_fault, spelling_fault, status_result, wrong_shape as shape_fault};
-ghost use Rattle.mp_cli.specs.Private.Answers.{Gives, list_fault};
+ghost use Rattle.mp_cli.specs.Private.Answers.{Gives, GivesLine, list_fault};
 ghost use Rattle.mp_cli.specs.Lines.{line_of, status_of};
 
 use crate::answers::Answer;
@@ -27,8 +27,7 @@ const REFUSED: u8 = 2;
 const FAILED: u8 = 3;
 
 pub(crate) fn fault_answer(alloc: Global, fault: DocsFault) -> Result<Answer, AllocError>
-    ensures line { Gives result (input_fault fault) }
-    ensures fault { IfOk result (λ a. fault ≢ DocsFault.OutOfMemory) }
+    ensures { GivesLine result (input_fault fault) }
 {
     match fault {
         DocsFault::NotJson => line(alloc, "input: not JSON", REFUSED),
@@ -56,8 +55,7 @@ fn line(alloc: Global, text: &str, status: u8) -> Result<Answer, AllocError>
 }
 
 pub(crate) fn fault_in_spelling(alloc: Global, fault: PointerFault) -> Result<Answer, AllocError>
-    ensures line { Gives result (spelling_fault fault) }
-    ensures fault { IfOk result (λ a. fault ≢ PointerFault.OutOfMemory) }
+    ensures { GivesLine result (spelling_fault fault) }
 {
     match fault {
         PointerFault::NoSlash => line(alloc, "pointer: no slash", REFUSED),
@@ -83,8 +81,7 @@ pub(crate) fn part(alloc: Global, found: Option<&Doc>) -> Result<Answer, AllocEr
 }
 
 pub(crate) fn fault_in_form(alloc: Global, fault: FormFault) -> Result<Answer, AllocError>
-    ensures line { Gives result (form_fault fault) }
-    ensures fault { IfOk result (λ a. fault ≢ FormFault.OutOfMemory) }
+    ensures { GivesLine result (form_fault fault) }
 {
     match fault {
         FormFault::NotAnArray => wrong_shape(alloc),
@@ -94,8 +91,7 @@ pub(crate) fn fault_in_form(alloc: Global, fault: FormFault) -> Result<Answer, A
 }
 
 pub(crate) fn fault_in_run(alloc: Global, fault: ApplyFault) -> Result<Answer, AllocError>
-    ensures line { Gives result (run_fault fault) }
-    ensures fault { IfOk result (λ a. fault ≢ ApplyFault.OutOfMemory) }
+    ensures { GivesLine result (run_fault fault) }
 {
     match fault {
         ApplyFault::Refused { op, cause } => operation(alloc, op, cause.as_str(), NO_RESULT),
@@ -113,8 +109,7 @@ fn operation(alloc: Global, op: usize, words: &str, status: u8) -> Result<Answer
 }
 
 pub(crate) fn fault_in_list(alloc: Global, fault: ListFault) -> Result<Answer, AllocError>
-    ensures line { Gives result (list_fault fault) }
-    ensures fault { IfOk result (λ a. fault ≢ ListFault.OutOfMemory) }
+    ensures { GivesLine result (list_fault fault) }
 {
     match fault {
         ListFault::NoPatches => line(alloc, "no patches", NO_RESULT),

@@ -18,6 +18,7 @@ pub mod Meaning
 pub mod Names
 pub mod Passed
 pub mod ReadDocuments
+pub mod ReadFaults
 pub mod ReadTexts
 pub mod ReadValues
 pub mod RoundTrip

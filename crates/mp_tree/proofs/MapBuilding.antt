@@ -126,10 +126,10 @@ ascend_up_to [] k v left ascending = (tt, tt)
 ascend_up_to (e ∷ es) k v left ascending = (all_up_to e.0 k es v left ascending.0, ascend_up_to es k v left ascending.1)
 
 -- the same where they are seen as those that it has passed
-pub insert-last-seen : {V W C : Type 0} (f : V → C) (g : W → C) {es left more : List (String Global × W)} (fs new : List (String Global × V)) (k : String Global) (v : V) (w : W)
-    → Passed es left (λ passed. map (seen f) fs ≡ map (seen g) passed) → left ≡ (k, w) ∷ more → f v ≡ g w → IsStrictlySortedBy string_cmp (keys_of es) → new ≡ insert_entry string_cmp fs k v
+pub insert-last-seen : {V W C : Type 0} (f : V → C) (g : W → C) {es left more : List (String Global × W)} (fs new : List (String Global × V)) (k l : String Global) (v : V) (w : W)
+    → Passed es left (λ passed. map (seen f) fs ≡ map (seen g) passed) → left ≡ (l, w) ∷ more → seen f (k, v) ≡ seen g (l, w) → IsStrictlySortedBy string_cmp (keys_of es) → new ≡ insert_entry string_cmp fs k v
     → new ≡ fs ++ (k, v) ∷ []
-insert-last-seen f g {more = more} fs new k v w p next same ascending inserted =
-    let grown = map-push (seen f) (seen g) fs p.passed (k, v) (k, w) p.holds (ap (λ c. (string_bytes k, c)) same) in
-    let ascending_so_far = ascend_up_to p.passed k w more (subst (λ ps. IsStrictlySortedBy string_cmp (keys_of ps)) (Passed-next p next) ascending) in
-    inserted ∙ insert-last fs k v [] (ascend_from_seen f g (fs ++ (k, v) ∷ []) (p.passed ++ (k, w) ∷ []) grown ascending_so_far)
+insert-last-seen f g {more = more} fs new k l v w p next same ascending inserted =
+    let grown = map-push (seen f) (seen g) fs p.passed (k, v) (l, w) p.holds same in
+    let ascending_so_far = ascend_up_to p.passed l w more (subst (λ ps. IsStrictlySortedBy string_cmp (keys_of ps)) (Passed-next p next) ascending) in
+    inserted ∙ insert-last fs k v [] (ascend_from_seen f g (fs ++ (k, v) ∷ []) (p.passed ++ (l, w) ∷ []) grown ascending_so_far)

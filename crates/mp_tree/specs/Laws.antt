@@ -1,5 +1,5 @@
 -- Laws over documents alone. Each is the contract of a function of the module `laws` that runs nothing.
-use Rattle.std.specs.Prelude.{◌≡◌, ◌≢◌, ◌≤◌, ◌↔◌, ℕ, List, map, true, None, Some, Ok, IsUtf8}
+use Rattle.std.specs.Prelude.{◌≡◌, ◌≢◌, ◌≤◌, ◌↔◌, ℕ, List, map, true, None, Some, Ok, Err, IsUtf8}
 use Rattle.std.specs.List.{All}
 use Rattle.mp_tree.specs.Arrays.{IsArrayOf}
 use Rattle.mp_tree.specs.Document.{Document, Items, Members, IsDocument, IsMap, HasTexts, IsInRange, IsReadable}
@@ -9,6 +9,8 @@ use Rattle.mp_tree.specs.Look.{Path, look}
 use Rattle.mp_tree.specs.Text.{document_in, documents_in, read, text}
 use Rattle.mp_tree.specs.View.{document, number_of}
 use Rattle.mp_tree.specs.declared.doc.Doc.{Doc}
+use Rattle.mp_tree.specs.declared.reading.DocsFault.TheVariants as elements_fault
+use Rattle.mp_tree.specs.declared.reading.ReadFault.TheVariants as fault
 use Rattle.mp_tree.specs.declared.whole.Whole.{Whole}
 
 -- each `Doc` means a document: its maps have their names once and in order, its texts are UTF-8, its numbers are within
@@ -25,6 +27,14 @@ ReadsReadable = (bytes : List ℕ) (d : Document) → document_in bytes ≡ Ok d
 -- and so can each element of an array that is read
 abbrev pub ReadsReadables : Type 0
 ReadsReadables = (bytes : List ℕ) (ds : Items) → documents_in bytes ≡ Ok ds → All IsReadable (list_of ds)
+
+-- want of memory is no fault of the bytes
+abbrev pub FaultsAreOfBytes : Type 0
+FaultsAreOfBytes = (bytes : List ℕ) → document_in bytes ≢ Err fault.OutOfMemory
+
+-- nor of an array's
+abbrev pub FaultsAreOfArrays : Type 0
+FaultsAreOfArrays = (bytes : List ℕ) → documents_in bytes ≢ Err elements_fault.OutOfMemory
 
 -- what is written is read back
 abbrev pub ReadsBack : Type 0

@@ -1,7 +1,7 @@
 //! Documents: copies, equality and depth.
 ghost use Rattle.std.specs.Prelude.{◌≡◌, ◌≤◌, ◌↔◌, IfOk, IsTrue};
 
-use crate::building::map_of;
+use crate::building::{FEW, map_of};
 use crate::comparing::is_same;
 use crate::measuring::is_within;
 use crate::whole::Whole;
@@ -108,6 +108,9 @@ fn copy_members(
 ) -> Result<BTreeMap<String, Doc>, AllocError>
     ensures { IfOk result (λ copies. members copies.entries ≡ members entries.now.entries) }
 {
+    if entries.len() <= FEW {
+        return copy_few(entries, alloc);
+    }
     let mut pairs = Vec::with_capacity(alloc, entries.len())?;
     for (name, value) in entries.iter() {
         let copied_name = String::from_str(alloc, name.as_str())?;
@@ -115,4 +118,20 @@ fn copy_members(
         pairs.push((copied_name, copied_value))?;
     }
     map_of(alloc, pairs)
+}
+
+#[cycle(copy)]
+fn copy_few(
+    entries: &BTreeMap<String, Doc>,
+    alloc: Global,
+) -> Result<BTreeMap<String, Doc>, AllocError>
+    ensures { IfOk result (λ copies. members copies.entries ≡ members entries.now.entries) }
+{
+    let mut copies = BTreeMap::new(alloc);
+    for (name, value) in entries.iter() {
+        let copied_name = String::from_str(alloc, name.as_str())?;
+        let copied_value = copy_of(value, alloc)?;
+        drop(copies.insert(copied_name, copied_value)?);
+    }
+    Ok(copies)
 }

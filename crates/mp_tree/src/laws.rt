@@ -1,5 +1,5 @@
 //! Laws over documents alone: each function runs nothing, and its contract is the law.
-ghost use Rattle.mp_tree.specs.Laws.{DocsAreDocuments, ReadsReadable, ReadsReadables, ReadsBack, ReadsUtf8Back, ArraysReadBack, EqualTexts, EqualLooks, EqualNumbers, SameNames, SetsOneName, RemovesOneName, EqualMaps};
+ghost use Rattle.mp_tree.specs.Laws.{DocsAreDocuments, ReadsReadable, ReadsReadables, FaultsAreOfBytes, FaultsAreOfArrays, ReadsBack, ReadsUtf8Back, ArraysReadBack, EqualTexts, EqualLooks, EqualNumbers, SameNames, SetsOneName, RemovesOneName, EqualMaps};
 
 /// Each `Doc` means a document: each object in it is a finite map, its texts and names are UTF-8, and its numbers are
 /// from -2^63 to 2^64 - 1. So the laws over documents speak of every `Doc`.
@@ -13,6 +13,14 @@ pub fn docs_are_documents()
 pub fn readings_are_documents()
     ensures document { ReadsReadable }
     ensures elements { ReadsReadables }
+{}
+
+/// Bytes have a document or a fault of their own, whatever memory there is: the definitions of what is read never give
+/// want of memory. So where `read_doc` or `read_docs` answers it, it is the machine's, and a line for the input's faults
+/// needs no words for it.
+pub fn bytes_have_faults()
+    ensures document { FaultsAreOfBytes }
+    ensures elements { FaultsAreOfArrays }
 {}
 
 /// What is written for a document is read back as that document, where its objects are finite maps, its texts and names

@@ -1,18 +1,22 @@
 -- What a call that makes an answer gives. Only private clauses cite it.
-use Rattle.std.specs.Prelude.{◌≡◌, IfOk, codes, Result}
+use Rattle.std.specs.Prelude.{◌≡◌, IfOk, Option, None, Some, Result}
 use Rattle.std.specs.declared.alloc.AllocError.{AllocError}
 use Rattle.mp_merge.specs.declared.fault.ListFault.{ListFault}
 use Rattle.mp_merge.specs.declared.fault.ListFault.TheVariants.{NoPatches, ConflictOf, OutOfMemory as ListMemory}
 use Rattle.mp_cli.specs.Answered.{answered_by}
-use Rattle.mp_cli.specs.Lines.{Answered, conflict_line, line, no_patches}
+use Rattle.mp_cli.specs.Lines.{Answered, conflict_line, no_patches}
 use Rattle.mp_cli.specs.declared.answers.Answer.{Answer}
 
 -- why a list has no join, or can't be replayed
-abbrev pub list_fault : ListFault → Answered
-list_fault NoPatches = no_patches
-list_fault (ConflictOf first second places) = conflict_line first second places.items
-list_fault ListMemory = line (codes "out of memory") 3
+abbrev pub list_fault : ListFault → Option Answered
+list_fault NoPatches = Some no_patches
+list_fault (ConflictOf first second places) = Some (conflict_line first second places.items)
+list_fault ListMemory = None
 
 -- the call gives that answer
 abbrev pub Gives : Result Answer AllocError → Answered → Type 0
 Gives result expected = IfOk result (λ a. answered_by a ≡ expected)
+
+-- it gives the line of a fault, where that has one
+abbrev pub GivesLine : Result Answer AllocError → Option Answered → Type 0
+GivesLine result expected = IfOk result (λ a. expected ≡ Some (answered_by a))

@@ -1,5 +1,5 @@
 -- The laws of the crates below that those of the program rest on. Only private clauses cite it.
-use Rattle.mp_tree.specs.Laws.{ReadsReadables, ArraysReadBack}
+use Rattle.mp_tree.specs.Laws.{ReadsReadables, FaultsAreOfArrays, ArraysReadBack}
 use Rattle.mp_pointer.specs.Laws as pointer
 use Rattle.mp_patch.specs.Laws as patch
 use Rattle.mp_merge.specs.Laws as merge
@@ -7,6 +7,7 @@ use Rattle.mp_merge.specs.Laws as merge
 -- of what is read
 pub record TextLaws : Type 0 where
   pub readable : ReadsReadables
+  pub faults : FaultsAreOfArrays
   pub arrays : ArraysReadBack
 
 -- of pointers

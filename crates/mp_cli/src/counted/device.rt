@@ -19,6 +19,7 @@ impl<T: Read> Counted<T> {
             (T.remaining (device_of self.new)) result piece.new }
         ensures given { IfOk result (CountsBytes self.old self.new) }
         ensures failed { OnErr result (CountsFailure self.old self.new) }
+        ensures unflushed { IsFlushed self.new → ⊥ }
     {
         self.calls += 1;
         self.flushed = false;
@@ -43,6 +44,7 @@ impl<T: Write> Counted<T> {
         ensures taken { IfOk result (λ count. 0 < count → CountsBytes self.old self.new count) }
         ensures stalled { IfOk result (λ count. count ≡ 0 → CountsFailure self.old self.new) }
         ensures failed { OnErr result (CountsFailure self.old self.new) }
+        ensures unflushed { IsFlushed self.new → ⊥ }
     {
         self.calls += 1;
         self.flushed = false;
@@ -61,6 +63,7 @@ impl<T: Write> Counted<T> {
         ensures done { OnOk result (CountsBytes self.old self.new 0) }
         ensures flushed { OnOk result (IsFlushed self.new) }
         ensures failed { OnErr result (CountsFailure self.old self.new) }
+        ensures unflushed { OnErr result (IsFlushed self.new → ⊥) }
     {
         self.calls += 1;
         let outcome = self.device.flush();

@@ -4,7 +4,6 @@ use Rattle.mp_tree.specs.View.{document}
 use Rattle.mp_tree.proofs.Facts.{IsDocument-document}
 use Rattle.mp_cli.specs.Answered.{ran, halted}
 use Rattle.mp_cli.specs.Lines.{line, status_result}
-use Rattle.mp_cli.proofs.AnswerCases.{if_both}
 use Rattle.mp_cli.proofs.answering.apply_patch.Goals as goal
 
 pub returns-in_ok-write_doc-in-Ok : goal.returns-in_ok-write_doc-in-Ok
@@ -15,4 +14,4 @@ returns-in_ok-write_doc-in-Ok c =
 
 pub returns-in-Err : goal.returns-in-Err
 returns-in-Err c =
-    if_both c.fault_in_run.result _ _ _ c.fault_in_run.ensures.line c.fault_in_run.ensures.fault (λ a is memory. halted c.in-Err.fault memory c.in-Err.ensures.runs is)
+    IfOk-weaker c.fault_in_run.result _ _ (λ a is. halted c.in-Err.fault c.in-Err.ensures.runs is) c.fault_in_run.ensures

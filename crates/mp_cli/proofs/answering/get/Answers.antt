@@ -2,7 +2,7 @@ use Rattle.std.proofs.Common.{◌∙◌, ap}
 use Rattle.std.proofs.lemmas.Result.{IfOk-weaker}
 use Rattle.mp_cli.specs.Answered.{spelled, misspelled}
 use Rattle.mp_cli.specs.Lines.{part_line}
-use Rattle.mp_cli.proofs.AnswerCases.{if_both, no_single, single_part}
+use Rattle.mp_cli.proofs.AnswerCases.{no_single, single_part}
 use Rattle.mp_cli.proofs.answering.get.Goals as goal
 
 pub returns-in_default : goal.returns-in_default
@@ -15,5 +15,5 @@ returns-in-Ok c =
 
 pub returns : goal.returns
 returns c =
-    if_both c.fault_in_spelling.result _ _ _ c.fault_in_spelling.ensures.line c.fault_in_spelling.ensures.fault
-    (λ a is memory. single_part c.args.pointer.now c.args.docs.items c.in-Some.doc _ c.in-Some.ensures (misspelled c.in-Err.fault memory c.in-Err.ensures.fault is))
+    IfOk-weaker c.fault_in_spelling.result _ _ (λ a is. single_part c.args.pointer.now c.args.docs.items c.in-Some.doc _ c.in-Some.ensures (misspelled c.in-Err.fault c.in-Err.ensures.fault is))
+    c.fault_in_spelling.ensures

@@ -4,7 +4,7 @@ use Rattle.mp_tree.specs.View.{document}
 use Rattle.mp_tree.proofs.Facts.{IsDocument-document}
 use Rattle.mp_cli.specs.Answered.{joined}
 use Rattle.mp_cli.specs.Lines.{line, status_result}
-use Rattle.mp_cli.proofs.AnswerCases.{no_join, if_both}
+use Rattle.mp_cli.proofs.AnswerCases.{no_join}
 use Rattle.mp_cli.proofs.answering.join.Goals as goal
 
 pub returns-in_ok-write_doc-in-Ok : goal.returns-in_ok-write_doc-in-Ok
@@ -16,4 +16,4 @@ returns-in_ok-write_doc-in-Ok c =
 pub returns-in-Err : goal.returns-in-Err
 returns-in-Err c =
     let patches = map document c.args.patches.now in
-    if_both c.fault_in_list.result _ _ _ c.fault_in_list.ensures.line c.fault_in_list.ensures.fault (λ a is memory. no_join c.in-Err.fault patches _ memory c.in-Err.ensures.joined is)
+    IfOk-weaker c.fault_in_list.result _ _ (λ a is. no_join c.in-Err.fault patches _ c.in-Err.ensures.joined is) c.fault_in_list.ensures

@@ -1,7 +1,6 @@
 use Rattle.std.proofs.lemmas.Result.{IfOk-weaker}
 use Rattle.mp_patch.specs.View.{operations_of}
 use Rattle.mp_cli.specs.Answered.{malformed, formed}
-use Rattle.mp_cli.proofs.AnswerCases.{if_both}
 use Rattle.mp_cli.proofs.answering.read_and_apply.Goals as goal
 
 pub returns-in-Ok : goal.returns-in-Ok
@@ -9,4 +8,4 @@ returns-in-Ok c = IfOk-weaker c.apply_patch.result _ _ (λ a is. formed (operati
 
 pub returns-in-Err : goal.returns-in-Err
 returns-in-Err c =
-    if_both c.fault_in_form.result _ _ _ c.fault_in_form.ensures.line c.fault_in_form.ensures.fault (λ a is memory. malformed c.in-Err.fault memory c.in-Err.ensures is)
+    IfOk-weaker c.fault_in_form.result _ _ (λ a is. malformed c.in-Err.fault c.in-Err.ensures is) c.fault_in_form.ensures

@@ -4,7 +4,7 @@ use Rattle.mp_tree.specs.View.{document}
 use Rattle.mp_tree.proofs.Facts.{IsDocument-document}
 use Rattle.mp_cli.specs.Answered.{replayed}
 use Rattle.mp_cli.specs.Lines.{line, status_result}
-use Rattle.mp_cli.proofs.AnswerCases.{no_replay, if_both, replay_answer}
+use Rattle.mp_cli.proofs.AnswerCases.{no_replay, replay_answer}
 use Rattle.mp_cli.proofs.answering.replay.Goals as goal
 
 pub returns-in-Ok : goal.returns-in-Ok
@@ -23,5 +23,4 @@ returns c =
     let d = c.in-Some.start in
     let ps = c.as_slice.result.now in
     let split : docs ≡ d ∷ ps = c.in-Some.ensures ∙ ap (λ rest. d ∷ rest) (sym c.as_slice.ensures.value) in
-    if_both c.fault_in_list.result _ _ _ c.fault_in_list.ensures.line c.fault_in_list.ensures.fault
-    (λ a is memory. replay_answer docs ps d _ split (no_replay c.in-Err.fault (document d) (map document ps) _ memory c.in-Err.ensures.outcome is))
+    IfOk-weaker c.fault_in_list.result _ _ (λ a is. replay_answer docs ps d _ split (no_replay c.in-Err.fault (document d) (map document ps) _ c.in-Err.ensures.outcome is)) c.fault_in_list.ensures

@@ -2,7 +2,7 @@ use Rattle.mp_cli.proofs.laws.laws_below.Goals as goal
 
 pub returns : goal.returns
 returns c = record {
-  texts = record { readable = c.readings_are_documents.ensures.elements; arrays = c.arrays_read_back.ensures };
+  texts = record { readable = c.readings_are_documents.ensures.elements; faults = c.bytes_have_faults.ensures.elements; arrays = c.arrays_read_back.ensures };
   pointers = record {
     one_spelling = c.one_spelling.ensures;
     spells_or_is_faulty = c.spells_or_is_faulty.ensures;

@@ -1,4 +1,4 @@
-use Rattle.std.proofs.Common.{Some, option_map, sym, ap, ◌∙◌, arith}
+use Rattle.std.proofs.Common.{Some, option_map, string_bytes, sym, ap, ◌∙◌, arith}
 use Rattle.serde_json.specs.View.{items_view}
 use Rattle.serde_json.proofs.Views.{view-Object}
 use Rattle.mp_tree.specs.Document.{object}
@@ -71,7 +71,7 @@ few_members_of-loop-name-preserved t c =
     let doc = c.in_ok-doc_of.field-0 in
     let is = c.in_ok-doc_of.ensures.ok in
     let ascending = c.into_iter-name-iterator.ensures.into_iter_gives.5 in
-    let last = insert-last-seen read_as from_value l.docs.entries _ c.in-Some.name doc c.in-Some.value entries next (sym is) ascending c.in_ok-insert.ensures.entries in
+    let last = insert-last-seen read_as from_value l.docs.entries _ c.in-Some.name c.in-Some.name doc c.in-Some.value entries next (ap (λ v. (string_bytes c.in-Some.name, v)) (sym is)) ascending c.in_ok-insert.ensures.entries in
     record { entries = read_one_more l.docs.entries _ _ _ doc entries next last is; can_next = tt; is_finite = tt }
 
 pub few_members_of-returns-clause-ok : goal.few_members_of-returns-clause-ok

@@ -3,7 +3,7 @@ use Rattle.std.proofs.lemmas.Result.{IfOk-weaker}
 use Rattle.mp_tree.specs.Document.{object}
 use Rattle.mp_tree.specs.View.{document, members_of}
 use Rattle.mp_tree.specs.declared.doc.Doc.{Doc}
-use Rattle.mp_tree.proofs.MapBuilding.{seen, ascend_from_seen, seen-same}
+use Rattle.mp_tree.proofs.MapBuilding.{seen, ascend_from_seen, insert-last-seen, seen-same}
 use Rattle.mp_tree.proofs.Meaning.{document-Members}
 use Rattle.mp_tree.proofs.Passed.{Passed-push, Passed-end}
 use Rattle.mp_tree.proofs.doc.+copy.Goals as goal
@@ -16,6 +16,19 @@ copy_members-loop-name-preserved t c =
     let name : string_bytes copy.0 ≡ string_bytes e.0 = search rules in
     let same : seen document copy ≡ seen document e = ap₂ (λ n d. (n, d)) name c.in_ok-copied_value.ensures in
     Passed-push (seen document) (seen document) l.pairs.items _ copy l.invariant c.in-Some.ensures.steps c.in_ok-push.ensures.items same
+
+pub copy_few-loop-name-preserved : goal.copy_few-loop-name-preserved
+copy_few-loop-name-preserved t c =
+    let l = c.loop-name in
+    let e : String Global × Doc = (c.in-Some.name.now, c.in-Some.value.now) in
+    let copy : String Global × Doc = (c.in_ok-copied_name.copied_name, c.in_ok-copied_value.copied_value) in
+    let name : string_bytes copy.0 ≡ string_bytes e.0 = search rules in
+    let same : seen document copy ≡ seen document e = ap₂ (λ n d. (n, d)) name c.in_ok-copied_value.ensures in
+    let last = insert-last-seen document document l.copies.entries _ copy.0 e.0 copy.1 e.1 l.invariant c.in-Some.ensures.steps same c.iter-name-items.ensures.ordered c.in_ok-insert.ensures.entries in
+    Passed-push (seen document) (seen document) l.copies.entries _ copy l.invariant c.in-Some.ensures.steps last same
+
+pub copy_few-returns : goal.copy_few-returns
+copy_few-returns t c = ap members_of (Passed-end c.loop-name.invariant c.in-None.ensures.steps.0)
 
 pub copy_members-map_of-requires : goal.copy_members-map_of-requires
 copy_members-map_of-requires t c =

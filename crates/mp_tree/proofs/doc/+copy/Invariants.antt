@@ -7,6 +7,10 @@ use Rattle.mp_tree.proofs.doc.+copy.Given as goal
 abbrev pub invariant-copy_items-loop-element : goal.invariant-copy_items-loop-element
 invariant-copy_items-loop-element l = map document l.copies.items ≡ map document (take l.element-index l.element-items)
 
+abbrev pub invariant-copy_few-loop-name : goal.invariant-copy_few-loop-name
+invariant-copy_few-loop-name l =
+    Passed l.entries.entries l.name-iterator (λ passed. map (seen document) l.copies.entries ≡ map (seen document) passed)
+
 abbrev pub invariant-copy_members-loop-name : goal.invariant-copy_members-loop-name
 invariant-copy_members-loop-name l =
     Passed l.entries.entries l.name-iterator (λ passed. map (seen document) l.pairs.items ≡ map (seen document) passed)
