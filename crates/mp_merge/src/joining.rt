@@ -1,17 +1,16 @@
 //! The join of two merge patches.
-ghost use Rattle.std.specs.Prelude.{◌≡◌, ◌≤◌, ◌∷◌, [], max, IfOk, OnOk, MatchResult, string_bytes};
-ghost use Rattle.mp_tree.specs.Document.{depth, find, put};
+ghost use Rattle.std.specs.Prelude.{◌≤◌, ◌∷◌, [], max, Some, IfOk, MatchResult};
+ghost use Rattle.mp_tree.specs.Document.{depth, object};
 ghost use Rattle.mp_tree.specs.View.{document};
 ghost use Rattle.mp_tree.specs.Private.Entries.{members};
 ghost use Rattle.mp_merge.specs.Join.{IsJoin, IsJoinFault};
-ghost use Rattle.mp_merge.specs.Private.Unions.{union, union_members, union_with};
+ghost use Rattle.mp_merge.specs.Private.Unions.{UnitesAt, UnitesTo};
 
-use crate::comparing::{compatible, conflict};
+use crate::comparing::conflict;
 use crate::fault::JoinFault;
-use mp_tree::Doc;
+use mp_tree::{Doc, members_mut};
 use std::alloc::{AllocError, Global};
 use std::collections::BTreeMap;
-use std::mem;
 
 /// The join of two compatible patches: one patch with the effect of both, in either order. Where both are objects it
 /// has the names of both, and a common name has the join of its two values; else it is the one value that both are.
@@ -31,38 +30,46 @@ pub fn join(alloc: Global, p: &Doc, q: &Doc) -> Result<Doc, JoinFault>
     ensures depth { IfOk result (λ j.
         depth (document j) ≤ max (depth (document p.now)) (depth (document q.now))) }
 {
-    if !compatible(p, q) {
+    let mut joined = p.copy(alloc)?;
+    if !unite(q, &mut joined, alloc)? {
         return Err(JoinFault::Conflict(conflict(alloc, p, q)?));
     }
-    Ok(unite(q, p.copy(alloc)?, alloc)?)
+    Ok(joined)
 }
 
-// What was joined before grows by the patch, and is not copied.
+// Whether the two are compatible. Where they are, what was joined before has grown by the patch, and was not copied;
+// where they clash it may have grown in part.
 #[cycle(unite)]
-pub(crate) fn unite(patch: &Doc, joined: Doc, alloc: Global) -> Result<Doc, AllocError>
-    ensures { IfOk result (λ d. document d ≡ union (document patch.now) (document joined)) }
+pub(crate) fn unite(patch: &Doc, joined: &mut Doc, alloc: Global) -> Result<bool, AllocError>
+    ensures { IfOk result (λ united. UnitesTo united (document patch.now)
+        (Some (document joined.old)) (document joined.new)) }
 {
-    match (patch, joined) {
-        (Doc::Members(changes), Doc::Members(entries)) => {
-            Ok(Doc::Members(unite_members(changes, entries, alloc)?))
+    match patch {
+        Doc::Members(changes) => {
+            let Some(entries) = members_mut(joined) else {
+                return Ok(false);
+            };
+            unite_members(changes, entries, alloc)
         }
-        (_, joined) => Ok(joined),
+        _ => Ok(patch.same(joined)),
     }
 }
 
 #[cycle(unite)]
 fn unite_members(
     changes: &BTreeMap<String, Doc>,
-    mut entries: BTreeMap<String, Doc>,
+    entries: &mut BTreeMap<String, Doc>,
     alloc: Global,
-) -> Result<BTreeMap<String, Doc>, AllocError>
-    ensures { IfOk result (λ m. members m.entries
-        ≡ union_members (members changes.now.entries) (members entries.entries)) }
+) -> Result<bool, AllocError>
+    ensures { IfOk result (λ united. UnitesTo united (object (members changes.now.entries))
+        (Some (object (members entries.old.entries))) (object (members entries.new.entries))) }
 {
     for (name, change) in changes.iter() {
-        unite_entry(change, name.as_str(), &mut entries, alloc)?;
+        if !unite_entry(change, name.as_str(), entries, alloc)? {
+            return Ok(false);
+        }
     }
-    Ok(entries)
+    Ok(true)
 }
 
 #[cycle(unite)]
@@ -71,20 +78,15 @@ fn unite_entry(
     name: &str,
     entries: &mut BTreeMap<String, Doc>,
     alloc: Global,
-) -> Result<(), AllocError>
-    ensures { OnOk result (let js = members entries.old.entries in
-        members entries.new.entries
-        ≡ put name.now (union_with (document change.now) (find name.now js)) js) }
+) -> Result<bool, AllocError>
+    ensures { IfOk result (λ united. UnitesAt united name.now (document change.now)
+        (members entries.old.entries) (members entries.new.entries)) }
 {
     match entries.get_mut(name) {
-        Some(slot) => {
-            let before = mem::replace(slot, Doc::Null);
-            *slot = unite(change, before, alloc)?;
-            Ok(())
-        }
+        Some(before) => unite(change, before, alloc),
         None => {
             drop(entries.insert(String::from_str(alloc, name)?, change.copy(alloc)?)?);
-            Ok(())
+            Ok(true)
         }
     }
 }

@@ -42,7 +42,12 @@ pub fn join_all(alloc: Global, patches: &[Doc]) -> Result<Doc, ListFault>
 }
 
 // The join of the patches up to and with number `second`, from the join of those before it.
-fn join_next(alloc: Global, patches: &[Doc], second: usize, joined: Doc) -> Result<Doc, ListFault>
+fn join_next(
+    alloc: Global,
+    patches: &[Doc],
+    second: usize,
+    mut joined: Doc,
+) -> Result<Doc, ListFault>
     requires within { second < length patches.now }
     requires joined { IsJoin (take second (map document patches.now)) (document joined) }
     ensures { MatchResult result
@@ -50,16 +55,17 @@ fn join_next(alloc: Global, patches: &[Doc], second: usize, joined: Doc) -> Resu
         (λ fault. IsReplayFault fault (map document patches.now)) }
 {
     let patch = &patches[second];
-    if !compatible(patch, &joined) {
-        if let Some((first, places)) = clash_before(alloc, patches, second)? {
-            return Err(ListFault::ConflictOf {
-                first,
-                second,
-                places,
-            });
-        }
+    if unite(patch, &mut joined, alloc)? {
+        return Ok(joined);
     }
-    Ok(unite(patch, joined, alloc)?)
+    let Some((first, places)) = clash_before(alloc, patches, second)? else {
+        unreachable!();
+    };
+    Err(ListFault::ConflictOf {
+        first,
+        second,
+        places,
+    })
 }
 
 // The first of the patches below number `second` that clashes with it, and all conflicts of the two.

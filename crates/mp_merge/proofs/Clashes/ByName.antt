@@ -1,11 +1,11 @@
 -- Clashes name by name.
-use Rattle.std.proofs.Common.{◌≡◌, ◌↔◌, ℕ, List, [], ◌∷◌, Bool, true, false, Option, Some, None, String, BTreeMap, Global, refl, sym, ap, ◌∙◌, subst, rules, true≢false}
-use Rattle.mp_tree.specs.Document.{Document, object, Members, member, find, IsMap}
+use Rattle.std.proofs.Common.{◌≡◌, ◌↔◌, ℕ, List, [], ◌∷◌, Bool, true, false, Option, Some, None, IfSome, String, BTreeMap, Global, refl, sym, ap, ◌∙◌, subst, rules, true≢false}
+use Rattle.mp_tree.specs.Document.{Document, object, Members, no_members, member, find, put, IsMap}
 use Rattle.mp_tree.specs.Look.{Path, nothing, an_object, plain, look, look_of, look_here}
 use Rattle.mp_tree.specs.View.{document, document_step}
 use Rattle.mp_tree.specs.declared.doc.Doc.{Doc, Members as Map, ind-Doc, roll-Doc, fold-roll-Doc, the_lemmas}
 use Rattle.mp_tree.specs.declared.doc.Doc.TheOpen.{Doc-F}
-use Rattle.mp_tree.proofs.Facts.{is_here, find-below, cases_same, find-here, same_plain}
+use Rattle.mp_tree.proofs.Facts.{is_here, find-below, find-put, cases_same, find-here, same_plain}
 use Rattle.mp_merge.specs.Clash.{Clash, Compatible}
 use Rattle.mp_merge.specs.Private.Edits.{NotBothMaps}
 
@@ -57,9 +57,9 @@ decided false same never = absurd (never (λ p. true≢false (sym (same.1 p))))
 
 -- ---- name by name
 
--- the clashes with all the members are those with the members that are left
-abbrev pub SameClashes : Members → Members → Members → Type 0
-SameClashes ps left qs = (w : Path) → Clash (object ps) (object qs) w ↔ Clash (object left) (object qs) w
+-- the clashes of all the members with those of the other are those of the members that are left with it as it is now
+abbrev pub SameClashes : Members → Members → Members → Members → Type 0
+SameClashes ps qs left now = (w : Path) → Clash (object ps) (object qs) w ↔ Clash (object left) (object now) w
 
 abbrev pub ClashOf : Option Document → Option Document → Path → Type 0
 ClashOf p q w = (look_of p w ≡ nothing → ⊥) × (look_of q w ≡ nothing → ⊥) × (look_of p w ≡ look_of q w → ⊥)
@@ -71,7 +71,7 @@ pub clash_from : (ps qs : Members) (n : List ℕ) (w : Path) → ClashOf (find n
 clash_from ps qs n w clash = record { first = clash.0; second = clash.1; differ = clash.2 }
 
 -- the first name may be passed where nothing clashes under it
-pass_first : (n : List ℕ) (p : Document) (ps qs : Members) → IsMap (member n p ps) → ((w : Path) → ClashOf (Some p) (find n qs) w → ⊥) → SameClashes (member n p ps) ps qs
+pass_first : (n : List ℕ) (p : Document) (ps qs : Members) → IsMap (member n p ps) → ((w : Path) → ClashOf (Some p) (find n qs) w → ⊥) → SameClashes (member n p ps) qs ps qs
 pass_first n p ps qs map none [] = (λ clash. absurd (clash.differ refl), λ clash. absurd (clash.differ refl))
 pass_first n p ps qs map none (m ∷ w) = cases_same m n
     (λ here. let absent : find m ps ≡ None = ap (λ k. find k ps) here ∙ find-below n ps map.1 in (
@@ -103,7 +103,45 @@ clash_under n p q ps qs w is clash =
     clash_from (member n p ps) qs n w (subst (λ o. ClashOf o (find n qs) w) (sym (find-here n p ps)) (subst (λ o. ClashOf (Some p) o w) (sym is) there))
 
 -- where nothing clashes under the first name, the clashes with all the members are those with the members behind it
-pub same_behind : {n : List ℕ} {p : Document} {ps left qs : Members} → NoClashUnder p (find n qs) → IsMap (member n p left) → SameClashes ps (member n p left) qs → SameClashes ps left qs
-same_behind {n = n} {p = p} {left = left} {qs = qs} none map same w =
-    let later = pass_first n p left qs map none w in
+pub same_behind : {n : List ℕ} {p : Document} {ps qs left now : Members} → NoClashUnder p (find n now) → IsMap (member n p left) → SameClashes ps qs (member n p left) now → SameClashes ps qs left now
+same_behind {n = n} {p = p} {left = left} {now = now} none map same w =
+    let later = pass_first n p left now map none w in
     (λ clash. later.0 ((same w).0 clash), λ clash. (same w).1 (later.1 clash))
+
+-- ---- where the other is set at a name that is not left
+
+set_aside : (n : List ℕ) (d : Document) (left now : Members) → find n left ≡ None → SameClashes left now left (put n d now)
+set_aside n d left now absent [] = (λ clash. absurd (clash.differ refl), λ clash. absurd (clash.differ refl))
+set_aside n d left now absent (m ∷ w) = cases_same m n
+    (λ here. let none : find m left ≡ None = ap (λ k. find k left) here ∙ absent in (
+      λ clash. absurd (clash.first (ap (λ o. look_of o w) none)),
+      λ clash. absurd (clash.first (ap (λ o. look_of o w) none)),
+    ))
+    (λ other. let stays : find m (put n d now) ≡ find m now = find-put m n d now ∙ rw other refl in (
+      λ clash. clash_from left (put n d now) m w (subst (λ o. ClashOf (find m left) o w) (sym stays) (clash_of left now m w clash)),
+      λ clash. clash_from left now m w (subst (λ o. ClashOf (find m left) o w) stays (clash_of left (put n d now) m w clash)),
+    ))
+
+no_clash_under : (p : Document) (o : Option Document) → IfSome o (Compatible p) → NoClashUnder p o
+no_clash_under p None free = absent_under p None refl
+no_clash_under p (Some q) free = compatible_under p q (Some q) refl free
+
+-- the first name was passed, and the other has been set there
+pub same_set : {n : List ℕ} {p : Document} {ps qs left now : Members} (d : Document) → IfSome (find n now) (Compatible p) → IsMap (member n p left) → SameClashes ps qs (member n p left) now → SameClashes ps qs left (put n d now)
+same_set {n = n} {p = p} {left = left} {now = now} d free map same w =
+    let behind = same_behind (no_clash_under p (find n now) free) map same w in
+    let aside = set_aside n d left now (find-below n left map.1) w in
+    (λ clash. aside.0 (behind.0 clash), λ clash. behind.1 (aside.1 clash))
+
+-- where all are compatible, so is what stands at the first name
+pub compatible_first : {n : List ℕ} {p : Document} {ps qs left now : Members} → SameClashes ps qs (member n p left) now → Compatible (object ps) (object qs) → IfSome (find n now) (Compatible p)
+compatible_first {n = n} {p = p} {left = left} {now = now} same free = at (find n now) refl
+  where
+    at : (o : Option Document) → find n now ≡ o → IfSome o (Compatible p)
+    at None is = tt
+    at (Some q) is = λ w clash. free (n ∷ w) ((same (n ∷ w)).1 (clash_under n p q left now w is clash))
+
+-- where none are left, all are compatible
+pub compatible_all : {ps qs now : Members} → SameClashes ps qs no_members now → Compatible (object ps) (object qs)
+compatible_all same [] clash = clash.differ refl
+compatible_all same (n ∷ w) clash = ((same (n ∷ w)).0 clash).first refl

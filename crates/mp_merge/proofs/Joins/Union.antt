@@ -1,5 +1,5 @@
 -- The computed union of two compatible patches is their join.
-use Rattle.std.proofs.Common.{◌≡◌, ◌≢◌, ◌≤◌, ◌⊎◌, inl, inr, ℕ, List, [], ◌∷◌, ◌++◌, Option, Some, None, IfSome, max, refl, sym, ap, ◌∙◌, arith}
+use Rattle.std.proofs.Common.{◌≡◌, ◌≢◌, ◌≤◌, ◌⊎◌, ◌↔◌, inl, inr, ℕ, Bool, true, false, true≢false, List, [], ◌∷◌, ◌++◌, Option, Some, None, IfSome, max, refl, sym, ap, ◌∙◌, arith}
 use Rattle.std.proofs.lemmas.List.Elements.{Contains-push, Contains-push_cases, Contains-append_left}
 use Rattle.std.specs.List.{Contains}
 use Rattle.mp_tree.specs.Document.{Document, null, flag, whole, string, list, object, Members, no_members, member, find, put, IsDocument, IsMap, depth, members_depth}
@@ -8,9 +8,10 @@ use Rattle.mp_tree.proofs.Facts.{find-put, find-below, IsMap-put, members_same, 
 use Rattle.mp_merge.specs.Application.{target_members, depth_of}
 use Rattle.mp_merge.specs.Clash.{Compatible}
 use Rattle.mp_merge.specs.Join.{IsJoin}
-use Rattle.mp_merge.specs.Private.Unions.{earlier_or, union_over, union_with, union_members, union}
+use Rattle.mp_merge.specs.Private.Unions.{earlier_or, union_over, union_with, union_members, union, UnitesTo}
 use Rattle.mp_merge.proofs.Application.ByName.{IsMap-target_members}
 use Rattle.mp_merge.proofs.Application.Depth.{depth-find}
+use Rattle.mp_merge.proofs.Clashes.ByName.{clash_at_root, clash_of_others, compatible-self}
 use Rattle.mp_merge.proofs.Collections.Elements.{Contains-head, Contains-tail, Contains-cases, Contains-one}
 use Rattle.mp_tree.proofs.Facts.{same_look}
 
@@ -48,6 +49,11 @@ IsDocument-union p j good joined = IsDocument-union_with p (Some j) good joined
 pub union_with-absent : (p : Document) → union_with p None ≡ p
 union_with-absent (object ps) = refl
 union_with-absent p = refl
+
+-- a patch that is no object has no effect on what was joined before
+union_with-plain : (p j : Document) → look_here p ≡ plain p → union_with p (Some j) ≡ j
+union_with-plain (object ps) j is = absurd (cc)
+union_with-plain p j is = refl
 
 -- what was joined before stays where the patch does not carry the name
 abbrev union_at : Option Document → Option Document → Option Document
@@ -191,3 +197,16 @@ mutual
 
 pub depth-union : (p j : Document) → depth (union p j) ≤ max (depth p) (depth j)
 depth-union p j = depth-union_with p (Some j)
+
+-- ---- what the walk tells where one of the two is no object
+
+pub unites_plain : (united : Bool) (p j : Document) → look_here p ≡ plain p → (united ≡ true) ↔ (p ≡ j) → UnitesTo united p (Some j) j
+unites_plain true p j plain_p same = (compatible-self p j (same.0 refl), sym (union_with-plain p j plain_p))
+unites_plain false p j plain_p same = λ free. free [] (clash_of_others p j plain_p (λ is. true≢false (sym (same.1 is))))
+
+no_object : (j : Document) → ((ms : Members) → j ≢ object ms) → look_here j ≡ plain j
+no_object (object ms) never = absurd (never ms refl)
+no_object j never = refl
+
+pub clash_with_other : (ps : Members) (j : Document) → ((ms : Members) → j ≢ object ms) → ¬ Compatible (object ps) j
+clash_with_other ps j never free = free [] (clash_at_root (object ps) j (λ same. let other : an_object ≡ plain j = same ∙ no_object j never in cc))

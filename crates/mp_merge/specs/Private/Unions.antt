@@ -1,8 +1,9 @@
--- What the walk over two compatible patches computes. Only private clauses cite it.
-use Rattle.std.specs.Prelude.{Option, None, Some}
+-- What the walk that unites two patches computes, and what it tells. Only private clauses cite it.
+use Rattle.std.specs.Prelude.{◌≡◌, ℕ, Bool, true, false, List, Option, None, Some, IfSome}
 use Rattle.mp_tree.specs.Document.{Document, null, flag, whole, string, list, object, Members, no_members, member, find}
 use Rattle.mp_tree.specs.Document.{put}
 use Rattle.mp_merge.specs.Application.{target_members}
+use Rattle.mp_merge.specs.Clash.{Compatible}
 
 -- what was joined before stays, where there is something
 abbrev pub earlier_or : Option Document → Document → Document
@@ -36,3 +37,12 @@ abbrev mutual
 -- the join of two compatible patches
 abbrev pub union : Document → Document → Document
 union p j = union_with p (Some j)
+
+-- whether the patch is compatible with what was joined before, which may be absent; where it is, that is their join now
+abbrev pub UnitesTo : Bool → Document → Option Document → Document → Type 0
+UnitesTo true p j now = IfSome j (Compatible p) × (now ≡ union_with p j)
+UnitesTo false p j now = ¬ IfSome j (Compatible p)
+
+-- the same at the name n, and every other name is as it was
+abbrev pub UnitesAt : Bool → List ℕ → Document → Members → Members → Type 0
+UnitesAt united n p js now = (d : Document) × UnitesTo united p (find n js) d × (now ≡ put n d js)

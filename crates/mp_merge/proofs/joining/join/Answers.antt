@@ -1,11 +1,9 @@
-use Rattle.std.proofs.Common.{◌≡◌, ◌≤◌, [], ◌∷◌, max, sym, ap, ◌∙◌, subst, arith}
+use Rattle.std.proofs.Common.{◌≤◌, [], ◌∷◌, Some, true, max, sym, subst, arith}
 use Rattle.mp_tree.specs.Document.{depth}
 use Rattle.mp_tree.specs.View.{document}
 use Rattle.mp_tree.proofs.Facts.{IsDocument-document}
-use Rattle.mp_merge.specs.Clash.{Compatible}
 use Rattle.mp_merge.specs.Join.{IsJoin}
-use Rattle.mp_merge.specs.Private.Unions.{union}
-use Rattle.mp_merge.proofs.Clashes.ByName.{compatible-sym}
+use Rattle.mp_merge.specs.Private.Unions.{UnitesTo}
 use Rattle.mp_merge.proofs.Joins.Union.{union_grows_join, join-one, depth-union}
 use Rattle.mp_merge.proofs.joining.join.Goals as goal
 
@@ -13,13 +11,14 @@ pub returns-clause-joined : goal.returns-clause-joined
 returns-clause-joined c =
     let p = document c.args.p.now in
     let q = document c.args.q.now in
-    let free : Compatible p q = c.compatible.ensures.0 c.if-not-compatible.false in
-    let is : document c.in_ok-unite.field-0 ≡ union q p = c.in_ok-unite.ensures ∙ ap (union q) c.in_ok-copy.ensures.equal in
-    subst (λ j. IsJoin (p ∷ q ∷ []) j) (sym is) (union_grows_join (p ∷ []) q p (IsDocument-document c.args.q.now) (IsDocument-document c.args.p.now) (join-one p) (compatible-sym p q free))
+    let j = document c.unite.new.joined in
+    let united : UnitesTo true q (Some p) j = subst (λ b. UnitesTo b q (Some p) j) c.if-not-branch.false (subst (λ d. UnitesTo c.in_ok-unite.field-0 q (Some d) j) c.in_ok-joined.ensures.equal c.in_ok-unite.ensures) in
+    subst (λ d. IsJoin (p ∷ q ∷ []) d) (sym united.1) (union_grows_join (p ∷ []) q p (IsDocument-document c.args.q.now) (IsDocument-document c.args.p.now) (join-one p) united.0)
 
 pub returns-clause-depth : goal.returns-clause-depth
 returns-clause-depth c =
     let p = document c.args.p.now in
     let q = document c.args.q.now in
-    let is : document c.in_ok-unite.field-0 ≡ union q p = c.in_ok-unite.ensures ∙ ap (union q) c.in_ok-copy.ensures.equal in
-    subst (λ j. depth j ≤ max (depth p) (depth q)) (sym is) (omega (arith, depth-union q p))
+    let j = document c.unite.new.joined in
+    let united : UnitesTo true q (Some p) j = subst (λ b. UnitesTo b q (Some p) j) c.if-not-branch.false (subst (λ d. UnitesTo c.in_ok-unite.field-0 q (Some d) j) c.in_ok-joined.ensures.equal c.in_ok-unite.ensures) in
+    subst (λ d. depth d ≤ max (depth p) (depth q)) (sym united.1) (omega (arith, depth-union q p))
