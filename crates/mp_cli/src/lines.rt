@@ -1,5 +1,5 @@
 //! The lines of the program, each with its status: the texts stand here alone.
-ghost use Rattle.std.specs.Prelude.{◌≡◌, ◌++◌, IfOk, option_map, string_bytes};
+ghost use Rattle.std.specs.Prelude.{◌≡◌, ◌++◌, IfOk, OnOk, option_map, string_bytes};
 ghost use Rattle.mp_tree.specs.View.{document};
 ghost use Rattle.mp_pointer.specs.Part.{numeral};
 ghost use Rattle.mp_cli.specs.Lines.{bad_tilde_line, conflict_line, form_fault, input_fault, line as line_with, operation_line, part_line, pointer_text, pointers_text, run_fault, spelling_fault, status_result, wrong_shape as shape_fault};
@@ -46,12 +46,15 @@ pub(crate) fn wrong_shape(alloc: Global) -> Result<Answer, AllocError>
 fn line(alloc: Global, text: &str, status: u8) -> Result<Answer, AllocError>
     ensures { Gives result (line_with text.now status) }
 {
-    let mut with_newline = String::from_str(alloc, text)?;
-    with_newline.push_str("\n")?;
-    Ok(Answer {
-        text: with_newline,
-        status,
-    })
+    ended(String::from_str(alloc, text)?, status)
+}
+
+// The text is not copied: it may be as long as memory allows.
+fn ended(mut text: String, status: u8) -> Result<Answer, AllocError>
+    ensures { Gives result (line_with (string_bytes text) status) }
+{
+    text.push_str("\n")?;
+    Ok(Answer { text, status })
 }
 
 pub(crate) fn fault_in_spelling(alloc: Global, fault: PointerFault) -> Result<Answer, AllocError>
@@ -67,8 +70,7 @@ pub(crate) fn fault_in_spelling(alloc: Global, fault: PointerFault) -> Result<An
 fn bad_tilde(alloc: Global, offset: usize) -> Result<Answer, AllocError>
     ensures { Gives result (bad_tilde_line offset) }
 {
-    let text = with_number(alloc, "pointer: bad tilde at ", offset)?;
-    line(alloc, text.as_str(), REFUSED)
+    ended(with_number(alloc, "pointer: bad tilde at ", offset)?, REFUSED)
 }
 
 pub(crate) fn part(alloc: Global, found: Option<&Doc>) -> Result<Answer, AllocError>
@@ -105,7 +107,7 @@ fn operation(alloc: Global, op: usize, words: &str, status: u8) -> Result<Answer
     let mut text = with_number(alloc, "operation ", op)?;
     text.push_str(": ")?;
     text.push_str(words)?;
-    line(alloc, text.as_str(), status)
+    ended(text, status)
 }
 
 pub(crate) fn fault_in_list(alloc: Global, fault: ListFault) -> Result<Answer, AllocError>
@@ -117,7 +119,7 @@ pub(crate) fn fault_in_list(alloc: Global, fault: ListFault) -> Result<Answer, A
             first,
             second,
             places,
-        } => conflict(alloc, first, second, places.as_slice()),
+        } => conflict(alloc, first, second, places),
         ListFault::OutOfMemory => Err(AllocError),
     }
 }
@@ -126,30 +128,32 @@ fn conflict(
     alloc: Global,
     first: usize,
     second: usize,
-    places: &[Pointer],
+    places: Vec<Pointer>,
 ) -> Result<Answer, AllocError>
-    ensures { Gives result (conflict_line first second places.now) }
+    ensures { Gives result (conflict_line first second places.items) }
 {
     let mut text = with_number(alloc, "conflict: patches ", first)?;
     text.push_str(with_number(alloc, " and ", second)?.as_str())?;
     text.push_str(" at ")?;
-    text.push_str(pointers(alloc, places)?.as_str())?;
-    line(alloc, text.as_str(), NO_RESULT)
+    push_pointers(&mut text, places, alloc)?;
+    ended(text, NO_RESULT)
 }
 
-// With a comma and one space between two.
-fn pointers(alloc: Global, places: &[Pointer]) -> Result<String, AllocError>
-    ensures { IfOk result (λ text. string_bytes text ≡ pointers_text places.now) }
+// With a comma and one space between two. Each is given back once it is printed, so the places and their text are
+// never there twice.
+fn push_pointers(text: &mut String, places: Vec<Pointer>, alloc: Global) -> Result<(), AllocError>
+    ensures { OnOk result
+        (string_bytes text.new ≡ string_bytes text.old ++ pointers_text places.items) }
 {
-    let Some((first, rest)) = places.split_first() else {
-        return Ok(String::new(alloc));
-    };
-    let mut text = pointer(alloc, first)?;
-    for place in rest {
-        text.push_str(", ")?;
-        text.push_str(pointer(alloc, place)?.as_str())?;
+    let mut left = places.into_iter();
+    if let Some(first) = left.next() {
+        text.push_str(pointer(alloc, &first)?.as_str())?;
     }
-    Ok(text)
+    for place in left {
+        text.push_str(", ")?;
+        text.push_str(pointer(alloc, &place)?.as_str())?;
+    }
+    Ok(())
 }
 
 fn pointer(alloc: Global, place: &Pointer) -> Result<String, AllocError>
@@ -165,14 +169,10 @@ fn with_number(alloc: Global, before: &str, number: usize) -> Result<String, All
     format!(in alloc; "{before}{number}")
 }
 
-pub(crate) fn result_line(mut text: String) -> Result<Answer, AllocError>
+pub(crate) fn result_line(text: String) -> Result<Answer, AllocError>
     ensures { Gives result (line_with (string_bytes text) status_result) }
 {
-    text.push_str("\n")?;
-    Ok(Answer {
-        text,
-        status: RESULT,
-    })
+    ended(text, RESULT)
 }
 
 /// The line for a fault of `run`, without its newline, and the status that the program ends with.

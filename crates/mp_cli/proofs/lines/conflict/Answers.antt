@@ -1,4 +1,4 @@
-use Rattle.std.proofs.Common.{◌≡◌, ◌∙◌, ◌++◌, ℕ, List, ap, append_assoc, codes, rules, subst, sym}
+use Rattle.std.proofs.Common.{◌≡◌, ◌∙◌, ◌++◌, ℕ, List, ap, append_assoc, codes, rules, string_bytes, subst, sym}
 use Rattle.mp_pointer.specs.Part.{numeral}
 use Rattle.mp_cli.specs.Lines.{line, pointers_text}
 use Rattle.mp_cli.specs.Private.Answers.{Gives}
@@ -15,6 +15,6 @@ returns c =
     let at = codes " at " in
     let one = numeral c.args.first in
     let other = numeral c.args.second in
-    let places = pointers_text c.args.places.now in
-    let written : c.as_str-3.result.now ≡ (((first ++ one) ++ (second ++ other)) ++ at) ++ places = search rules in
-    subst (λ (text : List ℕ). Gives c.line.result (line text 1)) (written ∙ regroup first one second other at places) c.line.ensures
+    let places = pointers_text c.args.places.items in
+    let written : string_bytes c.push_pointers.new.text ≡ (((first ++ one) ++ (second ++ other)) ++ at) ++ places = search rules in
+    subst (λ (text : List ℕ). Gives c.ended.result (line text 1)) (written ∙ regroup first one second other at places) c.ended.ensures
