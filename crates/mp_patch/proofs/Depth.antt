@@ -1,7 +1,12 @@
 -- No operation takes a document past the depth limit.
-use Rattle.std.proofs.Common.{◌≡◌, ◌≢◌, ◌≤◌, ◌+◌, ◌⊎◌, inl, inr, ℕ, suc, max, List, [], ◌∷◌, length, Some, ap, ◌∙◌, arith, length-append}
-use Rattle.mp_tree.specs.Document.{Document, item, IsDocument, depth, depth_limit}
-use Rattle.mp_tree.proofs.Facts.{members_depth-put, members_depth-without, depth-append}
+use Rattle.std.proofs.Common.{◌≡◌, ◌≢◌, ◌≤◌, ◌+◌, ◌⊎◌, inl, inr, ℕ, suc, max, List, [], ◌∷◌, length, Some, String, Global, string_cmp, refl, ap, ◌∙◌, arith, length-append}
+use Rattle.std.specs.List.Sorted.{IsStrictlySortedBy}
+use Rattle.std.specs.Map.{keys_of, values_of}
+use Rattle.mp_tree.specs.Document.{Document, item, IsDocument, depth, items_depth, members_depth, depth_limit}
+use Rattle.mp_tree.specs.View.{document, items}
+use Rattle.mp_tree.specs.Private.Entries.{members}
+use Rattle.mp_tree.specs.declared.doc.Doc.{Doc}
+use Rattle.mp_tree.proofs.Facts.{members-cons, members_depth-put, members_depth-without, depth-append}
 use Rattle.mp_pointer.specs.Part.{part}
 use Rattle.mp_pointer.specs.Spelling.{Tokens}
 use Rattle.mp_pointer.proofs.Facts.{part-depth, depth-changed}
@@ -10,6 +15,14 @@ use Rattle.mp_patch.specs.Refusal.{IsTooDeep}
 use Rattle.mp_patch.specs.Run.{IsRefused}
 use Rattle.mp_patch.proofs.Documents.{Removes-document}
 use Rattle.mp_patch.proofs.FirstCause.{free_of}
+
+-- ---- a map and a list of its values
+
+-- in a map each name stands once, so no value is hidden by another
+pub members_depth-values : (es : List (String Global × Doc)) → IsStrictlySortedBy string_cmp (keys_of es) → members_depth (members es) ≡ items_depth (items (values_of es))
+unfolding IsStrictlySortedBy
+members_depth-values [] ascending = refl
+members_depth-values (e ∷ es) ascending = ap members_depth (members-cons e es ascending) ∙ ap (λ n. max (depth (document e.1)) n) (members_depth-values es ascending.1)
 
 -- ---- a map or a list that was changed
 
@@ -26,28 +39,28 @@ removes-depth token x y (from_list front back v names_it is now) = omega (arith,
 fits_if_not_deep : (t : Tokens) (v : Document) → ¬ IsTooDeep t v → length t + depth v ≤ depth_limit
 fits_if_not_deep t v shallow = omega (arith, shallow)
 
-Adds-depth : (t : Tokens) (v d e : Document) → length t + depth v ≤ depth_limit → ((t ≡ []) × (e ≡ v)) ⊎ ChangesContainer (AddsTo v) t d e → IsDocument e → depth d ≤ depth_limit → depth e ≤ depth_limit
-Adds-depth t v d e fits (inl root) good shallow = omega (arith, ap depth root.1)
-Adds-depth t v d e fits (inr c) good shallow =
+pub Adds-depth : (n : ℕ) (t : Tokens) (v d e : Document) → length t + depth v ≤ n → ((t ≡ []) × (e ≡ v)) ⊎ ChangesContainer (AddsTo v) t d e → IsDocument e → depth d ≤ n → depth e ≤ n
+Adds-depth n t v d e fits (inl root) good shallow = omega (arith, ap depth root.1)
+Adds-depth n t v d e fits (inr c) good shallow =
     let long : length t ≡ length c.container + 1 = ap length c.is ∙ length-append c.container (c.last ∷ []) in
-    depth-changed depth_limit c.container d e c.after good c.only c.stands shallow (omega (arith, adds-depth v c.last c.before c.after c.changed, part-depth c.container d c.before c.stood, long))
+    depth-changed n c.container d e c.after good c.only c.stands shallow (omega (arith, adds-depth v c.last c.before c.after c.changed, part-depth c.container d c.before c.stood, long))
 
-Removes-depth : (t : Tokens) (d e : Document) → ChangesContainer RemovesFrom t d e → IsDocument e → depth d ≤ depth_limit → depth e ≤ depth_limit
-Removes-depth t d e c good shallow =
-    depth-changed depth_limit c.container d e c.after good c.only c.stands shallow (omega (arith, removes-depth c.last c.before c.after c.changed, part-depth c.container d c.before c.stood))
+pub Removes-depth : (n : ℕ) (t : Tokens) (d e : Document) → ChangesContainer RemovesFrom t d e → IsDocument e → depth d ≤ n → depth e ≤ n
+Removes-depth n t d e c good shallow =
+    depth-changed n c.container d e c.after good c.only c.stands shallow (omega (arith, removes-depth c.last c.before c.after c.changed, part-depth c.container d c.before c.stood))
 
 moved-depth : (f t : Tokens) (x d e : Document) → ¬ IsRefused d (move f t) → part d f ≡ Some x → ((f ≡ t) × (e ≡ d)) ⊎ ((f ≢ t) × (left : Document) × Removes f d left × Adds t x left e) → IsDocument d → IsDocument e → depth d ≤ depth_limit
     → depth e ≤ depth_limit
 moved-depth f t x d e free stood (inl same) good new shallow = omega (arith, ap depth same.1)
 moved-depth f t x d e free stood (inr (other, left, removes, adds)) good new shallow =
     let fits = fits_if_not_deep t x (λ deep. (free_of d (move f t) free).1.1.1.0 (other, (x, stood, deep))) in
-    Adds-depth t x left e fits adds new (Removes-depth f d left removes (Removes-document f d left good removes) shallow)
+    Adds-depth depth_limit t x left e fits adds new (Removes-depth depth_limit f d left removes (Removes-document f d left good removes) shallow)
 
 pub Step-depth : (d : Document) (o : Operation) (e : Document) → ¬ IsRefused d o → Step d o e → IsDocument d → IsDocument e → depth d ≤ depth_limit → depth e ≤ depth_limit
-Step-depth d (add t v) e free step good new shallow = Adds-depth t v d e (fits_if_not_deep t v (free_of d (add t v) free).1.0) step new shallow
-Step-depth d (remove t) e free step good new shallow = Removes-depth t d e step new shallow
+Step-depth d (add t v) e free step good new shallow = Adds-depth depth_limit t v d e (fits_if_not_deep t v (free_of d (add t v) free).1.0) step new shallow
+Step-depth d (remove t) e free step good new shallow = Removes-depth depth_limit t d e step new shallow
 Step-depth d (replace t v) e free step good new shallow = depth-changed depth_limit t d e v new step.2 step.1 shallow (fits_if_not_deep t v (free_of d (replace t v) free).1.0)
 Step-depth d (move f t) e free step good new shallow = moved-depth f t step.0 d e free step.1 step.2 good new shallow
 Step-depth d (copy f t) e free step good new shallow =
-    Adds-depth t step.0 d e (fits_if_not_deep t step.0 (λ deep. (free_of d (copy f t) free).1.1.0 (step.0, step.1, deep))) step.2 new shallow
+    Adds-depth depth_limit t step.0 d e (fits_if_not_deep t step.0 (λ deep. (free_of d (copy f t) free).1.1.0 (step.0, step.1, deep))) step.2 new shallow
 Step-depth d (test t v) e free step good new shallow = omega (arith, ap depth step.1)

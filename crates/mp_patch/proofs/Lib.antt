@@ -1,3 +1,4 @@
+pub mod Bounds
 pub mod Depth
 pub mod Documents
 pub mod FaultLaws

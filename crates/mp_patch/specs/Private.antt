@@ -1,4 +1,5 @@
 -- What private clauses alone cite: who trusts the public contracts need not read it.
+pub mod Bounds
 pub mod Faults
 pub mod Names
 pub mod Reading

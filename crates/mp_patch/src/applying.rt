@@ -5,6 +5,7 @@ ghost use Rattle.mp_tree.specs.View.{document};
 ghost use Rattle.mp_patch.specs.Run.{Runs, IsFaultOf};
 ghost use Rattle.mp_patch.specs.View.{operations_of};
 
+use crate::bound::DepthBound;
 use crate::fault::ApplyFault;
 use crate::patch::JsonPatch;
 use crate::steps::step;
@@ -39,8 +40,9 @@ pub fn apply_owned(alloc: Global, doc: Doc, patch: &JsonPatch) -> Result<Doc, Ap
         → depth (document e) ≤ depth_limit) }
 {
     let mut result = doc;
+    let mut bound = DepthBound::unknown();
     for (number, op) in patch.ops().iter().enumerate() {
-        if let Err(refusal) = step(op, &mut result, alloc) {
+        if let Err(refusal) = step(op, &mut result, &mut bound, alloc) {
             return Err(refusal.of_operation(number));
         }
     }

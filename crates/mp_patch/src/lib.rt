@@ -2,9 +2,11 @@
 #![tactic(auto)]
 
 mod applying;
+mod bound;
 mod containers;
 mod fault;
 pub mod laws;
+mod measuring;
 mod name;
 mod op;
 mod patch;

@@ -1,14 +1,16 @@
 // One operation at a time (RFC 6902 section 4), on a document that is owned.
-ghost use Rattle.std.specs.Prelude.{◌≡◌, ◌≢◌, ◌+◌, ◌≤◌, ◌↔◌, ◌++◌, ◌∷◌, [], take, IsTrue, Some, MatchOption, MatchResult, Err};
+ghost use Rattle.std.specs.Prelude.{◌≡◌, ◌≢◌, ◌+◌, ◌≤◌, ◌↔◌, ◌++◌, ◌∷◌, [], length, take, IsTrue, Some, MatchOption, MatchResult, OnOk, Err};
 ghost use Rattle.mp_tree.specs.Document.{depth, depth_limit};
 ghost use Rattle.mp_tree.specs.View.{document};
 ghost use Rattle.mp_pointer.specs.Part.{part};
 ghost use Rattle.mp_patch.specs.Operation.{add as add_operation, remove as remove_operation, replace as replace_operation, move as move_operation, copy as copy_operation, test as test_operation, Removes};
 ghost use Rattle.mp_patch.specs.Refusal.{RefusedBy};
 ghost use Rattle.mp_patch.specs.Run.{IsRefused};
+ghost use Rattle.mp_patch.specs.Private.Bounds.{Bounds};
 ghost use Rattle.mp_patch.specs.Private.Steps.{Answers};
 ghost use Rattle.mp_patch.specs.View.{operation_of};
 
+use crate::bound::DepthBound;
 use crate::containers::{insert, set, take};
 use crate::fault::{Cause, Refusal};
 use crate::op::Op;
@@ -16,31 +18,58 @@ use mp_pointer::{Pointer, edit_part, get};
 use mp_tree::Doc;
 use std::alloc::Global;
 
-/// The number of tokens of a place and the depth of a value that is put there are together at most this.
-const DEPTH_LIMIT: usize = mp_tree::DEPTH_LIMIT as usize;
-
 // On a fault the document is not used again.
-pub(crate) fn step(op: &Op, doc: &mut Doc, alloc: Global) -> Result<(), Refusal<Cause>>
-    ensures { Answers result (document doc.old) (operation_of op.now) (document doc.new) }
+pub(crate) fn step(
+    op: &Op,
+    doc: &mut Doc,
+    bound: &mut DepthBound,
+    alloc: Global,
+) -> Result<(), Refusal<Cause>>
+    requires { Bounds bound.old.most 0 (document doc.old) }
+    ensures answer { Answers result (document doc.old) (operation_of op.now) (document doc.new) }
+    ensures bounds { OnOk result (Bounds bound.new.most 0 (document doc.new)) }
 {
     match op {
-        Op::Add(path, value) => add(doc, path, value.copy(alloc)?, alloc),
+        Op::Add(path, value) => add(doc, path, value.copy(alloc)?, bound, alloc),
         Op::Remove(path) => {
             drop(remove(doc, path)?);
             Ok(())
         }
-        Op::Replace(path, value) => replace(doc, path, value.copy(alloc)?),
-        Op::Move { origin, path } => move_part(doc, origin, path, alloc),
-        Op::Copy { origin, path } => copy_part(doc, origin, path, alloc),
+        Op::Replace(path, value) => replace(doc, path, value.copy(alloc)?, bound),
+        Op::Move { origin, path } => move_part(doc, origin, path, bound, alloc),
+        Op::Copy { origin, path } => copy_part(doc, origin, path, bound, alloc),
         Op::Test(path, value) => check(doc, path, value),
     }
 }
 
-fn add(doc: &mut Doc, path: &Pointer, value: Doc, alloc: Global) -> Result<(), Refusal<Cause>>
+fn add(
+    doc: &mut Doc,
+    path: &Pointer,
+    value: Doc,
+    bound: &mut DepthBound,
+    alloc: Global,
+) -> Result<(), Refusal<Cause>>
+    requires { Bounds bound.old.most 0 (document doc.old) }
+    ensures answer { Answers result (document doc.old) (add_operation path.now (document value))
+        (document doc.new) }
+    ensures bounds { OnOk result (Bounds bound.new.most 0 (document doc.new)) }
+{
+    let fits = bound.admit(&value, path.len());
+    put(doc, path, value, fits, alloc)
+}
+
+// Adds a value of which is known whether it fits.
+fn put(
+    doc: &mut Doc,
+    path: &Pointer,
+    value: Doc,
+    fits: bool,
+    alloc: Global,
+) -> Result<(), Refusal<Cause>>
+    requires { IsTrue fits ↔ (length path.now + depth (document value) ≤ depth_limit) }
     ensures { Answers result (document doc.old) (add_operation path.now (document value))
         (document doc.new) }
 {
-    let fits = fits_below(&value, path.len());
     let Some((last, token)) = last_token(path) else {
         return set(doc, value, fits);
     };
@@ -75,11 +104,18 @@ fn remove(doc: &mut Doc, path: &Pointer) -> Result<Doc, Refusal<Cause>>
     }
 }
 
-fn replace(doc: &mut Doc, path: &Pointer, value: Doc) -> Result<(), Refusal<Cause>>
-    ensures { Answers result (document doc.old) (replace_operation path.now (document value))
-        (document doc.new) }
+fn replace(
+    doc: &mut Doc,
+    path: &Pointer,
+    value: Doc,
+    bound: &mut DepthBound,
+) -> Result<(), Refusal<Cause>>
+    requires { Bounds bound.old.most 0 (document doc.old) }
+    ensures answer { Answers result (document doc.old)
+        (replace_operation path.now (document value)) (document doc.new) }
+    ensures bounds { OnOk result (Bounds bound.new.most 0 (document doc.new)) }
 {
-    let fits = fits_below(&value, path.len());
+    let fits = bound.admit(&value, path.len());
     match edit_part(doc, path, path.len(), |part| set(part, value, fits)) {
         Some(outcome) => outcome,
         None => Err(Refusal::By(Cause::Missing)),
@@ -91,10 +127,13 @@ fn move_part(
     doc: &mut Doc,
     origin: &Pointer,
     path: &Pointer,
+    bound: &mut DepthBound,
     alloc: Global,
 ) -> Result<(), Refusal<Cause>>
-    ensures { Answers result (document doc.old) (move_operation origin.now path.now)
+    requires { Bounds bound.old.most 0 (document doc.old) }
+    ensures answer { Answers result (document doc.old) (move_operation origin.now path.now)
         (document doc.new) }
+    ensures bounds { OnOk result (Bounds bound.new.most 0 (document doc.new)) }
 {
     if origin.is_proper_prefix_of(path) {
         return Err(Refusal::By(Cause::IntoItself));
@@ -106,23 +145,27 @@ fn move_part(
         };
     }
     let part = remove(doc, origin)?;
-    add(doc, path, part, alloc)
+    let fits = bound.admit_part(&part, origin.len(), doc, path.len());
+    put(doc, path, part, fits, alloc)
 }
 
 fn copy_part(
     doc: &mut Doc,
     origin: &Pointer,
     path: &Pointer,
+    bound: &mut DepthBound,
     alloc: Global,
 ) -> Result<(), Refusal<Cause>>
-    ensures { Answers result (document doc.old) (copy_operation origin.now path.now)
+    requires { Bounds bound.old.most 0 (document doc.old) }
+    ensures answer { Answers result (document doc.old) (copy_operation origin.now path.now)
         (document doc.new) }
+    ensures bounds { OnOk result (Bounds bound.new.most 0 (document doc.new)) }
 {
     let part = match get(doc, origin) {
         Some(part) => part.copy(alloc)?,
         None => return Err(Refusal::By(Cause::Missing)),
     };
-    add(doc, path, part, alloc)
+    add(doc, path, part, bound, alloc)
 }
 
 // RFC 6902's `test`.
@@ -147,13 +190,4 @@ fn last_token(path: &Pointer) -> Option<(usize, &str)>
 {
     let last = path.len().checked_sub(1)?;
     Some((last, path.token(last).unwrap()))
-}
-
-fn fits_below(value: &Doc, tokens: usize) -> bool
-    ensures { IsTrue result ↔ (tokens + depth (document value.now) ≤ depth_limit) }
-{
-    match DEPTH_LIMIT.checked_sub(tokens) {
-        Some(room) => value.fits(room as u32),
-        None => false,
-    }
 }

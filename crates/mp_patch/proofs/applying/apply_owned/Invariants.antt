@@ -1,6 +1,7 @@
 use Rattle.std.proofs.Common.{◌≤◌, take}
 use Rattle.mp_tree.specs.Document.{depth, depth_limit}
 use Rattle.mp_tree.specs.View.{document}
+use Rattle.mp_patch.specs.Private.Bounds.{Bounds}
 use Rattle.mp_patch.specs.Run.{Runs}
 use Rattle.mp_patch.specs.View.{operations_of}
 use Rattle.mp_patch.proofs.applying.apply_owned.Given as goal
@@ -9,5 +10,6 @@ use Rattle.mp_patch.proofs.applying.apply_owned.Given as goal
 abbrev pub invariant-loop-number : goal.invariant-loop-number
 invariant-loop-number l = record {
   run : Runs (document l.fn.doc) (take l.number (operations_of l.fn.patch)) (document l.result);
+  bounds : Bounds l.bound.most 0 (document l.result);
   shallow : depth (document l.fn.doc) ≤ depth_limit → depth (document l.result) ≤ depth_limit;
 }

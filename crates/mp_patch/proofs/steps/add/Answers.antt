@@ -1,23 +1,12 @@
-use Rattle.std.proofs.Common.{take, arith, rules, inl, refl, sym, subst}
 use Rattle.mp_tree.specs.View.{document}
-use Rattle.mp_tree.specs.declared.doc.Doc.{Doc}
-use Rattle.mp_patch.specs.Refusal.{LacksPlace}
-use Rattle.mp_patch.specs.Private.Steps.{Inserts}
-use Rattle.mp_patch.proofs.SingleSteps.{at_ends, added}
+use Rattle.mp_tree.proofs.Facts.{IsDocument-document}
+use Rattle.mp_patch.proofs.Bounds.{added-bounds}
 use Rattle.mp_patch.proofs.steps.add.Goals as goal
 
-pub returns-in-Some-edit_part : goal.returns-in-Some-edit_part
-returns-in-Some-edit_part c =
-    let path = c.args.path.now in
-    let token = c.in-Some.token.now in
-    let edits = c.in-Some-edit_part.ensures in
-    let r = c.in-Some-edit_part.inserted in
-    let fits = c.fits_below-fits.result in
-    let met : Inserts r fits token (document c.args.value) (document edits.edited.shown.now) (document edits.edited.left.now) = search rules in
-    let inserts = at_ends (λ (x y : Doc). Inserts r fits token (document c.args.value) (document x) (document y)) edits.edited.shown.now edits.edited.left.now edits.before edits.after edits.edited.shows edits.edited.leaves met in
-    added r fits path (take c.in-Some.last path) token (document c.args.value) (document c.args.doc.now) (document c.edit_part.new.doc) (document edits.before) (document edits.after) (λ h. omega (arith, c.fits_below-fits.ensures.0 h, c.len.ensures)) (λ h. c.fits_below-fits.ensures.1 (omega (arith, h, c.len.ensures))) c.in-Some.ensures edits.stood edits.stands edits.only inserts
-
-pub returns-in-None : goal.returns-in-None
-returns-in-None c =
-    let path = c.args.path.now in
-    inl (refl, (take c.in-Some.last path, c.in-Some.token.now, c.in-Some.ensures, subst (LacksPlace c.in-Some.token.now) (sym c.in-None.ensures.0) tt))
+pub returns-clause-bounds : goal.returns-clause-bounds
+returns-clause-bounds c =
+    let start = document c.args.doc.now in
+    let end = c.put.new.doc in
+    let admits = c.admit-fits.ensures in
+    added-bounds c.admit-fits.result c.admit-fits.new.self.most c.len.result c.args.path.now (document c.args.value) start (document end)
+    c.len.ensures admits.fits.1 admits.bounds (IsDocument-document end) (admits.kept start c.requires) c.put.result c.put.ensures

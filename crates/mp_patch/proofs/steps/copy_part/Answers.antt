@@ -3,7 +3,7 @@ use Rattle.mp_tree.specs.View.{document}
 use Rattle.mp_patch.proofs.Moves.{copied}
 use Rattle.mp_patch.proofs.steps.copy_part.Goals as goal
 
-pub returns : goal.returns
-returns c =
+pub returns-clause-answer : goal.returns-clause-answer
+returns-clause-answer c =
     let x = document c.in_ok-part-in-Some.part in
-    copied c.args.origin.now c.args.path.now x (document c.args.doc.now) (sym c.in-Some.ensures ∙ ap Some (sym c.in_ok-part-in-Some.ensures.equal)) c.add.result (document c.add.new.doc) c.add.ensures
+    copied c.args.origin.now c.args.path.now x (document c.args.doc.now) (sym c.in-Some.ensures ∙ ap Some (sym c.in_ok-part-in-Some.ensures.equal)) c.add.result (document c.add.new.doc) c.add.ensures.answer

@@ -5,20 +5,31 @@ use Rattle.mp_pointer.specs.Part.{part}
 use Rattle.mp_pointer.specs.Spelling.{Tokens}
 use Rattle.mp_patch.specs.declared.fault.Cause.TheVariants.{TooDeep}
 use Rattle.mp_patch.specs.declared.fault.Refusal.TheVariants.{By}
+use Rattle.mp_tree.proofs.Facts.{IsDocument-document}
+use Rattle.mp_patch.proofs.Bounds.{replaced-bounds}
 use Rattle.mp_patch.proofs.SingleSteps.{replaced, set_means}
 use Rattle.mp_patch.proofs.steps.replace.Goals as goal
 use Rattle.mp_pointer.proofs.Facts.{to_end}
 
-pub returns-in-Some : goal.returns-in-Some
-returns-in-Some c =
+pub returns-in-Some-clause-answer : goal.returns-in-Some-clause-answer
+returns-in-Some-clause-answer c =
     let path = c.args.path.now in
     let r = c.in-Some.outcome in
-    let fits = c.fits_below-fits.result in
+    let fits = c.admit-fits.result in
+    let admits = c.admit-fits.ensures in
     let all : take c.len-2.result path ≡ path = ap (λ n. take n path) c.len-2.ensures ∙ to_end path in
     let edits = c.in-Some.ensures in
     let set : MatchResult r (λ _. IsTrue fits × (edits.edited.left.now ≡ c.args.value)) (λ fault. IsFalse fits × (fault ≡ By TooDeep)) = search rules in
     let will : document edits.after ≡ document edits.edited.left.now = ap document (sym edits.edited.leaves) in
     replaced r fits path (document c.args.value) (document c.args.doc.now) (document c.edit_part.new.doc) (document edits.before) (document edits.edited.left.now)
-    (λ h. omega (arith, c.fits_below-fits.ensures.0 h, c.len.ensures)) (λ h. c.fits_below-fits.ensures.1 (omega (arith, h, c.len.ensures)))
+    (λ h. omega (arith, admits.fits.0 h, c.len.ensures)) (λ h. admits.fits.1 (omega (arith, h, c.len.ensures)))
     (ap (part (document c.args.doc.now)) (sym all) ∙ edits.stood) (ap (part (document c.edit_part.new.doc)) (sym all) ∙ edits.stands ∙ ap Some will)
     (subst (λ (t : Tokens). DifferOnlyAt t (document c.args.doc.now) (document c.edit_part.new.doc)) all edits.only) (set_means r fits edits.edited.left.now c.args.value set)
+
+pub returns-in-Some-clause-bounds : goal.returns-in-Some-clause-bounds
+returns-in-Some-clause-bounds c =
+    let start = document c.args.doc.now in
+    let end = c.edit_part.new.doc in
+    let admits = c.admit-fits.ensures in
+    replaced-bounds c.admit-fits.result c.admit-fits.new.self.most c.len.result c.args.path.now (document c.args.value) start (document end)
+    c.len.ensures admits.fits.1 admits.bounds (IsDocument-document end) (admits.kept start c.requires) c.in-Some.outcome (returns-in-Some-clause-answer c)

@@ -1,0 +1,118 @@
+// What is known of the depth of a document while operations change it.
+ghost use Rattle.std.specs.Prelude.{◌≡◌, ◌+◌, ◌≤◌, ◌↔◌, ℕ, IsTrue, None};
+ghost use Rattle.mp_tree.specs.Document.{Document, depth, depth_limit};
+ghost use Rattle.mp_tree.specs.View.{document};
+ghost use Rattle.mp_patch.specs.Private.Bounds.{Bounds};
+
+use crate::measuring::depth_within;
+use mp_tree::Doc;
+
+/// The number of tokens of a place and the depth of a value that is put there are together at most this.
+const DEPTH_LIMIT: usize = mp_tree::DEPTH_LIMIT as usize;
+
+/// So many parts are walked before a document is measured for the first time.
+const FIRST_MEASURE: usize = 4096;
+
+// A bound on the depth of a document, so that a `move` need not walk what it moves where that can't be too deep. The
+// document is measured only for a `move`, and once as many parts were walked as it had: so to measure it never takes
+// longer than what was walked without.
+#[derive(Drop)]
+pub(crate) struct DepthBound {
+    // the depth is at most this; None where nothing is known
+    most: Option<usize>,
+    // the parts that were walked since the document was measured
+    walked: usize,
+    // the parts that the document had then
+    parts: usize,
+}
+
+impl DepthBound {
+    pub(crate) fn unknown() -> DepthBound
+        ensures { result.most ≡ None }
+    {
+        DepthBound {
+            most: None,
+            walked: 0,
+            parts: FIRST_MEASURE,
+        }
+    }
+
+    // Whether a value fits below so many tokens. Where it does, the bound holds also with the value there.
+    pub(crate) fn admit(&mut self, value: &Doc, tokens: usize) -> bool
+        ensures fits { IsTrue result ↔ (tokens + depth (document value.now) ≤ depth_limit) }
+        ensures kept { (d : Document) → Bounds self.old.most 0 d → Bounds self.new.most 0 d }
+        ensures bounds { IsTrue result → Bounds self.new.most tokens (document value.now) }
+    {
+        let Some(room) = DEPTH_LIMIT.checked_sub(tokens) else {
+            return false;
+        };
+        let Some(depth) = depth_within(value, room, &mut self.walked) else {
+            return false;
+        };
+        self.raise(tokens + depth);
+        true
+    }
+
+    // The same of a part that was taken out below `origin` tokens of a document within the bound, which left `rest`.
+    pub(crate) fn admit_part(
+        &mut self,
+        part: &Doc,
+        origin: usize,
+        rest: &Doc,
+        tokens: usize,
+    ) -> bool
+        requires part { Bounds self.old.most origin (document part.now) }
+        requires rest { Bounds self.old.most 0 (document rest.now) }
+        ensures fits { IsTrue result ↔ (tokens + depth (document part.now) ≤ depth_limit) }
+        ensures kept { Bounds self.new.most 0 (document rest.now) }
+        ensures bounds { IsTrue result → Bounds self.new.most tokens (document part.now) }
+    {
+        if self.admits_unseen(origin, tokens) {
+            return true;
+        }
+        if self.walked >= self.parts {
+            self.measure(rest);
+        }
+        self.admit(part, tokens)
+    }
+
+    // Whether a part that was below `origin` tokens fits below these, whatever it is; then the bound holds with it there.
+    fn admits_unseen(&mut self, origin: usize, tokens: usize) -> bool
+        ensures fits { IsTrue result → (v : Document) → Bounds self.old.most origin v
+            → tokens + depth v ≤ depth_limit }
+        ensures kept { (d : Document) → Bounds self.old.most 0 d → Bounds self.new.most 0 d }
+        ensures bounds { IsTrue result → (v : Document) → Bounds self.old.most origin v
+            → Bounds self.new.most tokens v }
+    {
+        let (Some(most), Some(room)) = (self.most, DEPTH_LIMIT.checked_sub(tokens)) else {
+            return false;
+        };
+        let depth = most.saturating_sub(origin);
+        if depth > room {
+            return false;
+        }
+        self.raise(tokens + depth);
+        true
+    }
+
+    fn measure(&mut self, doc: &Doc)
+        ensures { Bounds self.new.most 0 (document doc.now) }
+    {
+        self.walked = 0;
+        self.most = depth_within(doc, DEPTH_LIMIT, &mut self.walked);
+        self.parts = self.walked;
+        self.walked = 0;
+    }
+
+    fn raise(&mut self, reach: usize)
+        ensures kept { (d : Document) → Bounds self.old.most 0 d → Bounds self.new.most 0 d }
+        ensures raised { (tokens : ℕ) (v : Document) → tokens + depth v ≤ reach
+            → Bounds self.new.most tokens v }
+    {
+        if let Some(most) = self.most
+            && most < reach
+        {
+            self.most = Some(reach);
+        }
+    }
+}
