@@ -50,6 +50,10 @@ read failed, write failed, or out of memory.
 .PP
 Where the status is not 0, standard error says why, in one line unless the words are at fault,
 and nothing is on standard output. Patches and operations are numbered from 0, the document not counted.
+.SH NOTES
+At a terminal the program waits for its input without a word, to the end that Ctrl\\-D gives.
+The text for words that are at fault shows a word as it was given, control bytes and all; no other text has any.
+Standard input that does not block (O_NONBLOCK) and has nothing to give yet is a read that failed.
 .SH EXAMPLES
 Replicas that received the same patches in other orders show one document:
 .PP
