@@ -6,7 +6,7 @@
 . "$(dirname -- "$(readlink -f -- "${BASH_SOURCE[0]}")")/../bin/program.sh"
 
 # All that is built and measured stands in a folder outside the repository.
-"$top/bin/mergejoin" --help </dev/null >/dev/null
+"$top/bin/prove" </dev/null
 work=${TMPDIR:-/tmp}/mergejoin-bench
 mkdir -p -- "$work"
 cd -- "$work" || exit

@@ -1,14 +1,18 @@
 #!/usr/bin/env python3
-"""Prints the man page docs/mergejoin.1: what it says of each subcommand, and of the limits, is the program's help.
+"""Prints the man pages of docs/: mergejoin.1, in which what it says of each subcommand, and of the limits, is the
+program's help; and those of the scripts, which are their help.
 
     docs/manual.py >docs/mergejoin.1
+    docs/manual.py feed >docs/mergejoin-feed.1
+    docs/manual.py locate >docs/mergejoin-locate.1
 
-checks/help prints it again and compares.
+The program is the proved one, out/mergejoin. checks/help prints them again and compares.
 """
 
 import pathlib
 import re
 import subprocess
+import sys
 
 TOP = pathlib.Path(__file__).resolve().parent.parent
 
@@ -46,6 +50,10 @@ read failed, write failed, or out of memory.
 .PP
 Where the status is not 0, standard error says why, in one line unless the words are at fault,
 and nothing is on standard output. Patches and operations are numbered from 0, the document not counted.
+.SH NOTES
+At a terminal the program waits for its input without a word, to the end that Ctrl\\-D gives.
+The text for words that are at fault shows a word as it was given, control bytes and all; no other text has any.
+Standard input that does not block (O_NONBLOCK) and has nothing to give yet is a read that failed.
 .SH EXAMPLES
 Replicas that received the same patches in other orders show one document:
 .PP
@@ -54,11 +62,33 @@ printf \\(aq%s\\(aq \\(aq[{"k":0},{"a":{"x":1}},{"k":null}]\\(aq | mergejoin rep
 printf \\(aq%s\\(aq \\(aq[{"k":0},{"k":null},{"a":{"x":1}},{"k":null}]\\(aq | mergejoin replay
 .fi
 .SH SEE ALSO
+.BR mergejoin\\-feed (1),
+.BR mergejoin\\-locate (1),
 .BR jq (1)"""
+
+SCRIPT = """\
+.TH MERGEJOIN\\-{title} 1
+.nh
+.ad l
+.SH NAME
+mergejoin\\-{name} \\- {about}
+.SH SYNOPSIS
+.B mergejoin\\-{name}
+.I {words}
+.SH DESCRIPTION
+{text}
+.SH SEE ALSO
+.BR {other} (1)"""
+
+# What is given to each script, and the page to see beside its own.
+SCRIPTS = {
+    "feed": ("FILE..", "mergejoin"),
+    "locate": ("SUBCOMMAND FILE.. <REFUSAL", "mergejoin"),
+}
 
 
 def help_of(*words):
-    done = subprocess.run([TOP / "bin/mergejoin", *words, "--help"], capture_output=True, text=True, check=True)
+    done = subprocess.run([TOP / "out/mergejoin", *words, "--help"], capture_output=True, text=True, check=True)
     return done.stdout
 
 
@@ -81,18 +111,29 @@ def subcommand(name):
         yield roff(re.search(f"^{label}: .*$", text, flags=re.M)[0])
 
 
-def main():
+def script(name):
+    """Gives the page of a script: the first sentence of its help is what it is for, and a part with a margin is code."""
+    done = subprocess.run([TOP / "bin" / name, "--help"], capture_output=True, text=True, check=True)
+    first, *parts = done.stdout.strip().split("\n\n")
+    text = []
+    for part in [first, *parts]:
+        text += [".nf", roff(part), ".fi"] if part.startswith("    ") else [roff(part)]
+        text.append(".PP")
+    words, other = SCRIPTS[name]
+    about = first[0].lower() + first[1:].split(":")[0].rstrip(".").replace("\n", " ")
+    return SCRIPT.format(title=name.upper(), name=name, about=roff(about), words=roff(words), text="\n".join(text[:-1]), other=other)
+
+
+def program():
+    """Gives the lines of the program's page."""
     text = help_of()
     names = re.findall(r"^  (\w+) +\S", text.split("Commands:\n")[1].split("\n\n")[0], flags=re.M)
-    print(HEAD)
-    print(roff(text.splitlines()[0]) + ".")
-    print(RESULT)
-    print(".PP")
-    print(roff(re.search(r"^Limits: .*$", text, flags=re.M)[0]))
-    print(".SH SUBCOMMANDS")
+    limits = re.search(r"^Limits: .*$", text, flags=re.M)[0]
+    yield from (HEAD, roff(text.splitlines()[0]) + ".", RESULT, ".PP", roff(limits), ".SH SUBCOMMANDS")
     for name in names:
-        print("\n".join(subcommand(name)))
-    print(TAIL)
+        yield from subcommand(name)
+    yield TAIL
 
 
-main()
+for line in [script(sys.argv[1])] if sys.argv[1:] else program():
+    print(line)

@@ -1,9 +1,10 @@
 #!/usr/bin/env python3
-"""Draws the pictures of the pages from what the program prints, and from crates.txt and the crates' first lines.
+"""Draws the pictures of the pages from what the proved program prints, and from crates.txt and the crates' first lines.
 
     docs/pictures/draw.py FOLDER
 
-It writes replicas.svg, clash.svg and crates.svg into the folder. checks/pictures draws them again and compares.
+It writes replicas.svg, clash.svg and crates.svg into the folder, each on a ground of its own, so that it can be read on a
+dark page too, and with a legend of its colours. checks/pictures draws them again and compares.
 """
 
 import json
@@ -18,13 +19,13 @@ TOP = pathlib.Path(__file__).resolve().parent.parent.parent
 # Of a character, a line and the space around a text.
 WIDE, HIGH, SPACE = 8, 19, 10
 
-PLAIN, PATCH, SHOWN, CLASH = "#f4f4f4", "#dbe9fb", "#dff3dd", "#fbdcd9"
+GROUND, PLAIN, PATCH, SHOWN, CLASH = "#ffffff", "#f4f4f4", "#dbe9fb", "#dff3dd", "#fbdcd9"
 
 
 def answer(command, *parts):
     """Gives the program's line for an array of these texts."""
     given = f"[{','.join(parts)}]".encode()
-    done = subprocess.run([TOP / "bin/mergejoin", command], input=given, capture_output=True, check=False)
+    done = subprocess.run([TOP / "out/mergejoin", command], input=given, capture_output=True, check=False)
     return (done.stdout or done.stderr).decode().strip()
 
 
@@ -59,11 +60,21 @@ class Drawing:
         self.shapes.append(f'<path d="M{x} {top}V{bottom - 6}" stroke="#666" fill="none"/>')
         self.shapes.append(f'<path d="M{x - 4} {bottom - 7}h8l-4 7z" fill="#666"/>')
 
+    def legend(self, colours):
+        """Tells below the drawing what each colour stands for."""
+        x, y = SPACE, self.height + 2 * SPACE
+        for colour, words in colours:
+            place = f'x="{x}" y="{y}" width="{HIGH}" height="{HIGH - 4}"'
+            self.shapes.append(f'<rect class="legend" {place} rx="4" fill="{colour}" stroke="#666"/>')
+            self.text(x + HIGH + 6, y + 12, words)
+            x += HIGH + 6 + WIDE * len(words) + 3 * SPACE
+
     def svg(self):
         size = f'width="{self.width + SPACE}" height="{self.height + SPACE}"'
         style = 'font-family="monospace" font-size="13" xml:space="preserve"'
         head = f'<svg xmlns="http://www.w3.org/2000/svg" {size} {style} role="img">'
-        return "\n".join([head, f"<title>{escape(self.title)}</title>", *self.shapes, "</svg>", ""])
+        ground = f'<rect width="100%" height="100%" fill="{GROUND}"/>'
+        return "\n".join([head, f"<title>{escape(self.title)}</title>", ground, *self.shapes, "</svg>", ""])
 
 
 def replicas():
@@ -88,6 +99,7 @@ def replicas():
         drawing.box(x, last, [shown], SHOWN, width)
     join = answer("join", one, two, three)
     drawing.text(SPACE, last + 2 * HIGH + SPACE + 10, f"The join of the patches: {join}")
+    drawing.legend([(PLAIN, "the start"), (PATCH, "a patch that comes"), (SHOWN, "the document that is shown")])
     return drawing.svg()
 
 
@@ -129,6 +141,7 @@ def clash():
     joined = answer("join", one, other)
     lines = [line for _, line in lines_of(json.loads(joined))]
     drawing.box(x + 2 * SPACE, 40, lines, SHOWN)
+    drawing.legend([(PATCH, "a patch"), (CLASH, "where it clashes with the other"), (SHOWN, "the join")])
     return drawing.svg()
 
 
@@ -183,6 +196,7 @@ def crates():
             if part in below and not any(part in below.get(other, ()) for other in parts):
                 x, top, height = boxes[crate]
                 line_down(drawing, x, top + height, boxes[part][0], boxes[part][1])
+    drawing.legend([(PATCH, "stands on libraries of the toolchain too"), (PLAIN, "stands on the crates below it alone")])
     return drawing.svg()
 
 

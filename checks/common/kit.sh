@@ -1,0 +1,45 @@
+#!/usr/bin/env bash
+# A toolchain that proves nothing, for the checks of the scripts: what it builds and what it tries print their words and
+# what they read. It fails at mp_patch where FAILS is set, and at a try where REFUSES is; where SLOW names a file it makes
+# it and waits, until it is told to stop, and then takes the file away. Its gate says what is in GATE, and ends with ENDS.
+case $1 in
+version) echo 'a kit for checks' ;;
+lib)
+  if [[ -n ${FAILS-} && $PWD == */mp_patch ]]; then echo 'not proved' && exit 1; fi
+  echo "${PWD##*/}" >>"$LOG"
+  ;;
+run)
+  echo "${PWD##*/}" >>"$LOG"
+  # shellcheck disable=SC2016
+  mkdir -p out && printf '%s\n' '#!/usr/bin/env bash' 'echo "proved $*"' >out/mergejoin && chmod +x out/mergejoin
+  ;;
+try)
+  while [[ $1 != -- ]]; do shift; done
+  shift
+  echo "try in ${PWD##*/}" >>"$LOG"
+  if [[ -n ${SLOW-} ]]; then
+    trap 'rm -f -- "$SLOW"; kill "$!"; exit 143' TERM
+    echo "$TMPDIR" >"$SLOW"
+    sleep 60 &
+    wait
+  fi
+  if [[ -n ${REFUSES-} ]]; then
+    printf 'half an answer'
+    printf 'error: %s\nrun=none proved=no\n' "$REFUSES" >&2
+    exit 2
+  fi
+  printf '<%s>' "$@"
+  printf ' %s %s\n' "$(wc -c </dev/stdin)" "$(md5sum </dev/stdin | head -c 8)"
+  status=0
+  if [[ $1 == get ]]; then echo missing >&2 && echo 'run=ended status=0 proved=no' >&2 && status=1; fi
+  printf 'checked: ended status=%s\nrun=ended status=%s runners=1 proved=no\n' "$status" "$status" >&2
+  exit "$status"
+  ;;
+ci)
+  mkdir -p crates/mergejoin/out && printf '%s\n' '#!/usr/bin/env bash' 'echo proved' >crates/mergejoin/out/mergejoin
+  chmod +x crates/mergejoin/out/mergejoin
+  printf '%b\n' "proving ..\n${GATE-3 passed, 0 failed}"
+  exit "${ENDS-0}"
+  ;;
+*) exit 9 ;;
+esac
