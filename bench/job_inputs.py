@@ -4,11 +4,15 @@
     bench/job_inputs.py SHAPE SIZE
 
 The size is in bytes, nearly, for a document and a merge patch of texts, of small
-objects (points), of lists of numbers (rows), 100 levels deep (deep), or where the patch
-touches every name (touched), and for one document alone (document). It is the number
-of operations of a JSON Patch on a document of 300 kB (patch), and of patches for join
-and replay (join, replay) and for a join where the last patch clashes with the fourth
-(clash). A number is that number. The same arguments always give the same bytes.
+objects (points), of lists of numbers (rows), 100 levels deep (deep), of objects of one
+name in one another (chains), or where the patch touches every name (touched), for two
+patches that clash at every name (clashes), and for one document alone: a mixed one
+(document), small objects (small), and a list of true, null, [] and {} (empties). It is
+the number of operations of a JSON Patch: on a document of 300 kB (patch), of moves of
+members (moves) and of one large value to and fro (large), and of copies of arrays (arrays)
+and of small objects (objects); and of patches for join and replay (join, replay) and for
+a join where the last patch clashes with the fourth (clash). A number is that number. The
+same arguments always give the same bytes.
 """
 
 import sys
@@ -65,7 +69,50 @@ def clash(count):
     return patches
 
 
+def chain(value, levels=20):
+    """Objects of one name in one another."""
+    for _ in range(levels):
+        value = {"in": value}
+    return value
+
+
+def chains(names):
+    document = {f"name-{number:06}": chain(number) for number in range(names)}
+    patch = {f"name-{number:06}": chain(-number - 1) for number in range(0, names, 2)}
+    return [document, patch]
+
+
+def clashes(names):
+    return [{f"name-{number:06}": word for number in range(names)} for word in ("one", "other")]
+
+
+def operations_on(document, count, operation):
+    return [document, [operation(number) for number in range(count)]]
+
+
+def moves(count):
+    document = {f"name-{number:06}": [number] for number in range(count)}
+    return operations_on(document, count, lambda number: {"op": "move", "from": f"/name-{number:06}", "path": f"/moved-{number:06}"})
+
+
+def large(count):
+    places = ["/a", "/b"]
+    return operations_on({"a": [0] * 50_000}, count, lambda number: {"op": "move", "from": places[number % 2], "path": places[(number + 1) % 2]})
+
+
+def copies(count, value):
+    return operations_on({"a": value}, count, lambda number: {"op": "copy", "from": "/a", "path": f"/copy-{number:06}"})
+
+
 SHAPES = {
+    "chains": lambda size: sized(chains, size),
+    "clashes": lambda size: sized(clashes, size),
+    "moves": moves,
+    "large": large,
+    "arrays": lambda count: copies(count, list(range(100))),
+    "objects": lambda count: copies(count, [{"x": number, "y": -number} for number in range(50)]),
+    "small": lambda size: sized(lambda names: [[{"x": number, "y": -number} for number in range(names)]], size),
+    "empties": lambda size: sized(lambda names: [[True, None, [], {}] * names], size),
     "texts": lambda size: sized(lambda names: pair(names, text), size),
     "points": lambda size: sized(lambda names: pair(names, point, moved_point), size),
     "rows": lambda size: sized(lambda names: pair(names, row), size),

@@ -1,8 +1,9 @@
 #!/usr/bin/env bash
-# bench/run: job by job (bench/job_inputs.py), the instructions and the memory of this
-# program, of the same in Rust with serde_json (bench/rust), and their ratios. What the
-# two print, and their statuses, must be the same. The memory is the most that was
-# resident, the least of five runs.
+# bench/run: job by job (bench/job_inputs.py), the instructions, the processor's time and
+# the memory of this program, of the same in Rust with serde_json (bench/rust), and their
+# ratios. What the two print, and their statuses, must be the same. The time is the least
+# of fifteen runs of both in turn; the memory is the most that was resident, the least of
+# five runs.
 set -euo pipefail
 
 # shellcheck source=bench/common.sh
@@ -20,13 +21,14 @@ memory() {
   done | sort -n | sed -n 1p
 }
 
-# One row: the job $1, the bytes of its input, the instructions of both programs, and
-# the memory of both.
+# One row: the job $1, the bytes of its input, the instructions of both programs, the
+# memory of both, and their times.
 print_row() {
   awk -v job="$1" -v bytes="$2" -v our_count="$3" -v rust_count="$4" \
-    -v our_memory="$5" -v rust_memory="$6" 'BEGIN {
+    -v our_memory="$5" -v rust_memory="$6" -v our_time="$7" -v rust_time="$8" 'BEGIN {
       printf "| %s | %.1f |", job, bytes / 1e3
       printf " %.2f | %.2f | %.2f |", our_count / 1e6, rust_count / 1e6, our_count / rust_count
+      printf " %.1f | %.1f | %.2f |", our_time, rust_time, our_time / rust_time
       megabytes = 1024 / 1e6
       printf " %.1f | %.1f | %.2f |", our_memory * megabytes, rust_memory * megabytes, our_memory / rust_memory
     }'
@@ -36,7 +38,7 @@ print_row() {
 rows=()
 job() {
   local title=$1 input=$2-$3.json output=job-${#rows[@]}
-  local our_count rust_count our_memory rust_memory
+  local our_count rust_count our_memory rust_memory times
   say "$title, $2 $3 .."
   python3 job_inputs.py "$2" "$3" >"$input"
   shift 3
@@ -44,10 +46,11 @@ job() {
   rust_count=$(count "$input" "$output.rust" "$rust" "$@")
   our_memory=$(memory "$input" "$output.ours" ./mergejoin "$@")
   rust_memory=$(memory "$input" "$output.rust" "$rust" "$@")
+  read -ra times < <(python3 least_time.py "$input" ./mergejoin "$rust" "$@")
   compare mergejoin "$output.ours" Rust "$output.rust"
   compare mergejoin "$output.ours.err" Rust "$output.rust.err"
   rows+=("$(print_row "$title" "$(wc -c <"$input")" \
-    "$our_count" "$rust_count" "$our_memory" "$rust_memory")")
+    "$our_count" "$rust_count" "$our_memory" "$rust_memory" "${times[@]}")")
 }
 
 sizes=(10000 100000 1000000)
@@ -55,18 +58,27 @@ for size in "${sizes[@]}"; do job 'merge, flat texts' texts "$size" merge; done
 for size in "${sizes[@]}"; do job 'merge, small objects' points "$size" merge; done
 for size in "${sizes[@]}"; do job 'merge, lists of numbers' rows "$size" merge; done
 job 'merge, 100 deep' deep 300000 merge
+job 'merge, chains of one name' chains 300000 merge
 for count in 10 500 5000; do job "patch, $count operations" patch "$count" patch; done
+job 'patch, 1000 moves of members' moves 1000 patch
+job 'patch, 1000 moves of a large value' large 1000 patch
+job 'patch, 1000 copies of arrays' arrays 1000 patch
+job 'patch, 1000 copies of small objects' objects 1000 patch
 for count in 10 500 5000; do job "join of $count patches" join "$count" join; done
 for count in 10 500 5000; do job "replay of $count patches" replay "$count" replay; done
 expected=1 job 'join of 5000 patches, the last clashes with the fourth' clash 5000 join
+expected=1 job 'join of two patches, every name clashes' clashes 1000000 join
 for size in "${sizes[@]}"; do job 'rewrite, every name is touched' touched "$size" rewrite; done
 job 'rewrite, 100 deep' deep 300000 rewrite
+job 'rewrite, chains of one name' chains 300000 rewrite
 job 'get of a small part' document 1000000 get /accounts/account-000123/address/city
 job 'get of the whole' document 1000000 get ''
+job 'get of small objects' small 1000000 get ''
+job 'get of true, null, [] and {}' empties 1000000 get ''
 job 'start-up, merge of [5]' number 5 merge
 
-print_head "Jobs of this program and of the same in Rust with $serde_json: millions of instructions by callgrind, and the most memory in MB; the ratios are ours to Rust's."
-echo '| job | reads, kB | ours, millions | Rust | ratio | ours, MB | Rust | ratio |'
-echo '| --- | ---: | ---: | ---: | ---: | ---: | ---: | ---: |'
+print_head "Jobs of this program and of the same in Rust with $serde_json: millions of instructions by callgrind, the least time in the processor in ms, and the most memory in MB; the ratios are ours to Rust's."
+echo '| job | reads, kB | ours, millions | Rust | ratio | ours, ms | Rust | ratio | ours, MB | Rust | ratio |'
+echo '| --- | ---: | ---: | ---: | ---: | ---: | ---: | ---: | ---: | ---: | ---: |'
 printf '%s\n' "${rows[@]}"
 exit "$differ"

@@ -13,14 +13,16 @@ class Ran:
     def __init__(self, done, report):
         self.ending = (done.returncode, done.stdout.decode(), done.stderr.decode())
         self.requests, self.refused, self.lost = None, 0, 0
+        self.asked, self.most, self.reads, self.writes = 0, 0, 0, 0
         if report.exists():
-            self.requests, self.refused, self.lost = [int(word) for word in report.read_text().split()]
+            counts = [int(word) for word in report.read_text().split()]
+            self.requests, self.refused, self.lost, self.asked, self.most, self.reads, self.writes = counts
 
 
 class Heap:
     def __init__(self, folder):
         self.library = folder / "refusing_heap.so"
-        self.report = folder / "report"
+        self.report, self.given = folder / "report", folder / "given"
         doc = subprocess.run(["rt", "doc"], capture_output=True, text=True, check=True).stdout.split()[0]
         clang = pathlib.Path(doc).parent / "toolchain/bin/clang"
         options = ["-O1", "-shared", "-fPIC", "-nostdlib", "-ffreestanding", "-fuse-ld=lld"]
@@ -28,8 +30,11 @@ class Heap:
         subprocess.run([clang, *options, "-o", self.library, source], check=True)
 
     def run(self, words, given, how, number):
-        """Runs the words with request `number` refused (REFUSE_AT), or each from it on (REFUSE_FROM)."""
+        """Runs the words with request `number` refused (REFUSE_AT), or each from it on (REFUSE_FROM); of any other way
+        none is refused."""
         self.report.unlink(missing_ok=True)
+        self.given.write_bytes(given)  # a file is read in as many calls each time, a pipe is not
         setting = os.environ | {"LD_PRELOAD": str(self.library), "REFUSED_REPORT": str(self.report), how: str(number)}
-        done = subprocess.run(words, input=given, capture_output=True, env=setting, timeout=60)
+        with open(self.given, "rb") as stdin:
+            done = subprocess.run(words, stdin=stdin, capture_output=True, env=setting, timeout=60)
         return Ran(done, self.report)
