@@ -1,5 +1,5 @@
 //! Applying a merge patch (RFC 7396 section 2).
-ghost use Rattle.std.specs.Prelude.{◌≡◌, length, ◌≤◌, ◌↔◌, max, IsTrue, IfOk, OnOk, option_map, string_bytes};
+ghost use Rattle.std.specs.Prelude.{◌≡◌, ◌≤◌, ◌↔◌, max, IsTrue, IfOk, OnOk, option_map, string_bytes};
 ghost use Rattle.mp_tree.specs.Document.{null, find, depth};
 ghost use Rattle.mp_tree.specs.View.{document};
 ghost use Rattle.mp_tree.specs.Private.Entries.{members};
@@ -84,27 +84,7 @@ fn owned_merge_members(
     ensures { IfOk result (λ m. members m.entries
         ≡ merge_patch_members (members entries.entries) (members changes.entries)) }
 {
-    if changes.len() == 1 {
-        return owned_merge_one(changes, entries, alloc);
-    }
     for (name, change) in changes {
-        change_entry(change, name, &mut entries, alloc)?;
-    }
-    Ok(entries)
-}
-
-// A map of one name is taken apart with no iterator, which takes more than the change.
-#[cycle(owned_merge)]
-fn owned_merge_one(
-    mut changes: BTreeMap<String, Doc>,
-    mut entries: BTreeMap<String, Doc>,
-    alloc: Global,
-) -> Result<BTreeMap<String, Doc>, AllocError>
-    requires { length changes.entries ≡ 1 }
-    ensures { IfOk result (λ m. members m.entries
-        ≡ merge_patch_members (members entries.entries) (members changes.entries)) }
-{
-    if let Some((name, change)) = changes.pop_first() {
         change_entry(change, name, &mut entries, alloc)?;
     }
     Ok(entries)
