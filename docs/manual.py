@@ -121,7 +121,8 @@ def script(name):
         text.append(".PP")
     words, other = SCRIPTS[name]
     about = first[0].lower() + first[1:].split(":")[0].rstrip(".").replace("\n", " ")
-    return SCRIPT.format(title=name.upper(), name=name, about=roff(about), words=roff(words), text="\n".join(text[:-1]), other=other)
+    return SCRIPT.format(title=name.upper(), name=name, about=roff(about), words=roff(words), text="\n".join(text[:-1]),
+                         other=other)
 
 
 def program():

@@ -45,9 +45,11 @@ class Replica:
 
     def change(self, patch=None):
         """Makes a patch for this start, of its own or anew, and tells all, itself too."""
-        place, value = self.chance.choice("abcdef"), self.chance.choice([None, 1, 2, {"x": 3}, {"y": None}, {"x": 4}, [5]])
+        place, value = self.chance.choice("abcdef"), self.chance.choice([None, 1, 2, {"x": 3}, {"y": None}, {"x": 4},
+                                                                         [5]])
         self.sent += 1
-        text = patch or json.dumps({place: value, **({f"{self.name} {self.sent}": self.sent} if self.chance.random() < 0.5 else {})})
+        text = patch or json.dumps({place: value,
+                                    **({f"{self.name} {self.sent}": self.sent} if self.chance.random() < 0.5 else {})})
         self.send(kind="patch", epoch=self.epoch, identity=f"{self.name}.{self.sent}", patch=text)
 
     def receive(self, letter):
@@ -81,11 +83,15 @@ class Replica:
         self.follow()
 
     def follow(self):
-        """Begins with the new start, once all that the old one ends with is here; its own that were left out are made anew."""
+        """Begins with the new start, once all that the old one ends with is here.
+
+        Its own patches that were left out are made anew, if they still are wanted.
+        """
         if self.decision is None or set(self.decision) - set(self.patches):
             return
         status, start = answer("replay", [self.start, *(self.patches[identity] for identity in self.decision)])
-        left_out = [text for identity, text in self.patches.items() if identity.startswith(f"{self.name}.") and identity not in self.decision]
+        own = (identity for identity in self.patches if identity.startswith(f"{self.name}."))
+        left_out = [self.patches[identity] for identity in own if identity not in self.decision]
         self.log("ends", sorted(self.decision), [self.patches[identity] for identity in self.decision], status)
         self.epoch, self.start, self.patches, self.clashes, self.decision = self.epoch + 1, start, {}, set(), None
         self.log("start", start)
