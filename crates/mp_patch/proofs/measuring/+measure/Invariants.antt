@@ -1,4 +1,4 @@
-use Rattle.std.proofs.Common.{◌≡◌, ◌≤◌, ℕ, max, drop}
+use Rattle.std.proofs.Common.{◌≡◌, ◌≤◌, max, drop}
 use Rattle.std.specs.BTreeMap.{values}
 use Rattle.mp_tree.specs.Document.{items_depth}
 use Rattle.mp_tree.specs.View.{items}

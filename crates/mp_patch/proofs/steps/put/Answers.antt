@@ -1,4 +1,4 @@
-use Rattle.std.proofs.Common.{take, arith, rules, inl, refl, sym, subst}
+use Rattle.std.proofs.Common.{take, rules, inl, refl, sym, subst}
 use Rattle.mp_tree.specs.View.{document}
 use Rattle.mp_tree.specs.declared.doc.Doc.{Doc}
 use Rattle.mp_patch.specs.Refusal.{LacksPlace}
