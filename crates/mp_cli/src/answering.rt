@@ -13,7 +13,7 @@ use crate::lines::{
     wrong_shape,
 };
 use mp_merge::{join_all, merge_owned, replay_owned, rewrite as rewriting};
-use mp_patch::{JsonPatch, apply_owned, write_patch};
+use mp_patch::{JsonPatch, apply_once, write_patch};
 use mp_pointer::{Pointer, get as part_at};
 use mp_tree::{Doc, read_docs, write_doc};
 use std::alloc::{AllocError, Global};
@@ -67,23 +67,22 @@ fn patch(alloc: Global, docs: Vec<Doc>) -> Result<Answer, AllocError>
     let Some((doc, patch)) = pair(docs) else {
         return wrong_shape(alloc);
     };
-    read_and_apply(alloc, doc, &patch)
+    read_and_apply(alloc, doc, patch)
 }
 
-fn read_and_apply(alloc: Global, doc: Doc, patch: &Doc) -> Result<Answer, AllocError>
-    ensures { IfOk result (λ a. IsPatchAnswer (document doc) (document patch.now) (answered_by a)) }
+fn read_and_apply(alloc: Global, doc: Doc, patch: Doc) -> Result<Answer, AllocError>
+    ensures { IfOk result (λ a. IsPatchAnswer (document doc) (document patch) (answered_by a)) }
 {
-    match JsonPatch::from_doc(alloc, patch) {
-        Ok(patch) => apply_patch(alloc, doc, &patch),
+    match JsonPatch::from_doc_owned(alloc, patch) {
+        Ok(patch) => apply_patch(alloc, doc, patch),
         Err(fault) => fault_in_form(alloc, fault),
     }
 }
 
-fn apply_patch(alloc: Global, doc: Doc, patch: &JsonPatch) -> Result<Answer, AllocError>
-    ensures { IfOk result (λ a.
-        IsRunAnswer (document doc) (operations_of patch.now) (answered_by a)) }
+fn apply_patch(alloc: Global, doc: Doc, patch: JsonPatch) -> Result<Answer, AllocError>
+    ensures { IfOk result (λ a. IsRunAnswer (document doc) (operations_of patch) (answered_by a)) }
 {
-    match apply_owned(alloc, doc, patch) {
+    match apply_once(alloc, doc, patch) {
         Ok(result) => result_line(write_doc(alloc, &result)?),
         Err(fault) => fault_in_run(alloc, fault),
     }

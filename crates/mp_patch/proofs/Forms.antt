@@ -1,5 +1,5 @@
 -- Operations and the documents that are forms of them.
-use Rattle.std.proofs.Common.{◌≡◌, ◌≢◌, ◌<◌, ◌≤◌, ◌+◌, ◌⊎◌, inl, inr, ◌∷◌, ◌++◌, ℕ, List, [], length, map, get_or, take, drop, None, Some, Result, Ok, Err, MatchResult, refl, sym, ap, ◌∙◌, subst, arith, codes}
+use Rattle.std.proofs.Common.{◌≡◌, ◌≢◌, ◌<◌, ◌≤◌, ◌+◌, ◌⊎◌, inl, inr, ◌∷◌, ◌++◌, ℕ, List, [], length, map, get_or, take, drop, None, Some, option_and_then, suc, append_assoc, append-nil, Result, Ok, Err, MatchResult, refl, sym, ap, ◌∙◌, subst, arith, codes}
 use Rattle.std.proofs.lemmas.List.{take_more, take-append-drop, drop_more, length-take-le, map-append}
 use Rattle.mp_tree.specs.Document.{Document, object, list, string, Members, put, depth, items_depth}
 use Rattle.mp_tree.specs.View.{document, items, members_of}
@@ -8,10 +8,10 @@ use Rattle.mp_tree.specs.declared.doc.Doc.{Doc}
 use Rattle.mp_pointer.specs.Spelling.{Tokens, spell, IsFaultOf}
 use Rattle.mp_pointer.specs.declared.fault.PointerFault.{PointerFault}
 use Rattle.mp_pointer.proofs.Facts.{spellings_have_no_fault}
-use Rattle.mp_patch.specs.Form.{NamesOp, Need, path_alone, a_value, an_origin, HasOp, HasNoPointer, Carries, EachForm, IsForm, IsFormFault, IsNoPointer, deepest, needed_members, op_member, path_member, from_member, shape, shapes, text_at, value_depth, value_member}
+use Rattle.mp_patch.specs.Form.{NamesOp, Need, path_alone, a_value, an_origin, HasOp, HasNoPointer, Carries, EachForm, IsForm, IsFormFault, IsNoPointer, deepest, needed_members, op_member, path_member, from_member, shape, shapes, text_at, text_of, value_depth, value_member}
 use Rattle.mp_patch.specs.Operation.{Operation, add, remove, replace, move, copy, test}
 use Rattle.mp_patch.specs.Private.Faults.{fault_of_element}
-use Rattle.mp_patch.specs.Private.Reading.{FindsNoPointer, IsMapFault, IsElementFault, IsOriginFault}
+use Rattle.mp_patch.specs.Private.Reading.{FindsNoPointer, IsMapFault, IsElementFault, IsOriginFault, IsValueFault}
 use Rattle.mp_patch.specs.View.{operation_of, operations_of}
 use Rattle.mp_patch.specs.declared.fault.FormCause.{FormCause}
 use Rattle.mp_patch.specs.declared.fault.FormCause.TheVariants.{NotAnObject, NoOp, UnknownOp, NoPath, NoFrom, BadPointer, NoValue}
@@ -112,6 +112,49 @@ fault_there (By cause) docs old k d less here forms faulty =
       faulty = faulty;
     }
 
+-- ---- reading a list that is taken apart
+
+pub record AreReadTo (docs left : List Doc) (ops : List Op) : Type 0 where
+  pub passed : List Doc
+  pub all : docs ≡ passed ++ left
+  pub forms : EachForm (items passed) (operations_of ops)
+
+as_many : (docs : List Doc) (ops : List Op) → EachForm (items docs) (operations_of ops) → length ops ≡ length docs
+as_many [] [] forms = refl
+as_many [] (op ∷ ops) forms = absurd forms
+as_many (d ∷ docs) [] forms = absurd forms
+as_many (d ∷ docs) (op ∷ ops) forms = ap suc (as_many docs ops forms.1)
+
+module _ (docs left : List Doc) (ops : List Op) (r : AreReadTo docs left ops) where
+  pub read_more : (d : Doc) (more : List Doc) (op : Op) (new : List Op) → left ≡ d ∷ more → IsForm (document d) (operation_of op) → new ≡ ops ++ op ∷ [] → AreReadTo docs more new
+  read_more d more op new next form pushed =
+      let grown : operations_of new ≡ operations_of ops ++ operation_of op ∷ [] = ap operations_of pushed ∙ map-append operation_of ops (op ∷ []) in
+      record {
+        passed = r.passed ++ d ∷ [];
+        all = r.all ∙ ap (λ ds. r.passed ++ ds) next ∙ sym (append_assoc r.passed (d ∷ []) more);
+        forms = subst (λ os. EachForm (items (r.passed ++ d ∷ [])) os) (sym grown) (EachForm-more r.passed (operations_of ops) d (operation_of op) r.forms form);
+      }
+
+  pub read_end : length left ≡ 0 → EachForm (items docs) (operations_of ops)
+  read_end none = subst (λ ds. EachForm (items ds) (operations_of ops)) (sym (r.all ∙ ap (λ ds. r.passed ++ ds) (empty left none) ∙ append-nil r.passed)) r.forms
+    where
+      empty : (ds : List Doc) → length ds ≡ 0 → ds ≡ []
+      empty [] none = refl
+      empty (d ∷ ds) none = absurd (omega (arith, none))
+
+  pub read_fault : (fault : Refusal FormCause) (d : Doc) (more : List Doc) → left ≡ d ∷ more → IsElementFault fault (document d) → IsFormFault (fault_of_element (length ops) fault) (list (items docs))
+  read_fault OutOfMemory d more next faulty = tt
+  read_fault (By cause) d more next faulty = record {
+    front = items r.passed;
+    element = document d;
+    back = items more;
+    is = ap list (ap items (r.all ∙ ap (λ ds. r.passed ++ ds) next) ∙ items-append r.passed (d ∷ more));
+    numbered = as_many r.passed ops r.forms ∙ sym (count_of-items r.passed);
+    operations = operations_of ops;
+    forms = r.forms;
+    faulty = faulty;
+  }
+
 -- ---- writing
 
 pub shape_with_value : (name : List ℕ) (t : Tokens) (v : Document) → put (codes "value") v (members_of (op_member name ∷ path_member t ∷ [])) ≡ members_of (op_member name ∷ path_member t ∷ value_member v ∷ [])
@@ -150,3 +193,13 @@ origin_fault (By UnknownOp) name path ms op named at faulty = absurd faulty
 origin_fault (By NoPath) name path ms op named at faulty = absurd faulty
 origin_fault (By NoValue) name path ms op named at faulty = absurd faulty
 origin_fault OutOfMemory name path ms op named at faulty = tt
+
+pub value_fault : (fault : Refusal FormCause) (name : List ℕ) (t : Tokens) (ms : Members) → NamesOp a_value name → Carries ms (op_member name ∷ path_member t ∷ []) → IsValueFault fault (object ms) → IsMapFault fault (object ms)
+value_fault (By NoValue) name t ms named carries none = ((name, ap (option_and_then text_of) carries.0, named), t, ap (option_and_then text_of) carries.1.0, none)
+value_fault (By NotAnObject) name t ms named carries faulty = absurd faulty
+value_fault (By NoOp) name t ms named carries faulty = absurd faulty
+value_fault (By UnknownOp) name t ms named carries faulty = absurd faulty
+value_fault (By NoPath) name t ms named carries faulty = absurd faulty
+value_fault (By NoFrom) name t ms named carries faulty = absurd faulty
+value_fault (By BadPointer) name t ms named carries faulty = absurd faulty
+value_fault OutOfMemory name t ms named carries faulty = tt

@@ -8,7 +8,7 @@ ghost use Rattle.mp_patch.specs.View.{operations_of};
 use crate::bound::DepthBound;
 use crate::fault::ApplyFault;
 use crate::patch::JsonPatch;
-use crate::steps::step;
+use crate::steps::{step, step_owned};
 use mp_tree::Doc;
 use std::alloc::Global;
 
@@ -45,6 +45,26 @@ pub fn apply_owned(alloc: Global, doc: Doc, patch: &JsonPatch) -> Result<Doc, Ap
         if let Err(refusal) = step(op, &mut result, &mut bound, alloc) {
             return Err(refusal.of_operation(number));
         }
+    }
+    Ok(result)
+}
+
+/// As `apply_owned`, of a patch that is owned too: its values are moved into the document and not copied.
+pub fn apply_once(alloc: Global, doc: Doc, patch: JsonPatch) -> Result<Doc, ApplyFault>
+    ensures runs { MatchResult result
+        (λ e. Runs (document doc) (operations_of patch) (document e))
+        (λ fault. IsFaultOf fault (document doc) (operations_of patch)) }
+    ensures depth { IfOk result (λ e. depth (document doc) ≤ depth_limit
+        → depth (document e) ≤ depth_limit) }
+{
+    let mut result = doc;
+    let mut bound = DepthBound::unknown();
+    let mut done = 0;
+    for op in patch.into_ops() {
+        if let Err(refusal) = step_owned(op, &mut result, &mut bound, alloc) {
+            return Err(refusal.of_operation(done));
+        }
+        done += 1;
     }
     Ok(result)
 }

@@ -10,19 +10,19 @@ use mp_tree::Doc;
 /// The number of tokens of a place and the depth of a value that is put there are together at most this.
 const DEPTH_LIMIT: usize = mp_tree::DEPTH_LIMIT as usize;
 
-/// So many parts are walked before a document is measured for the first time.
-const FIRST_MEASURE: usize = 4096;
+/// So many parts are walked at least before a document is measured: to walk them takes next to no time.
+const LEAST_WALKED: usize = 65_536;
 
 // A bound on the depth of a document, so that a `move` need not walk what it moves where that can't be too deep. The
-// document is measured only for a `move`, and once as many parts were walked as it had: so to measure it never takes
-// longer than what was walked without.
+// document is measured for a `move` alone, and once as many parts were walked as it had when it was measured before: so
+// to measure it again takes no longer than the walks did.
 #[derive(Drop)]
 pub(crate) struct DepthBound {
     // the depth is at most this; None where nothing is known
     most: Option<usize>,
     // the parts that were walked since the document was measured
     walked: usize,
-    // the parts that the document had then
+    // the parts that it had then
     parts: usize,
 }
 
@@ -33,7 +33,7 @@ impl DepthBound {
         DepthBound {
             most: None,
             walked: 0,
-            parts: FIRST_MEASURE,
+            parts: 0,
         }
     }
 
@@ -70,7 +70,7 @@ impl DepthBound {
         if self.admits_unseen(origin, tokens) {
             return true;
         }
-        if self.walked >= self.parts {
+        if self.walked >= self.parts.max(LEAST_WALKED) {
             self.measure(rest);
         }
         self.admit(part, tokens)

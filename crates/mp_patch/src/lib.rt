@@ -17,7 +17,7 @@ mod steps;
 mod tests;
 mod writing;
 
-pub use applying::{apply, apply_owned};
+pub use applying::{apply, apply_once, apply_owned};
 pub use fault::{ApplyFault, Cause, FormCause, FormFault};
 pub use op::Op;
 pub use patch::{JsonPatch, write_patch};

@@ -9,6 +9,7 @@ use std::collections::BTreeMap;
 
 // The depth, or None where it is over the limit. The parts that it looks at are added to `walked`.
 #[cycle(measure)]
+#[inline(always)]
 pub(crate) fn depth_within(doc: &Doc, limit: usize, walked: &mut usize) -> Option<usize>
     ensures { MatchOption result (limit < depth (document doc.now))
         (λ n. (n ≡ depth (document doc.now)) × (n ≤ limit)) }

@@ -8,7 +8,7 @@ ghost use Rattle.mp_patch.specs.View.{operations_of};
 
 use crate::fault::FormFault;
 use crate::op::Op;
-use crate::reading::read_ops;
+use crate::reading::{read_ops, read_owned_ops};
 use crate::writing::shapes_of;
 use mp_tree::Doc;
 use serde_json::to_string;
@@ -67,6 +67,13 @@ impl JsonPatch {
         self.ops.as_slice()
     }
 
+    // The same, given away.
+    pub(crate) fn into_ops(self) -> Vec<Op>
+        ensures { result.items ≡ self }
+    {
+        self.ops
+    }
+
     /// The patch that the document is a form of (RFC 6902 section 3): an array of objects, one for each operation, with
     /// the members `op`, `path` and, where the operation needs it, `value` or `from`. Further members are ignored.
     ///
@@ -85,6 +92,17 @@ impl JsonPatch {
             Doc::Items(elements) => read_ops(elements.as_slice(), alloc),
             _ => Err(FormFault::NotAnArray),
         }
+    }
+
+    /// As `from_doc`, of a document that is owned: the values are moved out of it and not copied.
+    pub fn from_doc_owned(alloc: Global, doc: Doc) -> Result<JsonPatch, FormFault>
+        ensures { MatchResult result (λ p. AreForms (document doc) (operations_of p))
+            (λ fault. IsFormFault fault (document doc)) }
+    {
+        let Doc::Items(elements) = doc else {
+            return Err(FormFault::NotAnArray);
+        };
+        read_owned_ops(elements, alloc)
     }
 
     /// The array of objects with exactly the members that the operations need (RFC 6902 sections 3 and 4).

@@ -6,7 +6,7 @@ ghost use Rattle.mp_tree.specs.View.{document, items};
 ghost use Rattle.mp_tree.specs.Private.Entries.{members};
 ghost use Rattle.mp_pointer.specs.Spelling.{spell};
 ghost use Rattle.mp_patch.specs.Form.{Carries, EachForm, IsFormFault, IsForm, needed_members, text_at as text_under};
-ghost use Rattle.mp_patch.specs.Private.Reading.{IsElementFault, IsMapFault, IsOriginFault, IsTextFault, IsValueFault};
+ghost use Rattle.mp_patch.specs.Private.Reading.{Drafts, IsElementFault, IsMapFault, IsOriginFault, IsTextFault, IsValueFault};
 ghost use Rattle.mp_patch.specs.View.{operation_of, operations_of};
 
 use crate::fault::{FormCause, FormFault, Refusal};
@@ -25,6 +25,15 @@ struct Pointers {
     path: Pointer,
 }
 
+// An operation, but for its value where it has one.
+#[derive(Drop)]
+enum Draft {
+    Whole(Op),
+    Add(Pointer),
+    Replace(Pointer),
+    Test(Pointer),
+}
+
 pub(crate) fn read_ops(elements: &[Doc], alloc: Global) -> Result<JsonPatch, FormFault>
     ensures { MatchResult result (λ p. EachForm (items elements.now) (operations_of p))
         (λ fault. IsFormFault fault (list (items elements.now))) }
@@ -34,6 +43,21 @@ pub(crate) fn read_ops(elements: &[Doc], alloc: Global) -> Result<JsonPatch, For
         match read_op(element, alloc) {
             Ok(op) => patch.push(op)?,
             Err(refusal) => return Err(refusal.of_element(number)),
+        }
+    }
+    Ok(patch)
+}
+
+// The same of a list that is owned: the values are moved out of it.
+pub(crate) fn read_owned_ops(elements: Vec<Doc>, alloc: Global) -> Result<JsonPatch, FormFault>
+    ensures { MatchResult result (λ p. EachForm (items elements.items) (operations_of p))
+        (λ fault. IsFormFault fault (list (items elements.items))) }
+{
+    let mut patch = JsonPatch::new(alloc);
+    for element in elements {
+        match read_owned_op(element, alloc) {
+            Ok(op) => patch.push(op)?,
+            Err(refusal) => return Err(refusal.of_element(patch.ops().len())),
         }
     }
     Ok(patch)
@@ -54,31 +78,61 @@ fn read_members(entries: &BTreeMap<String, Doc>, alloc: Global) -> Result<Op, Re
         (λ op. Carries (members entries.now.entries) (needed_members (operation_of op)))
         (λ fault. IsMapFault fault (object (members entries.now.entries))) }
 {
+    match read_draft(entries, alloc)? {
+        Draft::Whole(op) => Ok(op),
+        Draft::Add(path) => Ok(Op::Add(path, value_in(entries, alloc)?)),
+        Draft::Replace(path) => Ok(Op::Replace(path, value_in(entries, alloc)?)),
+        Draft::Test(path) => Ok(Op::Test(path, value_in(entries, alloc)?)),
+    }
+}
+
+fn read_owned_op(element: Doc, alloc: Global) -> Result<Op, Refusal<FormCause>>
+    ensures { MatchResult result (λ op. IsForm (document element) (operation_of op))
+        (λ fault. IsElementFault fault (document element)) }
+{
+    match element {
+        Doc::Members(entries) => read_owned_members(entries, alloc),
+        _ => Err(Refusal::By(FormCause::NotAnObject)),
+    }
+}
+
+fn read_owned_members(
+    entries: BTreeMap<String, Doc>,
+    alloc: Global,
+) -> Result<Op, Refusal<FormCause>>
+    ensures { MatchResult result
+        (λ op. Carries (members entries.entries) (needed_members (operation_of op)))
+        (λ fault. IsMapFault fault (object (members entries.entries))) }
+{
+    match read_draft(&entries, alloc)? {
+        Draft::Whole(op) => Ok(op),
+        Draft::Add(path) => Ok(Op::Add(path, value_out(entries)?)),
+        Draft::Replace(path) => Ok(Op::Replace(path, value_out(entries)?)),
+        Draft::Test(path) => Ok(Op::Test(path, value_out(entries)?)),
+    }
+}
+
+// All but the value.
+fn read_draft(entries: &BTreeMap<String, Doc>, alloc: Global) -> Result<Draft, Refusal<FormCause>>
+    ensures { MatchResult result (λ draft. Drafts draft (members entries.now.entries))
+        (λ fault. IsMapFault fault (object (members entries.now.entries))) }
+{
     let word = text_at(entries, "op").ok_or(FormCause::NoOp)?;
     let name = op_named(word).ok_or(FormCause::UnknownOp)?;
     let spelling = text_at(entries, "path").ok_or(FormCause::NoPath)?;
     match name {
-        OpName::Add => {
-            let path = pointer_of(spelling, alloc)?;
-            Ok(Op::Add(path, value_in(entries, alloc)?))
-        }
-        OpName::Remove => Ok(Op::Remove(pointer_of(spelling, alloc)?)),
-        OpName::Replace => {
-            let path = pointer_of(spelling, alloc)?;
-            Ok(Op::Replace(path, value_in(entries, alloc)?))
-        }
+        OpName::Add => Ok(Draft::Add(pointer_of(spelling, alloc)?)),
+        OpName::Remove => Ok(Draft::Whole(Op::Remove(pointer_of(spelling, alloc)?))),
+        OpName::Replace => Ok(Draft::Replace(pointer_of(spelling, alloc)?)),
         OpName::Move => {
             let Pointers { origin, path } = pointers_in(spelling, entries, alloc)?;
-            Ok(Op::Move { origin, path })
+            Ok(Draft::Whole(Op::Move { origin, path }))
         }
         OpName::Copy => {
             let Pointers { origin, path } = pointers_in(spelling, entries, alloc)?;
-            Ok(Op::Copy { origin, path })
+            Ok(Draft::Whole(Op::Copy { origin, path }))
         }
-        OpName::Test => {
-            let path = pointer_of(spelling, alloc)?;
-            Ok(Op::Test(path, value_in(entries, alloc)?))
-        }
+        OpName::Test => Ok(Draft::Test(pointer_of(spelling, alloc)?)),
     }
 }
 
@@ -130,4 +184,16 @@ fn value_in(entries: &BTreeMap<String, Doc>, alloc: Global) -> Result<Doc, Refus
         Some(value) => Ok(value.copy(alloc)?),
         None => Err(Refusal::By(FormCause::NoValue)),
     }
+}
+
+// The same, moved out of a map that is owned.
+fn value_out(mut entries: BTreeMap<String, Doc>) -> Result<Doc, Refusal<FormCause>>
+    ensures { MatchResult result
+        (λ v. find (codes "value") (members entries.entries) ≡ Some (document v))
+        (λ fault. IsValueFault fault (object (members entries.entries))) }
+{
+    let Some(value) = entries.remove("value") else {
+        return Err(Refusal::By(FormCause::NoValue));
+    };
+    Ok(value)
 }

@@ -42,6 +42,24 @@ pub(crate) fn step(
     }
 }
 
+// The same of an operation that is owned: its value is moved into the document.
+pub(crate) fn step_owned(
+    op: Op,
+    doc: &mut Doc,
+    bound: &mut DepthBound,
+    alloc: Global,
+) -> Result<(), Refusal<Cause>>
+    requires { Bounds bound.old.most 0 (document doc.old) }
+    ensures answer { Answers result (document doc.old) (operation_of op) (document doc.new) }
+    ensures bounds { OnOk result (Bounds bound.new.most 0 (document doc.new)) }
+{
+    match op {
+        Op::Add(path, value) => add(doc, &path, value, bound, alloc),
+        Op::Replace(path, value) => replace(doc, &path, value, bound),
+        other => step(&other, doc, bound, alloc),
+    }
+}
+
 fn add(
     doc: &mut Doc,
     path: &Pointer,

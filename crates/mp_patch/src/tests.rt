@@ -1,6 +1,7 @@
 //! Worked values: operations on documents, forms, and the texts of the faults.
 use crate::{
-    ApplyFault, Cause, FormCause, FormFault, JsonPatch, Op, apply, apply_owned, write_patch,
+    ApplyFault, Cause, FormCause, FormFault, JsonPatch, Op, apply, apply_once, apply_owned,
+    write_patch,
 };
 use mp_pointer::Pointer;
 use mp_tree::{Doc, read_doc, write_doc};
@@ -163,8 +164,8 @@ fn nested_text(alloc: Global, count: u8) -> Result<String, AllocError> {
     Ok(text)
 }
 
-// A document that has so many lists in one another at `/deep`, and at `/a` a list of more elements than are walked
-// before the document is measured.
+// A document that has so many lists in one another at `/deep`, and at `/a` a list of so many elements that it is
+// measured after some moves of them.
 fn wide_doc<R: Abort + AllocGlobal>(rt: &R, levels: u8) -> Doc {
     let mut elements = String::new(rt.alloc());
     for _ in 0..5000 {
@@ -205,7 +206,10 @@ fn operations_change_the_document(rt: HostRuntime) -> Result<(), Fail> {
         let patch = JsonPatch::from_doc(rt.alloc(), &read_doc(rt.alloc(), form.as_bytes())?)?;
         check_text(&rt, &apply(rt.alloc(), &doc, &patch)?, wanted);
         check_text(&rt, &doc, start);
-        check_text(&rt, &apply_owned(rt.alloc(), doc, &patch)?, wanted);
+        let owned = JsonPatch::from_doc_owned(rt.alloc(), read_doc(rt.alloc(), form.as_bytes())?)?;
+        let copy = doc.copy(rt.alloc())?;
+        check_text(&rt, &apply_owned(rt.alloc(), copy, &owned)?, wanted);
+        check_text(&rt, &apply_once(rt.alloc(), doc, owned)?, wanted);
     }
     Ok(())
 }
@@ -221,6 +225,8 @@ fn operations_are_refused_by_their_cause(rt: HostRuntime) -> Result<(), Fail> {
             cause: *wanted,
         };
         assert_eq!(rt; fault, Some(wanted_fault), "{form}");
+        let of_an_owned_one = apply_once(rt.alloc(), doc, patch).err();
+        assert_eq!(rt; of_an_owned_one, Some(wanted_fault), "{form}");
     }
     Ok(())
 }
@@ -233,6 +239,8 @@ fn what_is_no_patch_has_a_first_fault(rt: HostRuntime) -> Result<(), Fail> {
             Ok(_) => panic!(rt; "{form} is no patch"),
             Err(fault) => assert_eq!(rt; fault, *wanted, "{form}"),
         }
+        let of_an_owned_one = JsonPatch::from_doc_owned(rt.alloc(), doc).err();
+        assert_eq!(rt; of_an_owned_one, Some(*wanted), "{form}");
     }
     Ok(())
 }

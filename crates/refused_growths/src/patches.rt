@@ -7,6 +7,8 @@ use std::test::Fail;
 
 const FORM: &str = r#"[{"op":"move","path":"/b","from":"/a"}]"#;
 
+const VALUED_FORM: &str = r#"[{"op":"add","path":"/a","value":[5]}]"#;
+
 /// A patch in which each operation has something to do.
 const LONG_FORM: &str =
     r#"[{"op":"add","path":"/l/-","value":{"x":[3]}},{"op":"test","path":"/n","value":"t"},{"op":"copy","from":"/n","path":"/l/0"},{"op":"replace","path":"/n","value":[null]},{"op":"move","from":"/l/1","path":"/m"},{"op":"remove","path":"/l/1"}]"#;
@@ -87,6 +89,29 @@ fn from_doc(rt: HostRuntime) -> Result<(), Fail> {
     tell(&rt, watch_from_doc(rt.alloc()))
 }
 
+/// Whether the patch is the one of `VALUED_FORM`. It takes no memory.
+fn is_addition(patch: &JsonPatch, value: &Doc) -> bool {
+    match patch.ops() {
+        [Op::Add(path, added)] => has_tokens(path, &["a"]) && added.same(value),
+        _ => false,
+    }
+}
+
+fn watch_from_doc_owned(alloc: Global) -> Option<Seen> {
+    let form = doc_of(alloc, VALUED_FORM)?;
+    let value = doc_of(alloc, "[5]")?;
+    Some(match JsonPatch::from_doc_owned(alloc, form) {
+        Ok(patch) => Seen::answer_if(is_addition(&patch, &value)),
+        Err(FormFault::OutOfMemory) => Seen::NoMemory,
+        Err(_) => Seen::Wrong,
+    })
+}
+
+#[test]
+fn from_doc_owned(rt: HostRuntime) -> Result<(), Fail> {
+    tell(&rt, watch_from_doc_owned(rt.alloc()))
+}
+
 fn watch_to_doc(alloc: Global) -> Option<Seen> {
     let form = doc_of(alloc, LONG_FORM)?;
     let patch = JsonPatch::from_doc(alloc, &form).ok()?;
@@ -144,4 +169,17 @@ fn watch_apply_owned(alloc: Global) -> Option<Seen> {
 #[test]
 fn apply_owned(rt: HostRuntime) -> Result<(), Fail> {
     tell(&rt, watch_apply_owned(rt.alloc()))
+}
+
+fn watch_apply_once(alloc: Global) -> Option<Seen> {
+    let form = doc_of(alloc, LONG_FORM)?;
+    let patch = JsonPatch::from_doc(alloc, &form).ok()?;
+    let doc = doc_of(alloc, DOC)?;
+    let end = doc_of(alloc, END)?;
+    Some(of_application(mp_patch::apply_once(alloc, doc, patch), &end))
+}
+
+#[test]
+fn apply_once(rt: HostRuntime) -> Result<(), Fail> {
+    tell(&rt, watch_apply_once(rt.alloc()))
 }

@@ -1,12 +1,16 @@
 -- What reading a single element of a patch answers. Only private clauses cite it.
-use Rattle.std.specs.Prelude.{◌≡◌, ◌⊎◌, ℕ, codes, List, None, Some, ⊤}
-use Rattle.mp_tree.specs.Document.{Document}
+use Rattle.std.specs.Prelude.{◌≡◌, ◌⊎◌, ◌∷◌, [], ℕ, codes, List, None, Some, ⊤}
+use Rattle.mp_tree.specs.Document.{Document, Members}
 use Rattle.mp_tree.specs.Look.{at_name}
 use Rattle.mp_pointer.specs.Spelling.{Tokens, spell}
-use Rattle.mp_patch.specs.Form.{IsFaulty, IsNoPointer, HasOp, Need, path_alone, a_value, an_origin, NamesOp, text_at}
+use Rattle.mp_patch.specs.Form.{Carries, IsFaulty, IsNoPointer, HasOp, Need, path_alone, a_value, an_origin, NamesOp}
+use Rattle.mp_patch.specs.Form.{needed_members, op_member, path_member, text_at}
+use Rattle.mp_patch.specs.View.{operation_of}
 use Rattle.mp_patch.specs.declared.fault.FormCause.TheVariants.{NotAnObject, NoOp, UnknownOp, NoPath, NoFrom}
 use Rattle.mp_patch.specs.declared.fault.FormCause.TheVariants.{BadPointer, NoValue}
 use Rattle.mp_patch.specs.declared.fault.FormCause.{FormCause}
+use Rattle.mp_patch.specs.declared.reading.Draft.{Draft}
+use Rattle.mp_patch.specs.declared.reading.Draft.TheVariants.{Whole, Add, Replace, Test}
 use Rattle.mp_patch.specs.declared.fault.Refusal.{Refusal}
 use Rattle.mp_patch.specs.declared.fault.Refusal.TheVariants.{By, OutOfMemory}
 
@@ -66,3 +70,12 @@ abbrev pub IsValueFault : Refusal FormCause → Document → Type 0
 IsValueFault (By NoValue) d = at_name (codes "value") d ≡ None
 IsValueFault (By cause) d = ⊥
 IsValueFault OutOfMemory d = ⊤
+
+-- ---- an operation but for its value
+
+-- the map carries what the draft has
+abbrev pub Drafts : Draft → Members → Type 0
+Drafts (Whole op) ms = Carries ms (needed_members (operation_of op))
+Drafts (Add path) ms = Carries ms (op_member (codes "add") ∷ path_member path ∷ [])
+Drafts (Replace path) ms = Carries ms (op_member (codes "replace") ∷ path_member path ∷ [])
+Drafts (Test path) ms = Carries ms (op_member (codes "test") ∷ path_member path ∷ [])

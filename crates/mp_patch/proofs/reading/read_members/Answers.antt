@@ -1,31 +1,28 @@
-use Rattle.std.proofs.Common.{◌≡◌, Some, inl, inr, ap, sym, ◌∙◌, codes}
+use Rattle.std.proofs.Common.{inl, inr, refl, subst, codes}
 use Rattle.std.proofs.lemmas.Result.{err_from_is_err_and}
-use Rattle.std.specs.Option.{option_copied}
-use Rattle.mp_tree.specs.Document.{object}
 use Rattle.mp_tree.specs.Private.Entries.{members}
-use Rattle.mp_patch.specs.Form.{text_at}
-use Rattle.mp_patch.specs.Private.Names.{name_of}
-use Rattle.mp_patch.proofs.Forms.{origin_fault}
+use Rattle.mp_patch.specs.Private.Reading.{Drafts}
+use Rattle.mp_patch.specs.declared.reading.Draft.{Draft}
+use Rattle.mp_patch.proofs.Forms.{value_fault}
 use Rattle.mp_patch.proofs.reading.read_members.Goals as goal
 
-pub returns-in_err-origin-in-Move : goal.returns-in_err-origin-in-Move
-returns-in_err-origin-in-Move c =
+pub returns-in_err-value_in-in-Add : goal.returns-in_err-value_in-in-Add
+returns-in_err-value_in-in-Add c =
     let ms = members c.args.entries.now.entries in
-    let name = c.in_ok-word.word.now in
-    let path = c.in_ok-spelling.spelling.now in
-    let op : text_at (codes "op") (object ms) ≡ Some name = sym c.text_at.ensures ∙ ap option_copied c.in_ok-word.ensures.ok_part in
-    let at : text_at (codes "path") (object ms) ≡ Some path = sym c.text_at-2.ensures ∙ ap option_copied c.in_ok-spelling.ensures.ok_part in
-    let named : name ≡ name_of c.in_ok-name.name = rw c.in_ok-name.ensures.ok_part at c.op_named.ensures in
-    let p = err_from_is_err_and c.from_residual-in_err-origin-in-Move.result c.from_residual-in_err-origin-in-Move.ensures.1 in
-    rw (p.1, p.2) (origin_fault c.in_err-origin-in-Move.field-0.0 name path ms op (inl (named ∙ ap name_of c.in-Move.is)) at c.in_err-origin-in-Move.ensures)
+    let carries = subst (λ (d : Draft). Drafts d ms) c.in-Add.is c.in_ok-op.ensures in
+    let p = err_from_is_err_and c.from_residual-in_err-value_in-in-Add.result c.from_residual-in_err-value_in-in-Add.ensures.1 in
+    rw (p.1, p.2) (value_fault c.in_err-value_in-in-Add.field-0.0 (codes "add") c.in-Add.path ms (inl refl) carries c.in_err-value_in-in-Add.ensures)
 
-pub returns-in_err-origin-in-Copy : goal.returns-in_err-origin-in-Copy
-returns-in_err-origin-in-Copy c =
+pub returns-in_err-value_in-in-Replace : goal.returns-in_err-value_in-in-Replace
+returns-in_err-value_in-in-Replace c =
     let ms = members c.args.entries.now.entries in
-    let name = c.in_ok-word.word.now in
-    let path = c.in_ok-spelling.spelling.now in
-    let op : text_at (codes "op") (object ms) ≡ Some name = sym c.text_at.ensures ∙ ap option_copied c.in_ok-word.ensures.ok_part in
-    let at : text_at (codes "path") (object ms) ≡ Some path = sym c.text_at-2.ensures ∙ ap option_copied c.in_ok-spelling.ensures.ok_part in
-    let named : name ≡ name_of c.in_ok-name.name = rw c.in_ok-name.ensures.ok_part at c.op_named.ensures in
-    let p = err_from_is_err_and c.from_residual-in_err-origin-in-Copy.result c.from_residual-in_err-origin-in-Copy.ensures.1 in
-    rw (p.1, p.2) (origin_fault c.in_err-origin-in-Copy.field-0.0 name path ms op (inr (named ∙ ap name_of c.in-Copy.is)) at c.in_err-origin-in-Copy.ensures)
+    let carries = subst (λ (d : Draft). Drafts d ms) c.in-Replace.is c.in_ok-op.ensures in
+    let p = err_from_is_err_and c.from_residual-in_err-value_in-in-Replace.result c.from_residual-in_err-value_in-in-Replace.ensures.1 in
+    rw (p.1, p.2) (value_fault c.in_err-value_in-in-Replace.field-0.0 (codes "replace") c.in-Replace.path ms (inr (inl refl)) carries c.in_err-value_in-in-Replace.ensures)
+
+pub returns-in_err-value_in-in-Test : goal.returns-in_err-value_in-in-Test
+returns-in_err-value_in-in-Test c =
+    let ms = members c.args.entries.now.entries in
+    let carries = subst (λ (d : Draft). Drafts d ms) c.in-Test.is c.in_ok-op.ensures in
+    let p = err_from_is_err_and c.from_residual-in_err-value_in-in-Test.result c.from_residual-in_err-value_in-in-Test.ensures.1 in
+    rw (p.1, p.2) (value_fault c.in_err-value_in-in-Test.field-0.0 (codes "test") c.in-Test.path ms (inr (inr refl)) carries c.in_err-value_in-in-Test.ensures)
