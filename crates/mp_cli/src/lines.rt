@@ -70,7 +70,10 @@ pub(crate) fn fault_in_spelling(alloc: Global, fault: PointerFault) -> Result<An
 fn bad_tilde(alloc: Global, offset: usize) -> Result<Answer, AllocError>
     ensures { Gives result (bad_tilde_line offset) }
 {
-    ended(with_number(alloc, "pointer: bad tilde at ", offset)?, REFUSED)
+    ended(
+        with_number(alloc, "pointer: bad tilde at ", offset)?,
+        REFUSED,
+    )
 }
 
 pub(crate) fn part(alloc: Global, found: Option<&Doc>) -> Result<Answer, AllocError>
