@@ -18,8 +18,3 @@ pub use command::{Command, CommandFault, command_of};
 pub use counted::Counted;
 pub use lines::fault_line;
 pub use running::{INPUT_LIMIT, READ_LIMIT, RunFault, run};
-
-#[cfg(test)]
-mod run_tests;
-#[cfg(test)]
-mod tests;

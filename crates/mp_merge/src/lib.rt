@@ -19,10 +19,3 @@ pub use joining::join;
 pub use lists::{join_all, replay, replay_owned};
 pub use merging::{merge, merge_owned};
 pub use rewriting::rewrite;
-
-#[cfg(test)]
-mod in_place_tests;
-#[cfg(test)]
-mod rewriting_tests;
-#[cfg(test)]
-mod tests;

@@ -13,8 +13,6 @@ mod patch;
 mod reading;
 mod serializing;
 mod steps;
-#[cfg(test)]
-mod tests;
 mod writing;
 
 pub use applying::{apply, apply_once, apply_owned};

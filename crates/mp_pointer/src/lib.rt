@@ -8,8 +8,6 @@ pub mod laws;
 mod lending;
 mod pointer;
 mod spelling;
-#[cfg(test)]
-mod tests;
 
 pub use editing::edit_part;
 pub use evaluating::{get, get_mut, index_of};

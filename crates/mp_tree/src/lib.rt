@@ -11,8 +11,6 @@ pub mod lending;
 mod measuring;
 mod reading;
 mod serializing;
-#[cfg(test)]
-mod tests;
 mod whole;
 mod writing;
 

@@ -16,5 +16,3 @@ mod patch_rows;
 mod rewrite_rows;
 #[cfg(test)]
 mod rows;
-#[cfg(test)]
-mod sizes;

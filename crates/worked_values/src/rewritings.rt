@@ -1,5 +1,5 @@
 //! Worked values: merge patches rewritten for a document, and what rewritings make of documents.
-use crate::{merge, rewrite};
+use mp_merge::{merge, rewrite};
 use mp_patch::{ApplyFault, Cause, apply};
 use mp_tree::{read_doc, write_doc};
 use std::test::Fail;

@@ -1,5 +1,5 @@
 //! Worked values: operations on documents, forms, and the texts of the faults.
-use crate::{
+use mp_patch::{
     ApplyFault, Cause, FormCause, FormFault, JsonPatch, Op, apply, apply_once, apply_owned,
     write_patch,
 };

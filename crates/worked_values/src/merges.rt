@@ -1,5 +1,5 @@
 //! Worked values of application, conflict, join and lists of patches, and the texts of the faults.
-use crate::{
+use mp_merge::{
     JoinFault, ListFault, compatible, conflict, join, join_all, merge, merge_owned, replay,
     replay_owned,
 };

@@ -1,7 +1,7 @@
 //! Runs over a reader and writers of which one call goes wrong: what was counted is what the device saw. And runs on
 //! input at its longest.
 
-use crate::{Command, Counted, INPUT_LIMIT, READ_LIMIT, RunFault, run};
+use mp_cli::{Command, Counted, INPUT_LIMIT, READ_LIMIT, RunFault, run};
 use std::alloc::{AllocError, Global};
 use std::io;
 use std::io::{Read, Write};

@@ -1,5 +1,5 @@
 //! Worked values: texts that are read, refused and written, copies, equality and depth.
-use crate::{Doc, DocsFault, ReadFault, Whole, read_doc, read_docs, write_doc, write_text};
+use mp_tree::{Doc, DocsFault, ReadFault, Whole, read_doc, read_docs, write_doc, write_text};
 use std::alloc::{AllocError, Global};
 use std::test::Fail;
 

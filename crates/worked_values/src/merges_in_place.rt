@@ -1,5 +1,5 @@
 //! Worked values of merging in place, and the promise run on lists in several orders and with repeats.
-use crate::{converge, merge_into};
+use mp_merge::{converge, merge_into};
 use mp_patch::apply;
 use mp_tree::{Doc, read_doc, read_docs, write_doc};
 use std::process::Abort;

@@ -1,5 +1,5 @@
 //! Worked values: parts that are read and written, tokens, spellings and indices.
-use crate::{Pointer, PointerFault, edit_part, get, get_mut, index_of};
+use mp_pointer::{Pointer, PointerFault, edit_part, get, get_mut, index_of};
 use mp_tree::{read_doc, read_docs, write_doc};
 use std::mem;
 use std::process::Abort;

@@ -1,6 +1,6 @@
 //! What no clause says: printed texts, and which of help and usage words are answered with.
 
-use crate::{Command, CommandFault, RunFault, command_of, fault_line};
+use mp_cli::{Command, CommandFault, RunFault, command_of, fault_line};
 use std::alloc::{AllocError, Global};
 use std::process::Abort;
 use std::test::Fail;

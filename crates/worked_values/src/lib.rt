@@ -1,0 +1,21 @@
+//! Worked values of the public calls, with the texts and the order that no contract says.
+#![tactic(auto)]
+
+#[cfg(test)]
+mod command_line;
+#[cfg(test)]
+mod documents;
+#[cfg(test)]
+mod json_patches;
+#[cfg(test)]
+mod merges;
+#[cfg(test)]
+mod merges_in_place;
+#[cfg(test)]
+mod pointers;
+#[cfg(test)]
+mod rewritings;
+#[cfg(test)]
+mod running;
+#[cfg(test)]
+mod sizes;
