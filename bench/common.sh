@@ -74,6 +74,21 @@ build_rust() {
   serde_json=${serde_json/-/ }
 }
 
+# Finds a Python that has jsonpatch, $python: the one on the PATH, or Debian's own, which
+# its package serves.
+has_jsonpatch() { "$1" -c 'import jsonpatch' 2>/dev/null; }
+find_jsonpatch() {
+  # shellcheck disable=SC2034 # for the modes
+  if has_jsonpatch python3; then
+    python=python3
+  elif has_jsonpatch /usr/bin/python3 || { install_package python3-jsonpatch && has_jsonpatch /usr/bin/python3; }; then
+    python=/usr/bin/python3
+  else
+    say 'no jsonpatch here: without the peer in Python'
+    return 1
+  fi
+}
+
 # The programs: each with its name in the table and its command, of words with no space.
 titles=() commands=()
 add() { titles+=("$1") commands+=("$2"); }

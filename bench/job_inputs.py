@@ -7,7 +7,8 @@ The size is in bytes, nearly, for a document and a merge patch of texts, of smal
 objects (points), of lists of numbers (rows), 100 levels deep (deep), of objects of one
 name in one another (chains), or where the patch touches every name (touched), for two
 patches that clash at every name (clashes), and for one document alone: a mixed one
-(document), small objects (small), and a list of true, null, [] and {} (empties). It is
+(document), small objects (small), and a list of true, null, [] and {} (empties); and for
+a document of half of them with a JSON Patch (edits). It is
 the number of operations of a JSON Patch: on a document of 300 kB (patch), of moves of
 members (moves) and of one large value to and fro (large), and of copies of arrays (arrays)
 and of small objects (objects); and of patches for join and replay (join, replay) and for
@@ -120,6 +121,7 @@ SHAPES = {
     "touched": lambda size: sized(lambda names: pair(names, setting, touched=100), size),
     "document": lambda size: sized(lambda names: merge_input(names, "mixed")[:1], size),
     "patch": lambda count: patch_input(count, 300_000),
+    "edits": lambda size: patch_input(size // 200, size // 2),
     "join": lambda count: lists(count).patches(count),
     "replay": replay,
     "clash": clash,

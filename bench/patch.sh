@@ -23,16 +23,8 @@ elif [[ -e $header ]] || install_package nlohmann-json3-dev; then
   fi
 fi
 
-# Python: the one on the PATH, or Debian's own, which its package serves.
-has_jsonpatch() { "$1" -c 'import jsonpatch' 2>/dev/null; }
 python=
-if has_jsonpatch python3; then
-  python=python3
-elif has_jsonpatch /usr/bin/python3 || { install_package python3-jsonpatch && has_jsonpatch /usr/bin/python3; }; then
-  python=/usr/bin/python3
-else
-  say 'no jsonpatch here: without the peer in Python'
-fi
+find_jsonpatch || true
 if [[ $python ]]; then
   version=$("$python" -c 'import jsonpatch; print(jsonpatch.__version__)')
   add "$("$python" --version), jsonpatch $version" "$(interpreter "$python") patch.py"

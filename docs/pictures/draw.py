@@ -1,13 +1,15 @@
 #!/usr/bin/env python3
-"""Draws the pictures of the pages from what the proved program prints, and from crates.txt and the crates' first lines.
+"""Draws the pictures of the pages from what the proved program prints, from crates.txt and the crates' first lines, and from
+the figures that bench/run keeps.
 
     docs/pictures/draw.py FOLDER
 
-It writes replicas.svg, clash.svg and crates.svg into the folder, each on a ground of its own, so that it can be read on a
+It writes replicas.svg, clash.svg, crates.svg and cost.svg into the folder, each on a ground of its own, so that it can be read on a
 dark page too, and with a legend of its colours. checks/pictures draws them again and compares.
 """
 
 import json
+import math
 import pathlib
 import subprocess
 import sys
@@ -20,6 +22,10 @@ TOP = pathlib.Path(__file__).resolve().parent.parent.parent
 WIDE, HIGH, SPACE = 8, 19, 10
 
 GROUND, PLAIN, PATCH, SHOWN, CLASH = "#ffffff", "#f4f4f4", "#dbe9fb", "#dff3dd", "#fbdcd9"
+
+# Of the plot: the colour of each program, and the sides of a panel.
+LINES = {"mergejoin": "#1f5fb4", "Rust": "#c2571a", "jq": "#3b8a3b", "jsonpatch": "#8a4b9e"}
+ACROSS, DOWN = 240, 200
 
 
 def answer(command, *parts):
@@ -200,11 +206,66 @@ def crates():
     return drawing.svg()
 
 
+class Panel:
+    """One job of the plot, on logarithmic axes: bytes of input across, instructions up."""
+
+    def __init__(self, drawing, x, y, least, most):
+        self.drawing, self.x, self.y, self.least, self.most = drawing, x, y, least, most
+
+    def place(self, size, count):
+        """Where a number of bytes and a number of instructions stand."""
+        across = math.log10(size / self.least[0]) / math.log10(self.most[0] / self.least[0])
+        up = math.log10(count / self.least[1]) / math.log10(self.most[1] / self.least[1])
+        return round(self.x + ACROSS * across, 1), round(self.y + DOWN * (1 - up), 1)
+
+    def axes(self, title):
+        line = 'stroke="#ccc" fill="none"'
+        self.drawing.text(self.x + ACROSS // 2, self.y - SPACE, title, "middle", "bold")
+        for power, words in [(4, "10 kB"), (5, "100 kB"), (6, "1 MB")]:
+            x, _ = self.place(10**power, self.least[1])
+            self.drawing.shapes.append(f'<path d="M{x} {self.y}v{DOWN}" {line}/>')
+            self.drawing.text(x, self.y + DOWN + 16, words, "middle")
+        for power in range(round(math.log10(self.least[1])), round(math.log10(self.most[1])) + 1):
+            _, y = self.place(self.least[0], 10**power)
+            self.drawing.shapes.append(f'<path d="M{self.x} {y}h{ACROSS}" {line}/>')
+            self.drawing.text(self.x - 6, y + 4, f"{10 ** (power - 6):g} M", "end")
+        self.drawing.reach(self.x + ACROSS, self.y + DOWN + HIGH)
+
+    def line(self, colour, points):
+        places = [self.place(*point) for point in points]
+        path = "L".join(f"{x} {y}" for x, y in places)
+        self.drawing.shapes.append(f'<path d="M{path}" stroke="{colour}" stroke-width="2" fill="none"/>')
+        for x, y in places:
+            self.drawing.shapes.append(f'<rect x="{x - 3:.1f}" y="{y - 3:.1f}" width="6" height="6" fill="{colour}"/>')
+
+
+def cost():
+    """The instructions of each job by the size of its input, beside those of other programs."""
+    figures = {}
+    for line in (TOP / "bench/sizes.txt").read_text("utf-8").splitlines():
+        job, program, size, count = line.split(";")
+        figures.setdefault(job, {}).setdefault(program, []).append((int(size), int(count)))
+    drawing = Drawing("Instructions of each job by the bytes of its input, on logarithmic axes, beside other programs")
+    counts = [count for job in figures.values() for points in job.values() for _, count in points]
+    least = 8_000, 10 ** math.floor(math.log10(min(counts)))
+    most = 1_250_000, 10 ** math.ceil(math.log10(max(counts)))
+    for number, (job, programs) in enumerate(figures.items()):
+        x = 70 + number % 3 * (ACROSS + 80)
+        y = 40 + number // 3 * (DOWN + 80)
+        panel = Panel(drawing, x, y, least, most)
+        panel.axes(job)
+        for program, points in programs.items():
+            panel.line(LINES[program], points)
+    drawing.legend([(colour, program) for program, colour in LINES.items()])
+    return drawing.svg()
+
+
 def main():
     folder = pathlib.Path(sys.argv[1])
     (folder / "crates.svg").write_text(crates(), "utf-8")
     (folder / "replicas.svg").write_text(replicas(), "utf-8")
     (folder / "clash.svg").write_text(clash(), "utf-8")
+    (folder / "cost.svg").write_text(cost(), "utf-8")
 
 
 main()

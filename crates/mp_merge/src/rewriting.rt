@@ -1,6 +1,5 @@
 //! Merge patches rewritten as JSON Patches.
-ghost use Rattle.std.specs.Prelude.{◌≡◌, ◌≤◌, ◌++◌, ◌∷◌, [], Some, IfOk, OnOk, map, option_map};
-ghost use Rattle.std.specs.List.{flat_map};
+ghost use Rattle.std.specs.Prelude.{◌≡◌, ◌≤◌, ◌++◌, ◌∷◌, [], Some, IfOk, OnOk, option_map};
 ghost use Rattle.mp_patch.specs.Operation.{test};
 ghost use Rattle.mp_tree.specs.Document.{depth, depth_limit};
 ghost use Rattle.mp_tree.specs.View.{document};
@@ -8,9 +7,8 @@ ghost use Rattle.mp_tree.specs.Private.Entries.{members};
 ghost use Rattle.mp_patch.specs.Run.{Runs};
 ghost use Rattle.mp_patch.specs.View.{operation_of, operations_of};
 ghost use Rattle.mp_merge.specs.Application.{merge_patch};
-ghost use Rattle.mp_merge.specs.Private.Edits.{IsOneEdit, NotBothMaps, AreEdits, AreMemberEdits, all_edits, guarded_edit_of};
+ghost use Rattle.mp_merge.specs.Private.Edits.{IsOneEdit, NotBothMaps, AreEdits, AreMemberEdits, Gathered, lists_of, followed_by};
 ghost use Rattle.mp_merge.specs.Rewriting.{IsRewriting};
-ghost use Rattle.mp_merge.specs.Private.Growth.{Grew};
 
 use crate::laws;
 use crate::merging::{is_null, merge};
@@ -47,33 +45,22 @@ pub fn rewrite(alloc: Global, doc: &Doc, patch: &Doc) -> Result<JsonPatch, Alloc
         (merge_patch (Some (document doc.now)) (document patch.now))) }
 {
     laws::rewriting_runs();
-    let mut edits = Vec::new(alloc);
-    push_all(patch, doc, &mut edits, alloc)?;
-    guards_first(edits, alloc)
+    let mut found = Edits {
+        guards: JsonPatch::new(alloc),
+        edits: Vec::new(alloc),
+    };
+    push_all(patch, doc, &mut found, alloc)?;
+    let Edits { mut guards, edits } = found;
+    push_ops(edits, &mut guards)?;
+    Ok(guards)
 }
 
-// An edit, and the test that guards it: none where the document has nothing there.
+// The tests of the places that were passed, and their edits: both in the order of paths. No place is kept with its test,
+// so that a rewriting is these two lists and no third one.
 #[derive(Drop)]
-struct Edit {
-    guard: Option<Op>,
-    op: Op,
-}
-
-fn guards_first(found: Vec<Edit>, alloc: Global) -> Result<JsonPatch, AllocError>
-    ensures { IfOk result (λ ops. let all = all_edits found.items in
-        operations_of ops ≡ flat_map (λ g. g.0) all ++ map (λ g. g.1) all) }
-{
-    let mut patch = JsonPatch::new(alloc);
-    let mut edits = Vec::with_capacity(alloc, found.len())?;
-    for edit in found {
-        let Edit { guard, op } = edit;
-        if let Some(test) = guard {
-            patch.push(test)?;
-        }
-        edits.push(op)?;
-    }
-    push_ops(edits, &mut patch)?;
-    Ok(patch)
+struct Edits {
+    guards: JsonPatch,
+    edits: Vec<Op>,
 }
 
 fn push_ops(ops: Vec<Op>, patch: &mut JsonPatch) -> Result<(), AllocError>
@@ -85,16 +72,16 @@ fn push_ops(ops: Vec<Op>, patch: &mut JsonPatch) -> Result<(), AllocError>
     Ok(())
 }
 
-// Each function adds to the edits at their end, in the order of paths.
-fn push_all(patch: &Doc, doc: &Doc, edits: &mut Vec<Edit>, alloc: Global) -> Result<(), AllocError>
-    ensures { OnOk result (Grew (all_edits edits.old.items) (all_edits edits.new.items)
+// Each function adds to both lists at their ends.
+fn push_all(patch: &Doc, doc: &Doc, found: &mut Edits, alloc: Global) -> Result<(), AllocError>
+    ensures { OnOk result (Gathered found.old found.new
         (AreEdits [] (document patch.now) (Some (document doc.now)))) }
 {
     match (patch, doc) {
         (Doc::Members(changes), Doc::Members(entries)) => {
-            push_member_edits(changes, entries, &mut Pointer::empty(alloc), edits, alloc)
+            push_member_edits(changes, entries, &mut Pointer::empty(alloc), found, alloc)
         }
-        _ => push_root_edit(patch, doc, edits, alloc),
+        _ => push_root_edit(patch, doc, found, alloc),
     }
 }
 
@@ -102,19 +89,18 @@ fn push_all(patch: &Doc, doc: &Doc, edits: &mut Vec<Edit>, alloc: Global) -> Res
 fn push_root_edit(
     patch: &Doc,
     doc: &Doc,
-    edits: &mut Vec<Edit>,
+    found: &mut Edits,
     alloc: Global,
 ) -> Result<(), AllocError>
     ensures { OnOk result (NotBothMaps (document patch.now) (Some (document doc.now))
-        → Grew (all_edits edits.old.items) (all_edits edits.new.items)
+        → Gathered found.old found.new
         (IsOneEdit [] (document patch.now) (Some (document doc.now)))) }
 {
     if patch.same(doc) {
         return Ok(());
     }
     let op = Op::Replace(Pointer::empty(alloc), merge(alloc, None, patch)?);
-    edits.push(guarded_edit(Pointer::empty(alloc), doc, op, alloc)?)?;
-    Ok(())
+    push_guarded(Pointer::empty(alloc), doc, op, found, alloc)
 }
 
 // `path` leads to both objects, and is as it was at the end.
@@ -123,16 +109,16 @@ fn push_member_edits(
     changes: &BTreeMap<String, Doc>,
     entries: &BTreeMap<String, Doc>,
     path: &mut Pointer,
-    edits: &mut Vec<Edit>,
+    found: &mut Edits,
     alloc: Global,
 ) -> Result<(), AllocError>
     ensures path { OnOk result (path.new ≡ path.old) }
-    ensures edits { OnOk result (Grew (all_edits edits.old.items) (all_edits edits.new.items)
+    ensures edits { OnOk result (Gathered found.old found.new
         (AreMemberEdits path.old (members changes.now.entries) (members entries.now.entries))) }
 {
     for (name, change) in changes.iter() {
         let value = entries.get(name.as_str());
-        push_edits(change, value, path, name.as_str(), edits, alloc)?;
+        push_edits(change, value, path, name.as_str(), found, alloc)?;
     }
     Ok(())
 }
@@ -145,11 +131,11 @@ fn push_edits(
     value: Option<&Doc>,
     path: &mut Pointer,
     name: &str,
-    edits: &mut Vec<Edit>,
+    found: &mut Edits,
     alloc: Global,
 ) -> Result<(), AllocError>
     ensures path { OnOk result (path.new ≡ path.old) }
-    ensures edits { OnOk result (Grew (all_edits edits.old.items) (all_edits edits.new.items)
+    ensures edits { OnOk result (Gathered found.old found.new
         (AreEdits (path.old ++ name.now ∷ []) (document change.now)
         (option_map (λ v. document v.now) value.entry))) }
 {
@@ -158,15 +144,15 @@ fn push_edits(
             Some(there) => match there {
                 Doc::Members(entries) => {
                     path.push(name)?;
-                    push_member_edits(changes, entries, path, edits, alloc)?;
+                    push_member_edits(changes, entries, path, found, alloc)?;
                     path.pop();
                     Ok(())
                 }
-                _ => push_edit(change, value, path, name, edits, alloc),
+                _ => push_edit(change, value, path, name, found, alloc),
             },
-            None => push_edit(change, value, path, name, edits, alloc),
+            None => push_edit(change, value, path, name, found, alloc),
         },
-        _ => push_edit(change, value, path, name, edits, alloc),
+        _ => push_edit(change, value, path, name, found, alloc),
     }
 }
 
@@ -176,12 +162,12 @@ fn push_edit(
     value: Option<&Doc>,
     path: &Pointer,
     name: &str,
-    edits: &mut Vec<Edit>,
+    found: &mut Edits,
     alloc: Global,
 ) -> Result<(), AllocError>
     ensures { OnOk result (let t = option_map (λ v. document v.now) value.entry in
         NotBothMaps (document change.now) t
-        → Grew (all_edits edits.old.items) (all_edits edits.new.items)
+        → Gathered found.old found.new
         (IsOneEdit (path.now ++ name.now ∷ []) (document change.now) t)) }
 {
     match value {
@@ -189,16 +175,14 @@ fn push_edit(
             if is_null(change) {
                 let place = path.child(alloc, name)?;
                 let op = Op::Remove(place.copy(alloc)?);
-                edits.push(guarded_edit(place, there, op, alloc)?)?;
-                return Ok(());
+                return push_guarded(place, there, op, found, alloc);
             }
             if change.same(there) {
                 return Ok(());
             }
             let place = path.child(alloc, name)?;
             let op = Op::Replace(place.copy(alloc)?, merge(alloc, None, change)?);
-            edits.push(guarded_edit(place, there, op, alloc)?)?;
-            Ok(())
+            push_guarded(place, there, op, found, alloc)
         }
         None => {
             if is_null(change) {
@@ -206,17 +190,24 @@ fn push_edit(
             }
             let place = path.child(alloc, name)?;
             let op = Op::Add(place, merge(alloc, None, change)?);
-            edits.push(Edit { guard: None, op })?;
+            found.edits.push(op)?;
             Ok(())
         }
     }
 }
 
-// The edit, with the test of what is there.
-fn guarded_edit(place: Pointer, there: &Doc, op: Op, alloc: Global) -> Result<Edit, AllocError>
-    ensures { IfOk result (λ e. guarded_edit_of e
-        ≡ (test place (document there.now) ∷ [], operation_of op)) }
+// The edit, and the test of what is there.
+fn push_guarded(
+    place: Pointer,
+    there: &Doc,
+    op: Op,
+    found: &mut Edits,
+    alloc: Global,
+) -> Result<(), AllocError>
+    ensures { OnOk result (lists_of found.new ≡ followed_by (lists_of found.old)
+        ((test place (document there.now) ∷ [], operation_of op) ∷ [])) }
 {
-    let guard = Some(Op::Test(place, there.copy(alloc)?));
-    Ok(Edit { guard, op })
+    found.guards.push(Op::Test(place, there.copy(alloc)?))?;
+    found.edits.push(op)?;
+    Ok(())
 }

@@ -1,27 +1,32 @@
--- What the walk over a patch and a document adds to a list of edits. Only private clauses cite it.
-use Rattle.std.specs.Prelude.{◌≡◌, ◌≢◌, ◌⊎◌, List, [], ◌∷◌, ◌++◌, map, Option, None, Some}
+-- What the walk over a patch and a document adds to its tests and edits. Only private clauses cite it.
+use Rattle.std.specs.Prelude.{◌≡◌, ◌≢◌, ◌⊎◌, List, [], ◌∷◌, ◌++◌, map, Option, Some}
+use Rattle.std.specs.List.{flat_map}
 use Rattle.mp_tree.specs.Document.{Document, object, Members, no_members, member, find}
 use Rattle.mp_tree.specs.Look.{Path, an_object, look, look_of}
 use Rattle.mp_patch.specs.Operation.{Operation}
-use Rattle.mp_patch.specs.View.{operation_of}
-use Rattle.mp_patch.specs.declared.op.Op.{Op}
+use Rattle.mp_patch.specs.View.{operations_of}
 use Rattle.mp_merge.specs.Rewriting.{guard_of, part_left, edit_to}
-use Rattle.mp_merge.specs.declared.rewriting.Edit.{Edit}
+use Rattle.mp_merge.specs.Private.Growth.{GrewBy}
+use Rattle.mp_merge.specs.declared.rewriting.Edits.{Edits}
 
 -- the tests that guard a place, at most one, and its edit
 abbrev pub GuardedEdit : Type 0
 GuardedEdit = List Operation × Operation
 
-abbrev pub guard_list : Option Op → List Operation
-guard_list None = []
-guard_list (Some o) = operation_of o ∷ []
+-- the tests and the edits of the places that a walk has passed
+abbrev pub Lists : Type 0
+Lists = List Operation × List Operation
 
--- what an `Edit` means
-abbrev pub guarded_edit_of : Edit → GuardedEdit
-guarded_edit_of e = (guard_list e.guard, operation_of e.op)
+abbrev pub lists_of : Edits → Lists
+lists_of found = (operations_of found.guards, operations_of found.edits.items)
 
-abbrev pub all_edits : List Edit → List GuardedEdit
-all_edits es = map guarded_edit_of es
+-- with those of further places at their ends
+abbrev pub followed_by : Lists → List GuardedEdit → Lists
+followed_by lists more = (lists.0 ++ flat_map (λ g. g.0) more, lists.1 ++ map (λ g. g.1) more)
+
+-- both lists have grown by guarded edits of which that holds
+abbrev pub Gathered : Edits → Edits → (List GuardedEdit → Type 0) → Type 0
+Gathered old new Holds = GrewBy followed_by (lists_of old) (lists_of new) Holds
 
 -- at the path s: nothing where what the patch leaves stands there, else the edit that leaves it, with its guard
 abbrev pub IsOneEdit : Path → Document → Option Document → List GuardedEdit → Type 0

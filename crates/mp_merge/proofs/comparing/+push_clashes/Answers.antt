@@ -1,11 +1,11 @@
-use Rattle.std.proofs.Common.{◌≡◌, [], ◌∷◌, ◌++◌, string_bytes, Some, refl, ap₂, ◌∙◌}
+use Rattle.std.proofs.Common.{◌≡◌, [], ◌∷◌, ◌++◌, string_bytes, Some, refl, ap₂, ◌∙◌, append-nil, append_assoc}
 use Rattle.std.proofs.lemmas.Result.{on_ok_weaker}
 use Rattle.mp_tree.specs.Document.{find}
 use Rattle.mp_tree.specs.View.{document}
 use Rattle.mp_tree.specs.Private.Entries.{members}
 use Rattle.mp_merge.specs.Private.Clashes.{WalksClashes}
 use Rattle.mp_merge.specs.Private.Edits.{NotBothMaps}
-use Rattle.mp_merge.specs.Private.Growth.{Grew}
+use Rattle.mp_merge.specs.Private.Growth.{Grew, behind}
 use Rattle.mp_merge.proofs.Clashes.Conflicts.{clashes_after_one, back_again, walks_one}
 use Rattle.mp_merge.proofs.Clashes.ByName.{no_map, not_both_first, not_both_second}
 use Rattle.mp_merge.proofs.Collections.Growth.{grew_by_all, grew_by_none}
@@ -49,11 +49,11 @@ push_member_clashes-loop-name-preserved t c =
     let n = string_bytes c.in-Some.name.now in
     let others = members c.args.others.now.entries in
     let absent = looked_up c.args.others.now.entries c.as_str.ensures.value c.in_default.ensures.value in
-    let grew = grew_by_none l.places.items (WalksClashes (s ++ n ∷ []) (document c.in-Some.change.now) (find n others)) (rw absent refl) in
+    let grew = grew_by_none behind append-nil append_assoc l.places.items (WalksClashes (s ++ n ∷ []) (document c.in-Some.change.now) (find n others)) (rw absent refl) in
     record {
       path = l.invariant.path;
       changes = pass_change l.invariant.changes c.in-Some.ensures.steps (λ map rest. clashes_after_one _ _ _ _ _ (members c.next.new.self) _ _ _ rest grew);
     }
 
 pub push_member_clashes-returns-clause-places : goal.push_member_clashes-returns-clause-places
-push_member_clashes-returns-clause-places t c = grew_by_all _ _ _ (no_changes c.loop-name.invariant.changes c.in-None.ensures.steps.0)
+push_member_clashes-returns-clause-places t c = grew_by_all behind append-nil append_assoc _ _ _ (no_changes c.loop-name.invariant.changes c.in-None.ensures.steps.0)

@@ -3,11 +3,10 @@ use Rattle.mp_tree.specs.Document.{find}
 use Rattle.mp_tree.specs.View.{document}
 use Rattle.mp_tree.specs.Private.Entries.{members}
 use Rattle.mp_tree.specs.declared.doc.Doc.{Doc}
-use Rattle.mp_merge.specs.Private.Edits.{all_edits}
+use Rattle.mp_merge.specs.Private.Edits.{lists_of}
 use Rattle.mp_pointer.proofs.Facts.{lent_part}
 use Rattle.mp_merge.proofs.Clashes.Conflicts.{back_again}
-use Rattle.mp_merge.proofs.Rewritings.Walk.{both_maps, edits_after_one, renamed}
-use Rattle.mp_merge.proofs.Collections.Growth.{grew_by_all}
+use Rattle.mp_merge.proofs.Rewritings.Walk.{all_edits, both_maps, edits_after_one, renamed}
 use Rattle.mp_merge.proofs.Collections.Members.{document_of_map, looked_up, pass_change, no_changes}
 use Rattle.mp_merge.proofs.rewriting.+push_edits.Goals as goal
 
@@ -29,7 +28,7 @@ push_member_edits-loop-name-preserved t c =
     let entries = c.args.entries.now.entries in
     let value = c.get-value.result in
     let found = looked_up entries c.as_str.ensures.value c.get-value.ensures.value in
-    let grew = renamed (all_edits l.edits.items) (all_edits c.push_edits.new.edits.items) l.path s c.as_str-in-loop-name.result.now n p (option_map (λ (v : Bor Doc). document v.now) value) (find n (members entries))
+    let grew = renamed (lists_of l.found) (lists_of c.push_edits.new.found) l.path s c.as_str-in-loop-name.result.now n p (option_map (λ (v : Bor Doc). document v.now) value) (find n (members entries))
     l.invariant.path c.as_str-in-loop-name.ensures.value (lent_part value ∙ sym found) c.in_ok-push_edits.ensures.edits in
     record {
       path = c.in_ok-push_edits.ensures.path ∙ l.invariant.path;
@@ -37,4 +36,4 @@ push_member_edits-loop-name-preserved t c =
     }
 
 pub push_member_edits-returns-clause-edits : goal.push_member_edits-returns-clause-edits
-push_member_edits-returns-clause-edits t c = grew_by_all _ _ _ (no_changes c.loop-name.invariant.changes c.in-None.ensures.steps.0)
+push_member_edits-returns-clause-edits t c = all_edits _ _ _ _ _ (no_changes c.loop-name.invariant.changes c.in-None.ensures.steps.0)

@@ -1,6 +1,6 @@
 use Rattle.std.proofs.Common.{◌≡◌}
 use Rattle.mp_tree.specs.Private.Entries.{members}
-use Rattle.mp_merge.specs.Private.Edits.{all_edits}
+use Rattle.mp_merge.specs.Private.Edits.{lists_of}
 use Rattle.mp_merge.proofs.Collections.Members.{ChangesLeft}
 use Rattle.mp_merge.proofs.Rewritings.Walk.{IsEditsRest}
 use Rattle.mp_merge.proofs.rewriting.+push_edits.Given as goal
@@ -9,5 +9,5 @@ use Rattle.mp_merge.proofs.rewriting.+push_edits.Given as goal
 abbrev pub invariant-push_member_edits-loop-name : goal.invariant-push_member_edits-loop-name
 invariant-push_member_edits-loop-name l = record {
   path : l.path ≡ l.initial.path;
-  changes : ChangesLeft l.name-iterator (λ left. IsEditsRest (all_edits l.initial.edits.items) (all_edits l.edits.items) l.initial.path (members l.changes.entries) left (members l.entries.entries));
+  changes : ChangesLeft l.name-iterator (λ left. IsEditsRest (lists_of l.initial.found) (lists_of l.found) l.initial.path (members l.changes.entries) left (members l.entries.entries));
 }
