@@ -20,7 +20,7 @@ use Rattle.library_example.specs.Received.{IsClashWith}
 abbrev pub Keeps : Option Doc → List Document → Type 0
 Keeps joined patches = MatchOption joined (patches ≡ []) (λ kept. IsJoin patches (document kept))
 
-no_element : {X : Type 0} (x : X) → Contains [] x → ⊥
+pub no_element : {X : Type 0} (x : X) → Contains [] x → ⊥
 no_element x at = let below = at.1 in absurd (omega arith)
 
 join_of_one : (p : Document) → IsJoin (p ∷ []) p
@@ -63,7 +63,7 @@ told_clashes law (Conflict places) kept patch is before some received held =
 told_clashes law OutOfMemory kept patch is before some received held = tt
 
 -- what a `?` hands on
-pub handed_on : {A : Type 0} {told : JoinFault} (P : JoinFault → Type 0) (r : Result A JoinFault) → IsErrAnd r (λ fault. fault ≡ told) → P told → IfErr r P
+pub handed_on : {A E : Type 0} {told : E} (P : E → Type 0) (r : Result A E) → IsErrAnd r (λ fault. fault ≡ told) → P told → IfErr r P
 handed_on P (Ok done) exit is = tt
 handed_on P (Err fault) exit is = subst P (sym exit) is
 

@@ -1,2 +1,5 @@
+pub mod Keeper
+pub mod Laws
+pub mod Private
 pub mod Received
 pub mod Shown

@@ -1,7 +1,9 @@
-//! Why a replica has nothing to show.
+//! Why a replica has nothing to show, or begins no new start.
 ghost use Rattle.std.specs.Prelude.{◌≡◌};
 
+use crate::keeping::Identity;
 use mp_merge::ListFault;
+use mp_pointer::Pointer;
 use mp_tree::{DocsFault, ReadFault};
 use std::alloc::AllocError;
 use thiserror::Error;
@@ -60,5 +62,36 @@ impl From<AllocError> for ShowFault {
 
     fn from(_refused: AllocError) -> ShowFault {
         ShowFault::OutOfMemory
+    }
+}
+
+/// Why a replica does not begin the new start that was decided.
+#[derive(Debug, Drop, Error)]
+pub enum DecideFault {
+    /// The chosen patch with this identity has not come yet: the decision waits for it.
+    #[error("{0:?} has not come")]
+    NotCome(Identity),
+    /// Two of the chosen patches clash; the pointers lead to all their conflicts, in the order of paths.
+    #[error("conflict of {first:?} and {second:?}")]
+    Conflict {
+        first: Identity,
+        second: Identity,
+        places: Vec<Pointer>,
+    },
+    /// There is no number after that of this start.
+    #[error("no number is left for a start")]
+    LastEpoch,
+    /// Memory ran out.
+    #[error("out of memory")]
+    OutOfMemory,
+}
+
+impl From<AllocError> for DecideFault {
+    ghost use Rattle.library_example.specs.declared.fault.DecideFault.TheVariants.{OutOfMemory};
+
+    ghost from_gives = { λ _ fault. fault ≡ OutOfMemory };
+
+    fn from(_refused: AllocError) -> DecideFault {
+        DecideFault::OutOfMemory
     }
 }

@@ -2,11 +2,14 @@
 #![tactic(auto)]
 
 mod fault;
+mod keeping;
+pub mod laws;
 mod receiving;
 mod replica;
 #[cfg(test)]
 mod tests;
 
-pub use fault::ShowFault;
+pub use fault::{DecideFault, ShowFault};
+pub use keeping::{Arrival, Identity, Keeper, Letter};
 pub use receiving::{Envelope, Received, Replica, shown_after};
 pub use replica::{at, for_a_peer, show};

@@ -1,7 +1,11 @@
 //! The values of the README and of `docs/REPLICAS.md`.
-use crate::{Envelope, Received, Replica, ShowFault, at, for_a_peer, show, shown_after};
+use crate::{
+    Arrival, DecideFault, Envelope, Identity, Keeper, Letter, Received, Replica, ShowFault, at,
+    for_a_peer, show, shown_after,
+};
 use mp_merge::{JoinFault, ListFault};
 use mp_tree::{ReadFault, read_doc, read_docs, write_doc};
+use std::alloc::Global;
 use std::process::Abort;
 use std::test::Fail;
 
@@ -144,5 +148,157 @@ fn what_is_shown_after_envelopes(rt: HostRuntime) -> Result<(), Fail> {
     let start = read_doc(rt.alloc(), START.as_bytes())?;
     let refused = shown_after(rt.alloc(), 1, start, envelopes.as_slice());
     assert!(rt; matches!(refused, Err(JoinFault::Conflict(_))));
+    Ok(())
+}
+
+/// The start of the recipe in `docs/REPLICAS.md`, and its patches: Ann's first clashes with Bob's first, Bob's second
+/// with none.
+const BOX: &str = r#"{"colour":"red","size":1}"#;
+
+const ANN: Identity = Identity {
+    sender: 1,
+    number: 1,
+};
+
+const BOB: Identity = Identity {
+    sender: 2,
+    number: 1,
+};
+
+const BOB_AGAIN: Identity = Identity {
+    sender: 2,
+    number: 2,
+};
+
+const LETTERS: &[(Identity, &str)] = &[
+    (ANN, r#"{"colour":"blue"}"#),
+    (BOB, r#"{"colour":"green"}"#),
+    (BOB_AGAIN, r#"{"size":2}"#),
+];
+
+fn letter(alloc: Global, epoch: u64, identity: Identity, text: &str) -> Result<Letter, ReadFault> {
+    Ok(Letter {
+        epoch,
+        identity,
+        patch: read_doc(alloc, text.as_bytes())?,
+    })
+}
+
+/// A keeper of the box to which the letters came with these numbers, in this order.
+fn keeper_of(alloc: Global, numbers: &[usize]) -> Result<Keeper, Fail> {
+    let mut keeper = Keeper::new(alloc, 1, read_doc(alloc, BOX.as_bytes())?);
+    for number in numbers {
+        if let Some((identity, text)) = LETTERS.get(*number) {
+            let _arrival = keeper.receive(alloc, &letter(alloc, 1, *identity, text)?)?;
+        }
+    }
+    Ok(keeper)
+}
+
+fn shown_by(alloc: Global, keeper: &Keeper) -> Result<String, Fail> {
+    let shown = keeper.current_doc(alloc)?;
+    Ok(write_doc(alloc, &shown)?)
+}
+
+#[test]
+fn the_recipe_of_replicas(rt: HostRuntime) -> Result<(), Fail> {
+    let mut keeper = keeper_of(rt.alloc(), &[0, 1, 2])?;
+    assert_eq!(rt;
+        keeper.clashing(rt.alloc())?.as_slice(),
+        [(ANN, BOB)].as_slice()
+    );
+    assert_eq!(rt;
+        shown_by(rt.alloc(), &keeper)?.as_str(),
+        r#"{"colour":"red","size":2}"#
+    );
+    keeper.decide(rt.alloc(), &[ANN, BOB_AGAIN])?;
+    assert_eq!(rt;
+        shown_by(rt.alloc(), &keeper)?.as_str(),
+        r#"{"colour":"blue","size":2}"#
+    );
+    assert_eq!(rt; keeper.clashing(rt.alloc())?.len(), 0);
+    assert_eq!(rt; keeper.epoch(), 2);
+    Ok(())
+}
+
+#[test]
+fn order_and_repeats_change_nothing(rt: HostRuntime) -> Result<(), Fail> {
+    for numbers in [[0, 1, 2, 0, 2], [2, 2, 1, 1, 0], [1, 0, 1, 0, 2]] {
+        let mut keeper = keeper_of(rt.alloc(), &numbers)?;
+        assert_eq!(rt;
+            shown_by(rt.alloc(), &keeper)?.as_str(),
+            r#"{"colour":"red","size":2}"#
+        );
+        keeper.decide(rt.alloc(), &[BOB_AGAIN, ANN, ANN])?;
+        assert_eq!(rt;
+            shown_by(rt.alloc(), &keeper)?.as_str(),
+            r#"{"colour":"blue","size":2}"#
+        );
+    }
+    Ok(())
+}
+
+#[test]
+fn a_repeat_is_told(rt: HostRuntime) -> Result<(), Fail> {
+    let mut keeper = keeper_of(rt.alloc(), &[0])?;
+    let again = letter(rt.alloc(), 1, ANN, r#"{"size":3}"#)?;
+    assert_eq!(rt; keeper.receive(rt.alloc(), &again)?, Arrival::Repeat);
+    assert_eq!(rt;
+        shown_by(rt.alloc(), &keeper)?.as_str(),
+        r#"{"colour":"blue","size":1}"#
+    );
+    Ok(())
+}
+
+#[test]
+fn a_decision_waits_for_what_it_names(rt: HostRuntime) -> Result<(), Fail> {
+    let mut keeper = keeper_of(rt.alloc(), &[0, 1])?;
+    let Err(DecideFault::NotCome(identity)) = keeper.decide(rt.alloc(), &[ANN, BOB_AGAIN]) else {
+        assert!(rt; false, "the decision does not wait");
+        return Ok(());
+    };
+    assert_eq!(rt; identity, BOB_AGAIN);
+    let (identity, text) = LETTERS[2];
+    let come = letter(rt.alloc(), 1, identity, text)?;
+    assert_eq!(rt; keeper.receive(rt.alloc(), &come)?, Arrival::Kept);
+    keeper.decide(rt.alloc(), &[ANN, BOB_AGAIN])?;
+    assert_eq!(rt;
+        shown_by(rt.alloc(), &keeper)?.as_str(),
+        r#"{"colour":"blue","size":2}"#
+    );
+    // Bob makes his patch anew, for the new start; what is of the old one is late.
+    let late = letter(rt.alloc(), 1, BOB, r#"{"colour":"green"}"#)?;
+    assert_eq!(rt; keeper.receive(rt.alloc(), &late)?, Arrival::Late);
+    let early = letter(rt.alloc(), 3, BOB, r#"{"colour":"green"}"#)?;
+    assert_eq!(rt; keeper.receive(rt.alloc(), &early)?, Arrival::Early);
+    let anew = letter(rt.alloc(), 2, BOB, r#"{"colour":"green"}"#)?;
+    assert_eq!(rt; keeper.receive(rt.alloc(), &anew)?, Arrival::Kept);
+    assert_eq!(rt;
+        shown_by(rt.alloc(), &keeper)?.as_str(),
+        r#"{"colour":"green","size":2}"#
+    );
+    Ok(())
+}
+
+#[test]
+fn a_decision_for_patches_that_clash_is_refused(rt: HostRuntime) -> Result<(), Fail> {
+    let mut keeper = keeper_of(rt.alloc(), &[0, 1, 2])?;
+    let Err(
+        DecideFault::Conflict {
+            first,
+            second,
+            places,
+        },
+    ) = keeper.decide(rt.alloc(), &[BOB, BOB_AGAIN, ANN])
+    else {
+        assert!(rt; false, "no conflict is told");
+        return Ok(());
+    };
+    assert_eq!(rt; (first, second, places.len()), (ANN, BOB, 1));
+    assert_eq!(rt; places[0].print(rt.alloc())?.as_str(), "/colour");
+    assert_eq!(rt;
+        shown_by(rt.alloc(), &keeper)?.as_str(),
+        r#"{"colour":"red","size":2}"#
+    );
     Ok(())
 }

@@ -1,0 +1,291 @@
+//! A replica that keeps the patches themselves, each with its identity: it can follow a decision where patches clash.
+ghost use Rattle.std.specs.Prelude.{◌≡◌, ◌+◌, ◌++◌, ◌∷◌, ◌<◌, ◌↔◌, [], length, map, IsTrue, Ok, IfOk, IfErr, OnOk, OnErr, MatchOption, MatchResult};
+ghost use Rattle.std.specs.List.{Contains};
+ghost use Rattle.mp_tree.specs.View.{document};
+ghost use Rattle.mp_merge.specs.Outcome.{IsOutcome};
+ghost use Rattle.library_example.specs.Keeper.{AreUnclashed, Begins, ClashesWithNone, HasCome, HaveCome, IsDecideFault, Shows, TellsClash, epoch_of, held_in, held_of, start_of};
+ghost use Rattle.library_example.specs.Private.Keeping.{ArePicked, AreToldBefore, IsEndFault};
+ghost use Rattle.library_example.specs.declared.keeping.Identity.{Identity};
+
+use crate::fault::DecideFault;
+use mp_merge::{ListFault, compatible, replay};
+use mp_tree::Doc;
+use std::alloc::{AllocError, Global};
+
+/// Who made a patch, and the sender's number for it.
+#[derive(Clone, Copy, Debug, PartialEq, Eq)]
+pub struct Identity {
+    pub sender: u64,
+    pub number: u64,
+}
+
+/// A patch with its identity, and the number of the start that it was made for.
+#[derive(Drop)]
+pub struct Letter {
+    pub epoch: u64,
+    pub identity: Identity,
+    pub patch: Doc,
+}
+
+/// A patch that has come, with its identity.
+#[derive(Drop)]
+pub struct KeptPatch {
+    identity: Identity,
+    patch: Doc,
+}
+
+/// A start and its number, and the patches that came for it, each identity once.
+#[derive(Drop)]
+pub struct Keeper {
+    epoch: u64,
+    start: Doc,
+    kept: Vec<KeptPatch>,
+}
+
+/// What becomes of a letter.
+#[derive(Clone, Copy, Debug, PartialEq, Eq)]
+pub enum Arrival {
+    /// Its patch is kept.
+    Kept,
+    /// A patch with its identity has come before: nothing changes.
+    Repeat,
+    /// It is of an earlier start, and is dropped.
+    Late,
+    /// It is of a later start, and waits for it.
+    Early,
+}
+
+impl Keeper {
+    /// A replica that begins with this start, and to which nothing has come.
+    pub fn new(alloc: Global, epoch: u64, start: Doc) -> Keeper
+        ensures start { start_of result ≡ document start }
+        ensures epoch { epoch_of result ≡ epoch }
+        ensures held { held_of result ≡ [] }
+    {
+        Keeper {
+            epoch,
+            start,
+            kept: Vec::new(alloc),
+        }
+    }
+
+    /// The number of its start: a decision is of one start, so it is handed on to `decide` while this is its number.
+    pub fn epoch(&self) -> u64
+        ensures { result ≡ epoch_of self.now }
+    {
+        self.epoch
+    }
+
+    /// Keeps a patch of this start, once, whether it clashes with others or not.
+    pub fn receive(&mut self, alloc: Global, letter: &Letter) -> Result<Arrival, AllocError>
+        ensures kept { letter.now.epoch ≡ epoch_of self.old
+            → ¬ HasCome (held_of self.old) letter.now.identity → IfOk result (λ what.
+            (what ≡ Arrival.Kept) × (held_of self.new ≡ held_of self.old
+            ++ (letter.now.identity, document letter.now.patch) ∷ [])) }
+        ensures repeat { letter.now.epoch ≡ epoch_of self.old
+            → HasCome (held_of self.old) letter.now.identity
+            → (result ≡ Ok Arrival.Repeat) × (self.new ≡ self.old) }
+        ensures start { start_of self.new ≡ start_of self.old }
+        ensures epoch { epoch_of self.new ≡ epoch_of self.old }
+        ensures late { letter.now.epoch < epoch_of self.old
+            → (result ≡ Ok Arrival.Late) × (self.new ≡ self.old) }
+        ensures early { epoch_of self.old < letter.now.epoch
+            → (result ≡ Ok Arrival.Early) × (self.new ≡ self.old) }
+        ensures unchanged { OnErr result (held_of self.new ≡ held_of self.old) }
+    {
+        if letter.epoch < self.epoch {
+            return Ok(Arrival::Late);
+        }
+        if letter.epoch > self.epoch {
+            return Ok(Arrival::Early);
+        }
+        if has_come(letter.identity, self.kept.as_slice()) {
+            return Ok(Arrival::Repeat);
+        }
+        let patch = letter.patch.copy(alloc)?;
+        self.kept.push(KeptPatch {
+            identity: letter.identity,
+            patch,
+        })?;
+        Ok(Arrival::Kept)
+    }
+
+    /// Each two patches that clash, by their identities, the one that came first before the other: what the decider is
+    /// told.
+    pub fn clashing(&self, alloc: Global) -> Result<Vec<(Identity, Identity)>, AllocError>
+        ensures { IfOk result (λ pairs. (pair : Identity × Identity)
+            → Contains pairs.items pair ↔ TellsClash (held_of self.now) pair) }
+    {
+        let kept = self.kept.as_slice();
+        let mut pairs = Vec::new(alloc);
+        for second in 0..kept.len() {
+            push_clashes_before(kept, second, &mut pairs)?;
+        }
+        Ok(pairs)
+    }
+
+    /// The document that the replica shows: the outcome of its start and those patches that clash with no other.
+    pub fn current_doc(&self, alloc: Global) -> Result<Doc, AllocError>
+        ensures { IfOk result (λ shown. Shows self.now (document shown)) }
+    {
+        mp_merge::laws::told_pair();
+        let patches = unclashed(alloc, self.kept.as_slice())?;
+        match replay(alloc, &self.start, patches.as_slice()) {
+            Ok(shown) => Ok(shown),
+            Err(ListFault::NoPatches) => unreachable!(),
+            Err(ListFault::ConflictOf { .. }) => unreachable!(),
+            Err(ListFault::OutOfMemory) => Err(AllocError),
+        }
+    }
+
+    /// Begins the new start, with which the old one ends by these patches; all others are forgotten, and one that is
+    /// still wanted is made anew by its sender.
+    pub fn decide(&mut self, alloc: Global, chosen: &[Identity]) -> Result<(), DecideFault>
+        ensures begins { OnOk result (Begins self.old chosen.now self.new) }
+        ensures refused { IfErr result (λ fault. IsDecideFault fault self.old chosen.now) }
+        ensures unchanged { OnErr result (self.new ≡ self.old) }
+    {
+        let Some(epoch) = self.epoch.checked_add(1) else {
+            return Err(DecideFault::LastEpoch);
+        };
+        if let Some(identity) = first_missing(chosen, self.kept.as_slice()) {
+            return Err(DecideFault::NotCome(identity));
+        }
+        let (identities, patches) = picked(alloc, chosen, self.kept.as_slice())?;
+        let start = ended(
+            alloc,
+            &self.start,
+            identities.as_slice(),
+            patches.as_slice(),
+        )?;
+        *self = Keeper::new(alloc, epoch, start);
+        Ok(())
+    }
+}
+
+fn has_come(identity: Identity, kept: &[KeptPatch]) -> bool
+    ensures { IsTrue result ↔ HasCome (held_in kept.now) identity }
+{
+    for other in kept {
+        if other.identity == identity {
+            return true;
+        }
+    }
+    false
+}
+
+fn is_among(identity: Identity, chosen: &[Identity]) -> bool
+    ensures { IsTrue result ↔ Contains chosen.now identity }
+{
+    for other in chosen {
+        if *other == identity {
+            return true;
+        }
+    }
+    false
+}
+
+fn first_missing(chosen: &[Identity], kept: &[KeptPatch]) -> Option<Identity>
+    ensures { MatchOption result (HaveCome (held_in kept.now) chosen.now)
+        (λ i. Contains chosen.now i × ¬ HasCome (held_in kept.now) i) }
+{
+    for identity in chosen {
+        if !has_come(*identity, kept) {
+            return Some(*identity);
+        }
+    }
+    None
+}
+
+fn clashes_with_none(patch: &Doc, kept: &[KeptPatch]) -> bool
+    ensures { IsTrue result ↔ ClashesWithNone (held_in kept.now) (document patch.now) }
+{
+    for other in kept {
+        if !compatible(patch, &other.patch) {
+            return false;
+        }
+    }
+    true
+}
+
+fn unclashed(alloc: Global, kept: &[KeptPatch]) -> Result<Vec<Doc>, AllocError>
+    ensures { IfOk result (λ patches.
+        AreUnclashed (held_in kept.now) (map document patches.items)) }
+{
+    let mut patches = Vec::new(alloc);
+    for one in kept {
+        if clashes_with_none(&one.patch, kept) {
+            patches.push(one.patch.copy(alloc)?)?;
+        }
+    }
+    Ok(patches)
+}
+
+// Adds the pairs of the patch with this number and of one before it.
+fn push_clashes_before(
+    kept: &[KeptPatch],
+    second: usize,
+    pairs: &mut Vec<(Identity, Identity)>,
+) -> Result<(), AllocError>
+    requires within { second < length kept.now }
+    requires told { AreToldBefore (held_in kept.now) 0 second pairs.old.items }
+    ensures { OnOk result (AreToldBefore (held_in kept.now) 0 (second + 1) pairs.new.items) }
+{
+    let other = &kept[second];
+    for first in 0..second {
+        let one = &kept[first];
+        if !compatible(&one.patch, &other.patch) {
+            pairs.push((one.identity, other.identity))?;
+        }
+    }
+    Ok(())
+}
+
+// The patches that were chosen, and beside each its identity.
+fn picked(
+    alloc: Global,
+    chosen: &[Identity],
+    kept: &[KeptPatch],
+) -> Result<(Vec<Identity>, Vec<Doc>), AllocError>
+    ensures { IfOk result (λ both.
+        ArePicked (held_in kept.now) chosen.now both.0.items (map document both.1.items)) }
+{
+    let mut identities = Vec::new(alloc);
+    let mut patches = Vec::new(alloc);
+    for one in kept {
+        if is_among(one.identity, chosen) {
+            patches.push(one.patch.copy(alloc)?)?;
+            identities.push(one.identity)?;
+        }
+    }
+    Ok((identities, patches))
+}
+
+fn ended(
+    alloc: Global,
+    start: &Doc,
+    identities: &[Identity],
+    patches: &[Doc],
+) -> Result<Doc, DecideFault>
+    requires { length identities.now ≡ length patches.now }
+    ensures { MatchResult result
+        (λ e. IsOutcome (document start.now) (map document patches.now) (document e))
+        (λ fault. IsEndFault fault identities.now (map document patches.now)) }
+{
+    match replay(alloc, start, patches) {
+        Ok(end) => Ok(end),
+        Err(
+            ListFault::ConflictOf {
+                first,
+                second,
+                places,
+            },
+        ) => Err(DecideFault::Conflict {
+            first: identities[first],
+            second: identities[second],
+            places,
+        }),
+        Err(ListFault::NoPatches) => unreachable!(),
+        Err(ListFault::OutOfMemory) => Err(DecideFault::OutOfMemory),
+    }
+}
