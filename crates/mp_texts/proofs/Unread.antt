@@ -1,0 +1,72 @@
+-- Texts that are read one by one, up to the first that is no document.
+use Rattle.std.proofs.Common.{◌≡◌, ◌<◌, ◌≤◌, ◌+◌, ℕ, zero, suc, List, [], ◌∷◌, ◌++◌, Bor, length, map, take, get_or, slice_get, slice_index_or, Some, Result, Ok, Err, IsErrAnd, MatchResult, refl, sym, ap, ◌∙◌, subst, arith}
+use Rattle.std.proofs.lemmas.List.{length-map, map-append, take_all, take_more}
+use Rattle.std.proofs.lemmas.List.Elements.{All-append, All-cons, All-nil}
+use Rattle.std.specs.List.{All}
+use Rattle.mp_tree.specs.Document.{Document, depth, depth_limit}
+use Rattle.mp_tree.specs.Text.{document_in}
+use Rattle.mp_tree.specs.View.{document}
+use Rattle.mp_tree.specs.declared.doc.Doc.{Doc}
+use Rattle.mp_merge.specs.Lists.{AreWithin}
+use Rattle.mp_texts.specs.Private.Unread.{IsPatchFault, IsPatchesFault}
+use Rattle.mp_texts.specs.Texts.{AreRead, given}
+use Rattle.mp_texts.specs.declared.fault.TextsFault.{TextsFault}
+use Rattle.mp_texts.specs.declared.fault.TextsFault.TheVariants.{Document as NoDocument, Patch, List as OfList, Form, Refused, Pointer, Missing, OutOfMemory}
+use Rattle.mp_texts.proofs.Readings.{AreRead-append, AreRead-cons}
+
+-- ---- the text of a number
+
+pub given_at : (ps : List (Bor (List ℕ))) (k : ℕ) (d : Bor (List ℕ)) → k < length ps → slice_get (given ps) k ≡ Some (slice_index_or ps k d).now
+given_at [] k d below = absurd (omega arith)
+given_at (p ∷ ps) zero d below = refl
+given_at (p ∷ ps) (suc k) d below = given_at ps k d (omega arith)
+
+element_at : (ps : List (Bor (List ℕ))) (k : ℕ) (d : Bor (List ℕ)) → k < length ps → get_or (given ps) k d.now ≡ (slice_index_or ps k d).now
+element_at [] k d below = absurd (omega arith)
+element_at (p ∷ ps) zero d below = refl
+element_at (p ∷ ps) (suc k) d below = element_at ps k d (omega arith)
+
+-- ---- one more text
+
+pub next_read : (ps : List (Bor (List ℕ))) (k : ℕ) (d : Bor (List ℕ)) → k < length ps → (docs new : List Doc) (x : Doc) → AreRead (take k (given ps)) (map document docs)
+    → new ≡ docs ++ x ∷ [] → document_in (slice_index_or ps k d).now ≡ Ok (document x) → AreRead (take (k + 1) (given ps)) (map document new)
+next_read ps k d below docs new x read pushed here =
+    let text = (slice_index_or ps k d).now in
+    let one : AreRead (text ∷ []) (document x ∷ []) = AreRead-cons text [] (document x) [] here refl in
+    let grown : take (k + 1) (given ps) ≡ take k (given ps) ++ text ∷ [] =
+    take_more (given ps) k d.now (omega (arith, below, length-map ps (λ (t : Bor (List ℕ)). t.now))) ∙ ap (λ (t : List ℕ). take k (given ps) ++ t ∷ []) (element_at ps k d below) in
+    let moved : map document new ≡ map document docs ++ document x ∷ [] = ap (map document) pushed ∙ map-append document docs (x ∷ []) in
+    subst (λ (ts : List (List ℕ)). AreRead ts (map document new)) (sym grown)
+    (subst (λ (ds : List Document). AreRead (take k (given ps) ++ text ∷ []) ds) (sym moved) (AreRead-append (take k (given ps)) (text ∷ []) (map document docs) (document x ∷ []) read one))
+
+pub next_within : (docs new : List Doc) (x : Doc) → AreWithin depth_limit (map document docs) → new ≡ docs ++ x ∷ [] → depth (document x) ≤ depth_limit → AreWithin depth_limit (map document new)
+next_within docs new x within pushed here =
+    let P = λ (p : Document). depth p ≤ depth_limit in
+    subst (λ (ds : List Document). All P ds) (sym (ap (map document) pushed ∙ map-append document docs (x ∷ [])))
+    (All-append P (map document docs) (document x ∷ []) within (All-cons P (document x) [] here (All-nil P)))
+
+pub all_read : (ps : List (Bor (List ℕ))) (k : ℕ) (ds : List Document) → length ps ≤ k → AreRead (take k (given ps)) ds → AreRead (given ps) ds
+all_read ps k ds over read = subst (λ (ts : List (List ℕ)). AreRead ts ds) (take_all k (given ps) (omega (arith, over, length-map ps (λ (t : Bor (List ℕ)). t.now)))) read
+
+-- ---- the first that is none
+
+pub unread_at : (ts : List (List ℕ)) (k : ℕ) (ds : List Document) → AreRead (take k ts) ds → (t : List ℕ) → slice_get ts k ≡ Some t → (fault : TextsFault) → IsPatchFault fault t k → IsPatchesFault fault ts
+unread_at ts k ds read t at (Patch number fault) (same, unread) = record {
+  before = ds;
+  read = subst (λ (n : ℕ). AreRead (take n ts) ds) (sym same) read;
+  text = t;
+  is = subst (λ (n : ℕ). slice_get ts n ≡ Some t) (sym same) at;
+  unread = unread;
+}
+unread_at ts k ds read t at OutOfMemory is = tt
+unread_at ts k ds read t at (NoDocument fault) is = absurd is
+unread_at ts k ds read t at (OfList fault) is = absurd is
+unread_at ts k ds read t at (Form fault) is = absurd is
+unread_at ts k ds read t at (Refused fault) is = absurd is
+unread_at ts k ds read t at (Pointer fault) is = absurd is
+unread_at ts k ds read t at Missing is = absurd is
+
+-- what a `?` hands on
+pub handed_on : {A : Type 0} {told : TextsFault} (P : A → Type 0) (Q : TextsFault → Type 0) (r : Result A TextsFault) → IsErrAnd r (λ fault. fault ≡ told) → Q told → MatchResult r P Q
+handed_on P Q (Ok done) exit is = absurd exit
+handed_on P Q (Err fault) exit is = subst Q (sym exit) is

@@ -1,0 +1,26 @@
+use Rattle.std.proofs.Common.{string_bytes}
+use Rattle.mp_tree.specs.View.{document}
+use Rattle.mp_patch.specs.Form.{shapes}
+use Rattle.mp_patch.specs.View.{operations_of}
+use Rattle.mp_texts.proofs.Readings.{document_in-read}
+use Rattle.mp_texts.proofs.documents.rewrite_text.Goals as goal
+
+-- its operations can be written, since the document and the patch can be read
+pub returns : goal.returns
+returns c =
+    let d = document c.in_ok-doc.doc in
+    let p = document c.in_ok-patch.patch in
+    let operations = operations_of c.in_ok-edits.edits in
+    let written = c.in_ok-write_patch in
+    let readable = c.readings_are_documents.ensures.document in
+    let writable = c.rewritings_are_writable.ensures.writable d p operations (readable c.args.document.now d c.in_ok-doc.ensures.read) (readable c.args.patch.now p c.in_ok-patch.ensures.read) c.in_ok-edits.ensures.rewriting in
+    record {
+      from = d;
+      document_read = c.in_ok-doc.ensures.read;
+      change = p;
+      patch_read = c.in_ok-patch.ensures.read;
+      operations = operations;
+      is_rewriting = c.in_ok-edits.ensures.rewriting;
+      is = written.ensures.text;
+      read_back = λ within. document_in-read (string_bytes written.field-0) (shapes operations) (written.ensures.reads_back within) (c.shapes_are_readable.ensures operations writable within).within;
+    }

@@ -1,0 +1,75 @@
+-- Laws over texts. Each is the contract of a function of the module `laws` that runs nothing.
+use Rattle.std.specs.Prelude.{◌≡◌, ◌≢◌, ◌≤◌, ◌+◌, ◌↔◌, ℕ, List, [], ◌∷◌, ◌++◌}
+use Rattle.std.specs.List.{Contains}
+use Rattle.mp_tree.specs.Document.{depth_limit}
+use Rattle.mp_tree.specs.Text.{document_in}
+use Rattle.mp_patch.specs.Form.{deepest}
+use Rattle.mp_texts.specs.Answers.{IsJoinText, IsMergeText, IsPatchText, IsReplayText, IsRewriteText}
+use Rattle.mp_texts.specs.Reduces.{Parts, JoinsThrough, texts_in}
+use Rattle.mp_texts.specs.Texts.{AreCompatible, ReadTheSame}
+
+-- ---- one join
+
+-- lists whose texts read as the same documents have one join text
+abbrev pub OneJoinText : Type 0
+OneJoinText = (texts others : List (List ℕ)) (answer other : List ℕ) → ReadTheSame texts others
+    → IsJoinText texts answer → IsJoinText others other → answer ≡ other
+
+-- and that of the one is that of the other, so one list has one exactly if the other has
+abbrev pub JoinTextsAreShared : Type 0
+JoinTextsAreShared = (texts others : List (List ℕ)) (answer : List ℕ) → ReadTheSame texts others
+    → IsJoinText texts answer ↔ IsJoinText others answer
+
+-- ---- joins of joins
+
+-- the join text of two join texts is that of all
+abbrev pub JoinOfTwoJoins : Type 0
+JoinOfTwoJoins = (texts others : List (List ℕ)) (one other answer : List ℕ)
+    → IsJoinText texts one → IsJoinText others other
+    → IsJoinText (one ∷ other ∷ []) answer ↔ IsJoinText (texts ++ others) answer
+
+abbrev pub HasJoinText : List (List ℕ) → Type 0
+HasJoinText texts = (answer : List ℕ) × IsJoinText texts answer
+
+-- where all have one, some of them have one, if they are not none
+abbrev pub EachPartHasAJoin : Type 0
+EachPartHasAJoin = (texts some : List (List ℕ)) → HasJoinText texts
+    → ((text : List ℕ) → Contains some text → Contains texts text) → some ≢ [] → HasJoinText some
+
+-- ---- reduces
+
+-- trees whose texts read as the same documents, in any order and with any repeats, are joined through to one text
+abbrev pub ReducesAgree : Type 0
+ReducesAgree = (parts others : Parts) (answer other : List ℕ) → ReadTheSame (texts_in parts) (texts_in others)
+    → JoinsThrough parts answer → JoinsThrough others other → answer ≡ other
+
+-- and that is the join text of all
+abbrev pub ReducesGiveTheJoin : Type 0
+ReducesGiveTheJoin = (texts : List (List ℕ)) (parts : Parts) (answer : List ℕ) → ReadTheSame texts (texts_in parts)
+    → JoinsThrough parts answer → IsJoinText texts answer
+
+-- each tree is joined through exactly if the texts are pairwise compatible
+abbrev pub ReducesExist : Type 0
+ReducesExist = (texts : List (List ℕ)) (parts : Parts) → ReadTheSame texts (texts_in parts)
+    → ((answer : List ℕ) × JoinsThrough parts answer) ↔ AreCompatible texts
+
+-- ---- replays
+
+-- replays of one start and of patches that read as the same documents are one text
+abbrev pub OneReplayText : Type 0
+OneReplayText = (start other_start : List ℕ) (texts others : List (List ℕ)) (answer other : List ℕ)
+    → document_in start ≡ document_in other_start → ReadTheSame texts others
+    → IsReplayText start texts answer → IsReplayText other_start others other → answer ≡ other
+
+-- it is the merge of the start and the patches' join text, and nothing else is
+abbrev pub ReplayIsMerge : Type 0
+ReplayIsMerge = (start : List ℕ) (texts : List (List ℕ)) (answer joined merged : List ℕ)
+    → IsReplayText start texts answer → IsJoinText texts joined
+    → IsMergeText start (joined ∷ []) merged ↔ (merged ≡ answer)
+
+-- and the result of the join text's rewriting, where its values leave room for the two levels around them
+abbrev pub ReplayIsPatch : Type 0
+ReplayIsPatch = (start : List ℕ) (texts : List (List ℕ)) (answer joined edits patched : List ℕ)
+    → IsReplayText start texts answer → IsJoinText texts joined
+    → (rewritten : IsRewriteText start joined edits) → 2 + deepest rewritten.operations ≤ depth_limit
+    → IsPatchText start edits patched ↔ (patched ≡ answer)

@@ -1,0 +1,111 @@
+//! Why a call over texts gives no text.
+ghost use Rattle.std.specs.Prelude.{◌≡◌};
+
+use mp_merge::ListFault;
+use mp_patch::{ApplyFault, FormFault};
+use mp_pointer::PointerFault;
+use mp_tree::ReadFault;
+use std::alloc::{AllocError, AllocFailed};
+use thiserror::Error;
+
+/// Why there is no text. Where several hold, the first in the order of the call that answers it is told: each call says
+/// which it looks for, and in which order.
+#[derive(Debug, Drop, Error)]
+pub enum TextsFault {
+    /// The text of the document, or of the start, is no document.
+    #[error("document: {0}")]
+    Document(ReadFault),
+    /// The text with the least number that is no document, of those given as patches, counted from 0.
+    #[error("patch {number}: {fault}")]
+    Patch { number: usize, fault: ReadFault },
+    /// The patches are none, or two of them clash.
+    #[error("{0}")]
+    List(ListFault),
+    /// The patch is a document, and no JSON Patch.
+    #[error("{0}")]
+    Form(FormFault),
+    /// An operation of the JSON Patch is refused.
+    #[error("{0}")]
+    Refused(ApplyFault),
+    /// The text of the pointer spells none.
+    #[error("{0}")]
+    Pointer(PointerFault),
+    /// The document has no part there.
+    #[error("missing")]
+    Missing,
+    /// Memory ran out.
+    #[error("out of memory")]
+    OutOfMemory,
+}
+
+impl From<ListFault> for TextsFault {
+    ghost use Rattle.mp_texts.specs.Faults.{told_of_list};
+
+    ghost from_gives = { λ cause fault. fault ≡ told_of_list cause };
+
+    fn from(cause: ListFault) -> TextsFault {
+        match cause {
+            ListFault::OutOfMemory => TextsFault::OutOfMemory,
+            refusal => TextsFault::List(refusal),
+        }
+    }
+}
+
+impl From<FormFault> for TextsFault {
+    ghost use Rattle.mp_texts.specs.Faults.{told_of_form};
+
+    ghost from_gives = { λ cause fault. fault ≡ told_of_form cause };
+
+    fn from(cause: FormFault) -> TextsFault {
+        match cause {
+            FormFault::OutOfMemory => TextsFault::OutOfMemory,
+            refusal => TextsFault::Form(refusal),
+        }
+    }
+}
+
+impl From<ApplyFault> for TextsFault {
+    ghost use Rattle.mp_texts.specs.Faults.{told_of_run};
+
+    ghost from_gives = { λ cause fault. fault ≡ told_of_run cause };
+
+    fn from(cause: ApplyFault) -> TextsFault {
+        match cause {
+            ApplyFault::OutOfMemory => TextsFault::OutOfMemory,
+            refusal => TextsFault::Refused(refusal),
+        }
+    }
+}
+
+impl From<PointerFault> for TextsFault {
+    ghost use Rattle.mp_texts.specs.Faults.{told_of_pointer};
+
+    ghost from_gives = { λ cause fault. fault ≡ told_of_pointer cause };
+
+    fn from(cause: PointerFault) -> TextsFault {
+        match cause {
+            PointerFault::OutOfMemory => TextsFault::OutOfMemory,
+            refusal => TextsFault::Pointer(refusal),
+        }
+    }
+}
+
+impl From<AllocError> for TextsFault {
+    ghost use Rattle.mp_texts.specs.declared.fault.TextsFault.TheVariants.{OutOfMemory};
+
+    ghost from_gives = { λ _ fault. fault ≡ OutOfMemory };
+
+    fn from(_refused: AllocError) -> TextsFault {
+        TextsFault::OutOfMemory
+    }
+}
+
+impl<T: Drop> From<AllocFailed<T>> for TextsFault {
+    ghost use Rattle.mp_texts.specs.declared.fault.TextsFault.TheVariants.{OutOfMemory};
+
+    ghost from_gives = { λ _ fault. fault ≡ OutOfMemory };
+
+    fn from(_refused: AllocFailed<T>) -> TextsFault {
+        TextsFault::OutOfMemory
+    }
+}

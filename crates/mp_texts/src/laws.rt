@@ -1,0 +1,73 @@
+//! Laws over texts alone: each function runs nothing, and its contract is the law.
+ghost use Rattle.mp_texts.specs.Laws.{EachPartHasAJoin, JoinOfTwoJoins, JoinTextsAreShared, OneJoinText, OneReplayText, ReducesAgree, ReducesExist, ReducesGiveTheJoin, ReplayIsMerge, ReplayIsPatch};
+ghost use Rattle.mp_texts.specs.Private.LawsBelow.{JoinLaws, ReplayLaws};
+
+use mp_merge::laws as merge;
+use mp_patch::laws as patch;
+use mp_tree::laws as tree;
+
+/// One join: lists whose texts read as the same documents, in any order and with any repeats, have one join text, byte for
+/// byte; and one list has one exactly if the other has.
+pub fn one_join_text()
+    ensures one { OneJoinText }
+    ensures shared { JoinTextsAreShared }
+{
+    join_laws();
+}
+
+/// Joins of joins: the join text of two join texts is that of all the texts; and where all have one, so has each part of
+/// them that is not empty. So texts may be joined in groups, and the joins in the groups' places.
+pub fn joins_of_joins()
+    ensures two { JoinOfTwoJoins }
+    ensures parts { EachPartHasAJoin }
+{
+    join_laws();
+}
+
+/// Reduces agree: however texts are shared out, repeated, grouped and joined in a tree, each tree that is joined through
+/// gives the join text of all, the same byte for byte; and each is joined through exactly if no two of the texts clash.
+/// This is what a parallel reduce, a combiner and a stored aggregate ask for.
+pub fn reduces_agree()
+    ensures agree { ReducesAgree }
+    ensures all { ReducesGiveTheJoin }
+    ensures exists { ReducesExist }
+{
+    join_laws();
+}
+
+/// Replays agree: replays of texts of one start and of lists whose texts read as the same documents are one text, byte for
+/// byte. It is what `merge_texts` gives of the start and their join text; and, where no value of the rewriting is more than
+/// 124 deep, what `patch_text` gives of the start and of what `rewrite_text` gives of the start and that join text.
+pub fn replays_agree()
+    ensures one { OneReplayText }
+    ensures merge { ReplayIsMerge }
+    ensures patch { ReplayIsPatch }
+{
+    join_laws();
+    replay_laws();
+}
+
+fn join_laws()
+    ensures { JoinLaws }
+{
+    tree::readings_are_documents();
+    tree::texts_read_back();
+    merge::one_join();
+    merge::empty_has_no_join();
+    merge::join_exists();
+    merge::join_is_readable();
+}
+
+fn replay_laws()
+    ensures { ReplayLaws }
+{
+    merge::replicas_agree();
+    merge::one_outcome();
+    merge::join_gives_outcome();
+    merge::merged_is_readable();
+    merge::rewritings_have_documents();
+    merge::rewriting_runs();
+    patch::one_reading();
+    patch::one_end();
+    patch::shapes_are_forms();
+}

@@ -1,0 +1,88 @@
+//! Texts of merge patches: their join, and what they make of a document.
+ghost use Rattle.std.specs.Prelude.{◌≡◌, map, IfOk, MatchResult, string_bytes};
+ghost use Rattle.mp_tree.specs.View.{document};
+ghost use Rattle.mp_merge.specs.Application.{in_turn};
+ghost use Rattle.mp_texts.specs.Answers.{IsJoinText, IsMergeText, IsReplayText};
+ghost use Rattle.mp_texts.specs.Faults.{IsJoinTextFault, IsMergeTextFault, IsReplayTextFault};
+ghost use Rattle.mp_texts.specs.Texts.{given};
+
+use crate::fault::TextsFault;
+use crate::reading::{read_document, read_patches};
+use mp_merge::{join_all, laws as merging, merge_owned, replay_owned};
+use mp_tree::{Doc, laws as reading, write_doc};
+use std::alloc::{AllocError, Global};
+
+/// The text of the join of merge patches: of one patch with the effect of all, in any order and with any repeats.
+///
+/// It is compact, without a newline, and can be given in the place of the patches' texts: to this call again, or as the one
+/// patch of `replay_texts` and `merge_texts`. There is no limit on the number of texts or on their length.
+///
+/// In this order: `Patch` with the first text that is no document; `List` where the texts are none, or where two patches
+/// clash, as `mp_merge::join_all` tells it. `OutOfMemory` may come at any point.
+///
+/// ```text
+/// join_texts(alloc, &[b"{\"a\":1}", b" {\"b\":null} "])  // {"a":1,"b":null}
+/// join_texts(alloc, &[b"{\"a\":1}", b"1,2"])             // Patch of number 1, which is not JSON
+/// ```
+pub fn join_texts(alloc: Global, patches: &[&[u8]]) -> Result<String, TextsFault>
+    ensures { MatchResult result (λ text. IsJoinText (given patches.now) (string_bytes text))
+        (λ fault. IsJoinTextFault fault (given patches.now)) }
+{
+    let patches = read_patches(alloc, patches)?;
+    let joined = join_all(alloc, patches.as_slice())?;
+    Ok(write_doc(alloc, &joined)?)
+}
+
+/// The text of the document that merge patches, no two of which clash, make of the start's, in whatever order and with
+/// whatever repeats they come. Of no patches it is the start's compact text.
+///
+/// In this order: `Document` where the start's text is none; `Patch` with the first text that is no document; `List` where
+/// two patches clash, as `mp_merge::replay` tells it. `OutOfMemory` may come at any point.
+///
+/// ```text
+/// replay_texts(alloc, b"{\"k\":0}", &[b"{\"a\":1}", b"{\"k\":null}"])  // {"a":1}
+/// ```
+pub fn replay_texts(alloc: Global, start: &[u8], patches: &[&[u8]]) -> Result<String, TextsFault>
+    ensures { MatchResult result
+        (λ text. IsReplayText start.now (given patches.now) (string_bytes text))
+        (λ fault. IsReplayTextFault fault start.now (given patches.now)) }
+{
+    let start = read_document(alloc, start)?;
+    let patches = read_patches(alloc, patches)?;
+    let outcome = replay_owned(alloc, start, patches.as_slice())?;
+    Ok(write_doc(alloc, &outcome)?)
+}
+
+/// The text of the document after the merge patches (RFC 7396 section 2), each applied to what those before it left. That
+/// they are compatible is not checked: where two clash, their order decides. Of no patches it is the document's compact
+/// text.
+///
+/// In this order: `Document` where the document's text is none; `Patch` with the first text that is no document.
+/// `OutOfMemory` may come at any point.
+///
+/// ```text
+/// merge_texts(alloc, b"{\"a\":0}", &[b"{\"a\":1}", b"{\"a\":2}"])  // {"a":2}
+/// ```
+pub fn merge_texts(alloc: Global, document: &[u8], patches: &[&[u8]]) -> Result<String, TextsFault>
+    ensures { MatchResult result
+        (λ text. IsMergeText document.now (given patches.now) (string_bytes text))
+        (λ fault. IsMergeTextFault fault document.now (given patches.now)) }
+{
+    reading::readings_are_documents();
+    merging::merged_is_readable();
+    let doc = read_document(alloc, document)?;
+    let patches = read_patches(alloc, patches)?;
+    let merged = merge_each(doc, patches, alloc)?;
+    Ok(write_doc(alloc, &merged)?)
+}
+
+// Each patch is applied to what those before it left.
+fn merge_each(mut doc: Doc, patches: Vec<Doc>, alloc: Global) -> Result<Doc, AllocError>
+    ensures { IfOk result (λ d.
+        document d ≡ in_turn (document doc) (map document patches.items)) }
+{
+    for patch in patches {
+        doc = merge_owned(alloc, Some(doc), patch)?;
+    }
+    Ok(doc)
+}

@@ -1,0 +1,52 @@
+// Texts read, each as a document.
+ghost use Rattle.std.specs.Prelude.{◌≡◌, ◌≤◌, map, Ok, IfOk, MatchResult};
+ghost use Rattle.mp_tree.specs.Document.{depth, depth_limit};
+ghost use Rattle.mp_tree.specs.Text.{document_in};
+ghost use Rattle.mp_tree.specs.View.{document};
+ghost use Rattle.mp_merge.specs.Lists.{AreWithin};
+ghost use Rattle.mp_texts.specs.Texts.{AreRead, given};
+ghost use Rattle.mp_texts.specs.Private.Unread.{IsDocumentFault, IsPatchFault, IsPatchesFault};
+
+use crate::fault::TextsFault;
+use mp_tree::{Doc, ReadFault, read_doc};
+use std::alloc::Global;
+
+// The text of a document, or of a start.
+pub(crate) fn read_document(alloc: Global, text: &[u8]) -> Result<Doc, TextsFault>
+    ensures read { MatchResult result (λ d. document_in text.now ≡ Ok (document d))
+        (λ fault. IsDocumentFault fault text.now) }
+    ensures depth { IfOk result (λ d. depth (document d) ≤ depth_limit) }
+{
+    match read_doc(alloc, text) {
+        Ok(doc) => Ok(doc),
+        Err(ReadFault::OutOfMemory) => Err(TextsFault::OutOfMemory),
+        Err(fault) => Err(TextsFault::Document(fault)),
+    }
+}
+
+// The text of the patch with that number.
+pub(crate) fn read_patch(alloc: Global, text: &[u8], number: usize) -> Result<Doc, TextsFault>
+    ensures read { MatchResult result (λ d. document_in text.now ≡ Ok (document d))
+        (λ fault. IsPatchFault fault text.now number) }
+    ensures depth { IfOk result (λ d. depth (document d) ≤ depth_limit) }
+{
+    match read_doc(alloc, text) {
+        Ok(doc) => Ok(doc),
+        Err(ReadFault::OutOfMemory) => Err(TextsFault::OutOfMemory),
+        Err(fault) => Err(TextsFault::Patch { number, fault }),
+    }
+}
+
+// All are read before any work is done: a text that is no document is told first.
+pub(crate) fn read_patches(alloc: Global, patches: &[&[u8]]) -> Result<Vec<Doc>, TextsFault>
+    ensures read { MatchResult result
+        (λ docs. AreRead (given patches.now) (map document docs.items))
+        (λ fault. IsPatchesFault fault (given patches.now)) }
+    ensures depth { IfOk result (λ docs. AreWithin depth_limit (map document docs.items)) }
+{
+    let mut docs = Vec::with_capacity(alloc, patches.len())?;
+    for (number, text) in patches.iter().enumerate() {
+        docs.push(read_patch(alloc, text, number)?)?;
+    }
+    Ok(docs)
+}
