@@ -19,3 +19,5 @@ mod rewritings;
 mod running;
 #[cfg(test)]
 mod sizes;
+#[cfg(test)]
+mod texts;
