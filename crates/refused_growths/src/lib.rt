@@ -17,4 +17,6 @@ mod program;
 #[cfg(test)]
 mod seen;
 #[cfg(test)]
+mod texts;
+#[cfg(test)]
 mod without_memory;
