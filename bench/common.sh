@@ -15,11 +15,10 @@ exec </dev/null
 
 say() { printf 'bench: %s\n' "$1" >&2; }
 
-install_package() {
-  say "installing Debian's package $1 .."
-  { apt-get -q update && DEBIAN_FRONTEND=noninteractive \
-    apt-get -q -y --no-install-recommends install "$1"; } >apt.log 2>&1 ||
-    { say "it can't be had here: $work/apt.log"; return 1; }
+# Tells of a package that is wanted and is not here: nothing is installed unasked.
+lacks() {
+  say "this wants Debian's package $1: apt-get install $1"
+  return 1
 }
 
 # The interpreter itself, where the python3 named $1 is a script that finds it.
@@ -44,7 +43,7 @@ count() {
   awk '/ Collected :/ { print $NF }' callgrind.log
 }
 
-command -v valgrind >/dev/null || install_package valgrind
+command -v valgrind >/dev/null || lacks valgrind || exit
 
 # Says it where the output $2 of $1 is not the output $4 of $3: then the mode fails.
 differ=0
@@ -63,7 +62,7 @@ build_rust() {
     say 'no cargo here: without the peer in Rust'
     return 1
   fi
-  compgen -G "$registry/serde_json-*" >/dev/null || install_package librust-serde-json-dev || return
+  compgen -G "$registry/serde_json-*" >/dev/null || lacks librust-serde-json-dev || return
   if ! (cd rust && cargo build --release --offline --target-dir target) >cargo.log 2>&1; then
     say "the peer in Rust can't be built: $work/cargo.log"
     return 1
@@ -74,18 +73,16 @@ build_rust() {
   serde_json=${serde_json/-/ }
 }
 
-# Finds a Python that has jsonpatch, $python: the one on the PATH, or Debian's own, which
-# its package serves.
+# Finds a Python that has jsonpatch, $python: the one on the PATH, or Debian's own.
 has_jsonpatch() { "$1" -c 'import jsonpatch' 2>/dev/null; }
 find_jsonpatch() {
   # shellcheck disable=SC2034 # for the modes
   if has_jsonpatch python3; then
     python=python3
-  elif has_jsonpatch /usr/bin/python3 || { install_package python3-jsonpatch && has_jsonpatch /usr/bin/python3; }; then
+  elif has_jsonpatch /usr/bin/python3; then
     python=/usr/bin/python3
   else
-    say 'no jsonpatch here: without the peer in Python'
-    return 1
+    lacks python3-jsonpatch
   fi
 }
 

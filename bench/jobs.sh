@@ -10,7 +10,7 @@ set -euo pipefail
 . "$(dirname -- "$(readlink -f -- "${BASH_SOURCE[0]}")")/common.sh"
 
 build_rust || exit
-command -v /usr/bin/time >/dev/null || install_package time
+command -v /usr/bin/time >/dev/null || lacks time || exit
 
 # Prints the memory of such a run as of watched, in KiB. A process has its parent's for
 # a moment when it starts, so the parent is GNU's time, which is small, and not Python.

@@ -14,7 +14,7 @@ cpp= # its place among the programs
 header=/usr/include/nlohmann/json.hpp
 if ! compiler=$(command -v g++ || command -v clang++); then
   say 'no compiler of C++ here: without the peer in C++'
-elif [[ -e $header ]] || install_package nlohmann-json3-dev; then
+elif [[ -e $header ]] || lacks nlohmann-json3-dev; then
   if "$compiler" -std=c++17 -O3 -DNDEBUG -o patch patch.cpp >cpp.log 2>&1; then
     cpp=${#titles[@]}
     add "C++, $(./patch --version)" ./patch

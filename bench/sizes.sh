@@ -10,7 +10,7 @@ set -euo pipefail
 . "$(dirname -- "$(readlink -f -- "${BASH_SOURCE[0]}")")/common.sh"
 
 build_rust || exit
-command -v jq >/dev/null || install_package jq
+command -v jq >/dev/null || lacks jq || exit
 find_jsonpatch || exit
 
 # The part that is got.
