@@ -4,10 +4,10 @@
     bench/job_inputs.py SHAPE SIZE
 
 The size is in bytes, nearly, for a document and a merge patch of texts, of small
-objects (points), of lists of numbers (rows), 100 levels deep (deep), of objects of one
+objects (points), of arrays of numbers (rows), 100 levels deep (deep), of objects of one
 name in one another (chains), or where the patch touches every name (touched), for two
 patches that clash at every name (clashes), and for one document alone: a mixed one
-(document), small objects (small), and a list of true, null, [] and {} (empties); and for
+(document), small objects (small), and an array of true, null, [] and {} (empties); and for
 a document of half of them with a JSON Patch (edits). It is
 the number of operations of a JSON Patch: on a document of 300 kB (patch), of moves of
 members (moves) and of one large value to and fro (large), and of copies of arrays (arrays)

@@ -56,7 +56,7 @@ job() {
 sizes=(10000 100000 1000000)
 for size in "${sizes[@]}"; do job 'merge, flat texts' texts "$size" merge; done
 for size in "${sizes[@]}"; do job 'merge, small objects' points "$size" merge; done
-for size in "${sizes[@]}"; do job 'merge, lists of numbers' rows "$size" merge; done
+for size in "${sizes[@]}"; do job 'merge, arrays of numbers' rows "$size" merge; done
 job 'merge, 100 deep' deep 300000 merge
 job 'merge, chains of one name' chains 300000 merge
 for count in 10 500 5000; do job "patch, $count operations" patch "$count" patch; done

@@ -82,7 +82,7 @@ def moved_point(numbers):
 
 
 def row(numbers):
-    """A list of numbers, 16 at most."""
+    """An array of numbers, 16 at most."""
     return [numbers.below(10**6) for _ in range(numbers.below(17))]
 
 
