@@ -1,19 +1,17 @@
 #!/usr/bin/env python3
 """Prints the input of `merge` for the benchmark: an array of a document and a patch.
 
-    bench/inputs.py NAMES [mixed|nested|flat|small]
+    bench/inputs.py NAMES
 
 The document and the patch have NAMES names each, those of all levels counted: one
 half in `accounts`, objects of two levels, the other in `settings`, one large flat
-object; or all of them in the one (nested) or the other (flat). The shape small has
-NAMES objects of three small values in place of these. The patch changes, removes
-and adds, and its names come in no order. The same arguments always give the same
-bytes.
+object. The patch changes, removes and adds, and its names come in no order. The same
+arguments always give the same bytes.
 """
 
 import sys
 
-from values import Numbers, account, members_of, moved_point, point, printed, setting
+from values import Numbers, account, members_of, printed, setting
 
 
 def names_in(value):
@@ -55,25 +53,15 @@ def settings_of(numbers, names):
     return members_of(numbers, names, "setting-", setting)
 
 
-def points_of(numbers, names):
-    return members_of(numbers, names, "p", point, moved_point)
-
-
-def merge_input(names, shape):
+def merge_input(names):
     """A document and a patch of it."""
-    parts = {
-        "mixed": [("settings", settings_of, names // 2), ("accounts", accounts_of, names // 2)],
-        "nested": [("accounts", accounts_of, names)],
-        "flat": [("settings", settings_of, names)],
-        "small": [("points", points_of, names)],
-    }
     numbers = Numbers()
     document, patch = {}, {}
-    for part, make, share in parts[shape]:
-        document[part], changed = make(numbers, share)
+    for part, make in (("settings", settings_of), ("accounts", accounts_of)):
+        document[part], changed = make(numbers, names // 2)
         patch[part] = numbers.disordered(changed)
     return [document, patch]
 
 
 if __name__ == "__main__":
-    print(printed(merge_input(int(sys.argv[1]), sys.argv[2] if len(sys.argv) > 2 else "mixed")))
+    print(printed(merge_input(int(sys.argv[1]))))

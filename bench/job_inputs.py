@@ -119,7 +119,7 @@ SHAPES = {
     "rows": lambda size: sized(lambda names: pair(names, row), size),
     "deep": lambda size: sized(deep, size),
     "touched": lambda size: sized(lambda names: pair(names, setting, touched=100), size),
-    "document": lambda size: sized(lambda names: merge_input(names, "mixed")[:1], size),
+    "document": lambda size: sized(lambda names: merge_input(names)[:1], size),
     "patch": lambda count: patch_input(count, 300_000),
     "edits": lambda size: patch_input(size // 200, size // 2),
     "join": lambda count: lists(count).patches(count),

@@ -1,10 +1,7 @@
 #!/usr/bin/env bash
-# bench/run mixed|nested|flat|small: counts the instructions of `merge` on inputs of
-# that shape and of three sizes (bench/inputs.py), beside the same in Rust with
-# serde_json, in jq and in Python.
+# bench/run merge: counts the instructions of `merge` on inputs of three sizes
+# (bench/inputs.py), beside the same in Rust with serde_json, in jq and in Python.
 set -euo pipefail
-
-shape=$1
 
 # shellcheck source=bench/common.sh
 . "$(dirname -- "$(readlink -f -- "${BASH_SOURCE[0]}")")/common.sh"
@@ -26,10 +23,10 @@ if python=$(interpreter python3); then
 fi
 
 for names in 100 1000 10000; do
-  python3 inputs.py "$names" "$shape" >"$names.json"
+  python3 inputs.py "$names" >"$names.json"
   measure "$names"
 done
 
-print_head "Millions of instructions by callgrind, on $shape inputs; in brackets, how many times those of Rust."
+print_head 'Millions of instructions by callgrind; in brackets, how many times those of Rust.'
 print_table "$place"
 exit "$differ"

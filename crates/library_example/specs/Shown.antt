@@ -3,8 +3,8 @@ use Rattle.std.specs.Prelude.{◌≡◌, ◌≢◌, ℕ, List, Ok, Err, ⊤}
 use Rattle.mp_tree.specs.Document.{Document}
 use Rattle.mp_tree.specs.Text.{document_in, documents_in, text as compact}
 use Rattle.mp_tree.specs.Elements.{items_of}
-use Rattle.mp_tree.specs.declared.reading.DocsFault.TheVariants as docs
-use Rattle.mp_tree.specs.declared.reading.ReadFault.TheVariants as read
+use Rattle.mp_tree.specs.declared.fault.DocsFault.TheVariants as docs
+use Rattle.mp_tree.specs.declared.fault.ReadFault.TheVariants as read
 use Rattle.mp_merge.specs.Lists.{IsReplayFault}
 use Rattle.mp_merge.specs.Outcome.{IsOutcome}
 use Rattle.library_example.specs.declared.fault.ShowFault.{ShowFault}

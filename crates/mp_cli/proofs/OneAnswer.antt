@@ -7,7 +7,7 @@ use Rattle.mp_tree.specs.Elements.{list_of}
 use Rattle.mp_tree.specs.Laws.{ReadsReadables}
 use Rattle.mp_tree.specs.Look.{Path}
 use Rattle.mp_tree.specs.Text.{documents_in}
-use Rattle.mp_tree.specs.declared.reading.DocsFault.{DocsFault}
+use Rattle.mp_tree.specs.declared.fault.DocsFault.{DocsFault}
 use Rattle.mp_pointer.specs.Part.{part}
 use Rattle.mp_pointer.specs.Spelling.{IsFaultOf}
 use Rattle.mp_pointer.specs.declared.fault.PointerFault.{PointerFault}

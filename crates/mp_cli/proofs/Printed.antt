@@ -19,7 +19,7 @@ use Rattle.mp_merge.specs.Outcome.{IsOutcome}
 use Rattle.mp_merge.specs.Rewriting.{IsRewriting}
 use Rattle.mp_cli.proofs.OneAnswer.{told_form}
 use Rattle.mp_cli.specs.Answered.{IsRunAnswer, ran, halted, IsPatchAnswer, malformed, formed, IsJoinAnswer, joined, none_joined, join_refused, IsReplayAnswer, replayed, replay_refused, IsRewriteAnswer, rewritten, IsChecked, IsAnswered}
-use Rattle.mp_cli.specs.Lines.{Answered, conflict_line, line, no_patches, result_line, status_no_result, status_result}
+use Rattle.mp_cli.specs.Lines.{newline, Answered, conflict_line, line, no_patches, result_line, status_no_result, status_result}
 use Rattle.mp_cli.specs.Laws.{ReplicasPrintTheSame, JoinsPrintTheSame, TellsPair, HaveAClash, ClashesAreTold, JoinTellsClashes, JoinPrintedIsRead, RewritingPrintedIsRead}
 use Rattle.mp_cli.specs.Private.LawsBelow.{TextLaws, PatchLaws, MergeLaws, RewritingLaws}
 use Rattle.mp_cli.specs.declared.command.Command.TheVariants.{Patch, Merge, Join, Replay, Rewrite}
@@ -33,7 +33,7 @@ result_is_one printed a none same = let no : status_result ≡ status_no_result 
 
 -- what was printed of a result is its text
 printed-is : (printed : List ℕ) (d : Document) → line printed status_result ≡ result_line d → printed ≡ compact d
-printed-is printed d same = append_cancel_right printed (compact d) (10 ∷ []) (ap (λ (a : Answered). a.text) same)
+printed-is printed d same = append_cancel_right printed (compact d) (newline ∷ []) (ap (λ (a : Answered). a.text) same)
 
 -- two texts in an array
 two_documents : (d e : Document) (bytes : List ℕ) → TextLaws → IsReadable d → IsReadable e → IsArrayOf (compact d ∷ compact e ∷ []) bytes → documents_in bytes ≡ Ok (item d (item e no_items))

@@ -6,8 +6,8 @@ use Rattle.mp_tree.specs.Document.{Document, Items, no_items, item, IsDocument, 
 use Rattle.mp_tree.specs.Elements.{list_of}
 use Rattle.mp_tree.specs.Laws.{ReadsReadables, FaultsAreOfArrays}
 use Rattle.mp_tree.specs.Text.{documents_in}
-use Rattle.mp_tree.specs.declared.reading.DocsFault.{DocsFault}
-use Rattle.mp_tree.specs.declared.reading.DocsFault.TheVariants.{NotJson, NotWhole, NotAnArray, OutOfMemory as NoMemory}
+use Rattle.mp_tree.specs.declared.fault.DocsFault.{DocsFault}
+use Rattle.mp_tree.specs.declared.fault.DocsFault.TheVariants.{NotJson, NotWhole, NotAnArray, OutOfMemory as NoMemory}
 use Rattle.mp_pointer.specs.declared.fault.PointerFault.{PointerFault}
 use Rattle.mp_pointer.specs.declared.fault.PointerFault.TheVariants.{NoSlash, BadTilde, OutOfMemory as PointerMemory}
 use Rattle.mp_patch.specs.Texts.{cause_text}

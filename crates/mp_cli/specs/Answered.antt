@@ -3,7 +3,7 @@ use Rattle.std.specs.Prelude.{◌≡◌, ℕ, string_bytes, List, [], Some, Resu
 use Rattle.mp_tree.specs.Document.{Document, Items, no_items, item, IsDocument}
 use Rattle.mp_tree.specs.Look.{Path}
 use Rattle.mp_tree.specs.Text.{documents_in}
-use Rattle.mp_tree.specs.declared.reading.DocsFault.{DocsFault}
+use Rattle.mp_tree.specs.declared.fault.DocsFault.{DocsFault}
 use Rattle.mp_tree.specs.Elements.{list_of}
 use Rattle.mp_pointer.specs.Part.{part}
 use Rattle.mp_pointer.specs.Spelling.{Tokens, spell, IsFaultOf}

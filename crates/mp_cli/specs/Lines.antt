@@ -4,8 +4,8 @@ use Rattle.std.specs.List.{flat_map}
 use Rattle.mp_tree.specs.Document.{Document, string}
 use Rattle.mp_tree.specs.Look.{Path}
 use Rattle.mp_tree.specs.Text.{text as compact}
-use Rattle.mp_tree.specs.declared.reading.DocsFault.{DocsFault}
-use Rattle.mp_tree.specs.declared.reading.DocsFault.TheVariants.{NotJson, NotWhole, NotAnArray, OutOfMemory}
+use Rattle.mp_tree.specs.declared.fault.DocsFault.{DocsFault}
+use Rattle.mp_tree.specs.declared.fault.DocsFault.TheVariants.{NotJson, NotWhole, NotAnArray, OutOfMemory}
 use Rattle.mp_pointer.specs.Part.{numeral}
 use Rattle.mp_pointer.specs.Spelling.{spell}
 use Rattle.mp_pointer.specs.declared.fault.PointerFault.{PointerFault}
@@ -43,9 +43,12 @@ pub record Answered : Type 0 where
   pub text : List ℕ
   pub status : ℕ
 
+abbrev pub newline : ℕ
+newline = 10
+
 -- each line ends with one newline byte
 abbrev pub line : List ℕ → ℕ → Answered
-line s status = record { text = s ++ 10 ∷ []; status = status }
+line s status = record { text = s ++ newline ∷ []; status = status }
 
 -- a result is its compact text
 abbrev pub result_line : Document → Answered

@@ -25,7 +25,7 @@ pub enum Command {
     Patch,
     /// Apply the merge patches of the input, one after another, to its first element.
     Merge,
-    /// Print the join of the merge patches that the input is a list of.
+    /// Print the join of the merge patches that the input is an array of.
     Join,
     /// Apply the merge patches of the input, which are to be compatible, to its first element.
     Replay,

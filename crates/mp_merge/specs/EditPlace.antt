@@ -5,15 +5,15 @@ use Rattle.mp_tree.specs.Look.{Path, nothing, an_object, plain, look}
 
 -- what the patch p has at the path is not what d has there
 pub data Changes (d p : Document) (w : Path) : Type 0 where
-  -- a value that is no map; a null is such a value at the root alone
+  -- a value that is no object; a null is such a value at the root alone
   sets : (v : Document) → look p w ≡ plain v → (v ≢ null) ⊎ (w ≡ []) → look d w ≢ plain v → Changes d p w
   -- below the root a null removes what is there
   clears : look p w ≡ plain null → w ≢ [] → look d w ≢ nothing → Changes d p w
-  -- a map, where d has none
+  -- an object, where d has none
   enters : look p w ≡ an_object → look d w ≢ an_object → Changes d p w
 
 pub record IsEditPlace (d p : Document) (w : Path) : Type 0 where
-  -- both have a map at each proper prefix
+  -- both have an object at each proper prefix
   pub above : (u : Path) (n : List ℕ) (rest : Path) → w ≡ u ++ n ∷ rest
       → (look d u ≡ an_object) × (look p u ≡ an_object)
   pub here : Changes d p w

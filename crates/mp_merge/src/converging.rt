@@ -16,7 +16,7 @@ use mp_tree::Doc;
 use std::alloc::Global;
 
 /// What two replicas come to that received the same patches, by each of the ways that this library has.
-#[derive(Drop)]
+#[derive(Debug, Drop)]
 pub struct Converged {
     /// The replay of what the one replica received.
     pub here: Doc,

@@ -7,7 +7,7 @@ ghost use Rattle.mp_merge.specs.Application.{set_or_remove, merge_patch, merge_p
 ghost use Rattle.mp_merge.specs.Private.Merging.{ResumesAt, NeedsNoneAt, NeedsNoneIn};
 ghost use Rattle.mp_merge.specs.Resumption.{NeedsNoMemory, Resumes};
 
-use crate::merging::{entries_of, is_null};
+use crate::values::{entries_of, is_null};
 use mp_tree::{Doc, members_mut};
 use std::alloc::{AllocError, Global};
 use std::collections::BTreeMap;

@@ -10,6 +10,7 @@ pub mod laws;
 mod lists;
 mod merging;
 mod rewriting;
+mod values;
 
 pub use comparing::{compatible, conflict};
 pub use converging::{Converged, converge};

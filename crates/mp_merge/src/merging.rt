@@ -1,11 +1,12 @@
 //! Applying a merge patch (RFC 7396 section 2).
-ghost use Rattle.std.specs.Prelude.{◌≡◌, ◌≤◌, ◌↔◌, max, IsTrue, IfOk, OnOk, option_map, string_bytes};
-ghost use Rattle.mp_tree.specs.Document.{null, find, depth};
+ghost use Rattle.std.specs.Prelude.{◌≡◌, ◌≤◌, length, max, IfOk, OnOk, option_map, string_bytes};
+ghost use Rattle.mp_tree.specs.Document.{find, depth};
 ghost use Rattle.mp_tree.specs.View.{document};
 ghost use Rattle.mp_tree.specs.Private.Entries.{members};
-ghost use Rattle.mp_merge.specs.Application.{set_or_remove, depth_of, merge_patch, merge_patch_members, target_members};
+ghost use Rattle.mp_merge.specs.Application.{set_or_remove, depth_of, merge_patch, merge_patch_members};
 
 use crate::in_place::merge_into;
+use crate::values::{entries_of, is_null};
 use mp_tree::Doc;
 use std::alloc::{AllocError, Global};
 use std::collections::BTreeMap;
@@ -62,19 +63,6 @@ fn owned_merge(patch: Doc, target: Option<Doc>, alloc: Global) -> Result<Doc, Al
     }
 }
 
-// An absent target, or one that is no object, counts as the empty object.
-pub(crate) fn entries_of(target: Option<Doc>, alloc: Global) -> BTreeMap<String, Doc>
-    ensures { members result.entries ≡ target_members (option_map document target) }
-{
-    match target {
-        Some(doc) => match doc {
-            Doc::Members(entries) => entries,
-            _ => BTreeMap::new(alloc),
-        },
-        None => BTreeMap::new(alloc),
-    }
-}
-
 #[cycle(owned_merge)]
 fn owned_merge_members(
     changes: BTreeMap<String, Doc>,
@@ -84,7 +72,27 @@ fn owned_merge_members(
     ensures { IfOk result (λ m. members m.entries
         ≡ merge_patch_members (members entries.entries) (members changes.entries)) }
 {
+    if changes.len() == 1 {
+        return owned_merge_member(changes, entries, alloc);
+    }
     for (name, change) in changes {
+        change_entry(change, name, &mut entries, alloc)?;
+    }
+    Ok(entries)
+}
+
+// The same of one change: to take it out costs less than to walk the map.
+#[cycle(owned_merge)]
+fn owned_merge_member(
+    mut changes: BTreeMap<String, Doc>,
+    mut entries: BTreeMap<String, Doc>,
+    alloc: Global,
+) -> Result<BTreeMap<String, Doc>, AllocError>
+    requires { length changes.entries ≡ 1 }
+    ensures { IfOk result (λ m. members m.entries
+        ≡ merge_patch_members (members entries.entries) (members changes.entries)) }
+{
+    if let Some((name, change)) = changes.pop_first() {
         change_entry(change, name, &mut entries, alloc)?;
     }
     Ok(entries)
@@ -92,6 +100,7 @@ fn owned_merge_members(
 
 // A null takes the name out; another value is merged with what stood there.
 #[cycle(owned_merge)]
+#[inline(always)]
 fn change_entry(
     change: Doc,
     name: String,
@@ -116,14 +125,5 @@ fn change_entry(
             drop(entries.insert(name, owned_merge(change, None, alloc)?)?);
             Ok(())
         }
-    }
-}
-
-pub(crate) fn is_null(doc: &Doc) -> bool
-    ensures { IsTrue result ↔ (document doc.now ≡ null) }
-{
-    match doc {
-        Doc::Null => true,
-        Doc::Flag(_) | Doc::Whole(_) | Doc::Text(_) | Doc::Items(_) | Doc::Members(_) => false,
     }
 }

@@ -11,7 +11,8 @@ ghost use Rattle.mp_merge.specs.Private.Edits.{IsOneEdit, NotBothMaps, AreEdits,
 ghost use Rattle.mp_merge.specs.Rewriting.{IsRewriting};
 
 use crate::laws;
-use crate::merging::{is_null, merge};
+use crate::merging::merge;
+use crate::values::is_null;
 use mp_patch::{JsonPatch, Op};
 use mp_pointer::Pointer;
 use mp_tree::Doc;
@@ -139,21 +140,15 @@ fn push_edits(
         (AreEdits (path.old ++ name.now ∷ []) (document change.now)
         (option_map (λ v. document v.now) value.entry))) }
 {
-    match change {
-        Doc::Members(changes) => match value {
-            Some(there) => match there {
-                Doc::Members(entries) => {
-                    path.push(name)?;
-                    push_member_edits(changes, entries, path, found, alloc)?;
-                    path.pop();
-                    Ok(())
-                }
-                _ => push_edit(change, value, path, name, found, alloc),
-            },
-            None => push_edit(change, value, path, name, found, alloc),
-        },
-        _ => push_edit(change, value, path, name, found, alloc),
+    if let Some(there) = value {
+        if let (Doc::Members(changes), Doc::Members(entries)) = (change, there) {
+            path.push(name)?;
+            push_member_edits(changes, entries, path, found, alloc)?;
+            path.pop();
+            return Ok(());
+        }
     }
+    push_edit(change, value, path, name, found, alloc)
 }
 
 // Below the root a null removes.

@@ -1,4 +1,4 @@
--- How a JSON Patch is written as a document (RFC 6902 sections 3 and 4): a list of maps, each with the members that
+-- How a JSON Patch is written as a document (RFC 6902 sections 3 and 4): an array of objects, each with the members that
 -- its operation needs.
 use Rattle.std.specs.Prelude.{◌≡◌, ◌≢◌, ◌⊎◌, ◌∷◌, ℕ, codes, max, map, List, [], Option, None, Some, option_and_then, ⊤}
 use Rattle.mp_tree.specs.Document.{Document, string, list, object, Items, no_items, item, Members, find, depth}
@@ -36,20 +36,20 @@ needed_members (move f t) = op_member (codes "move") ∷ path_member t ∷ from_
 needed_members (copy f t) = op_member (codes "copy") ∷ path_member t ∷ from_member f ∷ []
 needed_members (test t v) = op_member (codes "test") ∷ path_member t ∷ value_member v ∷ []
 
--- the map of exactly these
+-- the object of exactly these
 abbrev pub shape : Operation → Document
 shape o = object (members_of (needed_members o))
 
 abbrev pub shapes : List Operation → Document
 shapes operations = list (items_of (map shape operations))
 
--- ---- forms: a map may carry further members
+-- ---- forms: an object may carry further members
 
 abbrev pub Carries : Members → List (List ℕ × Document) → Type 0
 Carries ms [] = ⊤
 Carries ms (pair ∷ pairs) = (find pair.0 ms ≡ Some pair.1) × Carries ms pairs
 
--- d is a map that carries what o needs
+-- d is an object that carries what o needs
 abbrev pub IsForm : Document → Operation → Type 0
 IsForm d o = (ms : Members) × (d ≡ object ms) × Carries ms (needed_members o)
 
@@ -112,7 +112,7 @@ form_causes d =
 abbrev pub IsFaulty : FormCause → Document → Type 0
 IsFaulty cause d = IsFirst cause (form_causes d)
 
--- the element of that number in the list d is faulty by the cause, and those in front of it are forms
+-- the element of that number in the array d is faulty by the cause, and those in front of it are forms
 pub record IsFaultyAt (number : ℕ) (cause : FormCause) (d : Document) : Type 0 where
   pub front : Items
   pub element : Document

@@ -18,7 +18,7 @@ pub data Operation : Type 0 where
   copy : Tokens → Tokens → Operation
   test : Tokens → Document → Operation
 
--- ---- a change in the map or the list that holds a place
+-- ---- a change in the object or the array that holds a place
 
 -- t is the tokens of a container and then the last token; the container changes as `Change` says, and nothing else does
 pub record ChangesContainer (Change : List ℕ → Document → Document → Type 0) (t : Tokens)
@@ -41,13 +41,13 @@ dash = codes "-"
 abbrev pub NamesPlace : List ℕ → Items → Items → Type 0
 NamesPlace token front back = (token ≡ numeral (count_of front)) ⊎ ((token ≡ dash) × (back ≡ no_items))
 
--- v is set at a name of a map, or inserted at a place in a list
+-- v is set at a name of an object, or inserted at a place in an array
 pub data AddsTo (v : Document) (token : List ℕ) (before after : Document) : Type 0 where
   to_map : (ms : Members) → before ≡ object ms → after ≡ object (put token v ms) → AddsTo v token before after
   to_list : (front back : Items) → NamesPlace token front back
       → before ≡ list (append front back) → after ≡ list (append front (item v back)) → AddsTo v token before after
 
--- a name that a map has goes away, or an element of a list
+-- a name that an object has goes away, or an element of an array
 pub data RemovesFrom (token : List ℕ) (before after : Document) : Type 0 where
   from_map : (ms : Members) (x : Document) → find token ms ≡ Some x
       → before ≡ object ms → after ≡ object (without token ms) → RemovesFrom token before after

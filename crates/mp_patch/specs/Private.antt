@@ -3,4 +3,5 @@ pub mod Bounds
 pub mod Faults
 pub mod Names
 pub mod Reading
+pub mod Shapes
 pub mod Steps

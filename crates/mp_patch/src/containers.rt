@@ -1,4 +1,4 @@
-// What an operation does to the map or the list that holds its place (RFC 6902 section 4.1).
+// What an operation does to the object or the array that holds its place (RFC 6902 section 4.1).
 ghost use Rattle.std.specs.Prelude.{◌≡◌, ◌≢◌, ◌<◌, ◌≤◌, ◌⊎◌, ℕ, IsTrue, IsFalse, MatchOption, MatchResult};
 ghost use Rattle.mp_tree.specs.View.{document};
 ghost use Rattle.mp_tree.specs.declared.doc.Doc.TheVariants.{Items};
@@ -22,7 +22,7 @@ pub(crate) fn set(part: &mut Doc, value: Doc, fits: bool) -> Result<(), Refusal<
     Ok(())
 }
 
-// Adds the value to the map or the list, at the token.
+// Adds the value to the object or the array, at the token.
 pub(crate) fn insert(
     container: &mut Doc,
     token: &str,
@@ -65,7 +65,7 @@ fn insert_element(
     Ok(())
 }
 
-// The place for a new element that the token names in a list of that length.
+// The place for a new element that the token names in an array of that length.
 fn index_in(len: usize, token: &str) -> Option<usize>
     ensures { MatchOption result
         ((token.now ≢ dash) × ((i : ℕ) → token.now ≡ numeral i → len < i))

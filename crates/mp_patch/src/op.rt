@@ -3,7 +3,7 @@ use mp_pointer::Pointer;
 use mp_tree::Doc;
 
 /// One operation of a JSON Patch (RFC 6902 section 4), with the place where it works.
-#[derive(Drop)]
+#[derive(Debug, Drop)]
 pub enum Op {
     /// The value is added at the place: the document itself, a member of an object, or an element that is inserted
     /// into an array (section 4.1).

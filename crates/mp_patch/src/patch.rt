@@ -1,17 +1,15 @@
 //! Patches: lists of operations.
-ghost use Rattle.std.specs.Prelude.{◌≡◌, ◌+◌, ◌≤◌, ◌++◌, ◌∷◌, [], OnOk, OnErr, IfOk, MatchResult, Some, string_bytes};
-ghost use Rattle.mp_tree.specs.Document.{depth, depth_limit};
-ghost use Rattle.mp_tree.specs.Text.{read, text};
+ghost use Rattle.std.specs.Prelude.{◌≡◌, ◌+◌, ◌≤◌, ◌++◌, ◌∷◌, [], OnOk, OnErr, IfOk, MatchResult};
+ghost use Rattle.mp_tree.specs.Document.{depth};
 ghost use Rattle.mp_tree.specs.View.{document};
 ghost use Rattle.mp_patch.specs.Form.{AreForms, IsFormFault, deepest, shapes};
 ghost use Rattle.mp_patch.specs.View.{operations_of};
 
 use crate::fault::FormFault;
+use crate::making::docs_of;
 use crate::op::Op;
 use crate::reading::{read_ops, read_owned_ops};
-use crate::writing::shapes_of;
 use mp_tree::Doc;
-use serde_json::to_string;
 use std::alloc::{AllocError, Global};
 use std::marker::Model;
 
@@ -22,7 +20,7 @@ use std::marker::Model;
 /// patch.push(Op::Remove(Pointer::parse(alloc, "/a")?))?;
 /// let result = apply(alloc, &doc, &patch)?;  // {}, where doc is {"a":1}
 /// ```
-#[derive(Drop)]
+#[derive(Debug, Drop)]
 pub struct JsonPatch {
     ops: Vec<Op>,
 }
@@ -117,31 +115,11 @@ impl JsonPatch {
         ensures depth { IfOk result (λ d.
             depth (document d) ≤ 2 + deepest (operations_of self.now)) }
     {
-        Ok(Doc::Items(shapes_of(self.ops(), alloc)?))
+        Ok(Doc::Items(docs_of(self.ops(), alloc)?))
     }
 
     // Of the memory that the list itself takes.
     pub(crate) fn allocator(&self) -> Global {
         *self.ops.allocator()
-    }
-}
-
-/// The compact text of the document that `to_doc` gives, which is not made for it. It is read back as that document
-/// where no value is more than 124 deep. `AllocError` where memory ran out.
-///
-/// ```text
-/// write_patch(alloc, &patch)  // [{"op":"remove","path":"/a"}], for a list of one Op::Remove
-/// ```
-pub fn write_patch(alloc: Global, patch: &JsonPatch) -> Result<String, AllocError>
-    ensures text { IfOk result (λ s. string_bytes s ≡ text (shapes (operations_of patch.now))) }
-    ensures reads_back { IfOk result (λ s.
-        2 + deepest (operations_of patch.now) ≤ depth_limit
-        → read (string_bytes s) ≡ Some (shapes (operations_of patch.now))) }
-{
-    mp_tree::laws::docs_are_documents();
-    mp_tree::laws::texts_read_back();
-    match to_string(alloc, patch) {
-        Ok(written) => Ok(written),
-        Err(_) => Err(AllocError),
     }
 }

@@ -48,7 +48,7 @@ pub(crate) fn read_ops(elements: &[Doc], alloc: Global) -> Result<JsonPatch, For
     Ok(patch)
 }
 
-// The same of a list that is owned: the values are moved out of it.
+// The same of an array that is owned: the values are moved out of it.
 pub(crate) fn read_owned_ops(elements: Vec<Doc>, alloc: Global) -> Result<JsonPatch, FormFault>
     ensures { MatchResult result (λ p. EachForm (items elements.items) (operations_of p))
         (λ fault. IsFormFault fault (list (items elements.items))) }
@@ -186,7 +186,7 @@ fn value_in(entries: &BTreeMap<String, Doc>, alloc: Global) -> Result<Doc, Refus
     }
 }
 
-// The same, moved out of a map that is owned.
+// The same, moved out of an object that is owned.
 fn value_out(mut entries: BTreeMap<String, Doc>) -> Result<Doc, Refusal<FormCause>>
     ensures { MatchResult result
         (λ v. find (codes "value") (members entries.entries) ≡ Some (document v))

@@ -20,11 +20,9 @@ use Rattle.mp_tree.specs.declared.doc.Doc.{Doc}
 use Rattle.mp_pointer.specs.Bytes.{digit_zero, digit_one}
 use Rattle.mp_pointer.specs.Laws.{NamesElements, NamesNothingElse, NumeralsArePrinted}
 use Rattle.mp_pointer.specs.Part.{numeral, element_from, child}
+use Rattle.mp_pointer.specs.Private.Digits.{digit_nine}
 use Rattle.mp_tree.specs.Elements.{count_of, nth}
 use Rattle.mp_tree.proofs.Facts.{nth_past}
-
-abbrev digit_nine : ℕ
-digit_nine = 57
 
 pub numeral-decimal : NumeralsArePrinted
 unfolding numeral

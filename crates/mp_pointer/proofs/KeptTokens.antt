@@ -40,7 +40,7 @@ cuts_rise start ends bytes zero cuts within = omega arith
 cuts_rise start [] bytes (suc n) cuts within = omega (arith, within)
 cuts_rise start (end ∷ ends) bytes (suc n) cuts within = omega (arith, cuts.0, cuts_rise end ends bytes n cuts.3 (omega arith))
 
-slash_is_text : IsUtf8 (slash ∷ [])
+pub slash_is_text : IsUtf8 (slash ∷ [])
 slash_is_text = IsUtf8-from_ascii (slash ∷ []) low
   where
     low : (i : ℕ) → get_or (slash ∷ []) i 0 < 128

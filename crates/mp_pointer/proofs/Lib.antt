@@ -11,6 +11,7 @@ pub mod PartDepths
 pub mod PartDocuments
 pub mod PartKinds
 pub mod Parts
+pub mod PlainSpellings
 pub mod ReadableParts
 pub mod SomeChange
 pub mod Spellings

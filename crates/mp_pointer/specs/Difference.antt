@@ -16,7 +16,7 @@ abbrev pub names_of : Members → List (List ℕ)
 names_of no_members = []
 names_of (member n d ms) = n ∷ names_of ms
 
--- a scalar with its value, a map with its names, a list with its length
+-- a scalar with its value, an object with its names, an array with its length
 abbrev pub kind_of : Option Document → Kind
 kind_of None = absent
 kind_of (Some (list ds)) = elements (count_of ds)

@@ -40,8 +40,8 @@ SpellsOneIndex = (i k : ℕ) → numeral i ≡ numeral k → i ≡ k
 abbrev pub NumeralsArePrinted : Type 0
 NumeralsArePrinted = (i : ℕ) → i < 2 ^ 64 → numeral i ≡ decimal i
 
--- in a list, the token that spells an index names the element at that place,
--- and from the list's length on nothing (RFC 6901 section 4)
+-- in an array, the token that spells an index names the element at that place,
+-- and from the array's length on nothing (RFC 6901 section 4)
 abbrev pub NamesElements : Type 0
 NamesElements = (i : ℕ) (ds : Items)
     → (child (numeral i) (list ds) ≡ nth i ds) × (count_of ds ≤ i → child (numeral i) (list ds) ≡ None)

@@ -16,7 +16,7 @@ abbrev pub element_from : ℕ → List ℕ → Items → Option Document
 element_from i token no_items = None
 element_from i token (item d ds) = if bytes_eq token (numeral i) then Some d else element_from (suc i) token ds
 
--- what one token names: at a map the value of that name, at a list the element of that index, at a scalar nothing
+-- what one token names: at an object the value of that name, at an array the element of that index, at a scalar nothing
 unfoldable pub child : List ℕ → Document → Option Document
 child token (list ds) = element_from 0 token ds
 child token (object ms) = find token ms

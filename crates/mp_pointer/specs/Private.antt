@@ -2,3 +2,4 @@
 pub mod BadTilde
 pub mod Child
 pub mod Cuts
+pub mod Digits

@@ -2,8 +2,10 @@
 ghost use Rattle.std.specs.Prelude.{◌≡◌, ◌≢◌, ◌^◌, ◌≤◌, ◌↔◌, ℕ, IsTrue, slice_index, option_map, MatchOption, string_bytes};
 ghost use Rattle.std.specs.Borrow.{sem};
 ghost use Rattle.mp_tree.specs.View.{document};
+ghost use Rattle.mp_pointer.specs.Bytes.{digit_one};
 ghost use Rattle.mp_pointer.specs.Lending.{LendsPart};
 ghost use Rattle.mp_pointer.specs.Part.{child, numeral, part};
+ghost use Rattle.mp_pointer.specs.Private.Digits.{digit_nine};
 
 use crate::lending::child_mut;
 use crate::pointer::Pointer;
@@ -31,15 +33,16 @@ pub fn index_of(token: &str) -> Option<usize>
 }
 
 fn begins_above_zero(token: &str) -> bool
-    ensures { IsTrue result ↔ (49 ≤ slice_index token.now 0) × (slice_index token.now 0 ≤ 57) }
+    ensures { IsTrue result
+        ↔ (digit_one ≤ slice_index token.now 0) × (slice_index token.now 0 ≤ digit_nine) }
 {
     let bytes = token.as_bytes();
     !bytes.is_empty() && bytes[0] >= b'1' && bytes[0] <= b'9'
 }
 
 /// The part of the document that the pointer names, borrowed (RFC 6901 section 4): the document itself for the
-/// empty pointer. None exactly where there is none: a name that a map lacks, a token that spells no index of a
-/// list, or any token at a scalar. Takes no memory.
+/// empty pointer. None exactly where there is none: a name that an object lacks, a token that spells no index
+/// of an array, or any token at a scalar. Takes no memory.
 ///
 /// ```text
 /// get(&doc, &pointer)  // for /foo/1 in {"foo":["bar","baz"]}: "baz"

@@ -36,13 +36,13 @@ pub fn numerals_are_printed()
     ensures { NumeralsArePrinted }
 {}
 
-/// In a list, the token that spells an index names the element at that place, and nothing where there is none
+/// In an array, the token that spells an index names the element at that place, and nothing where there is none
 /// (RFC 6901 section 4).
 pub fn indices_name_elements()
     ensures { NamesElements }
 {}
 
-/// In a list, a token that spells no index, as `-` or `01`, names nothing (RFC 6901 section 4).
+/// In an array, a token that spells no index, as `-` or `01`, names nothing (RFC 6901 section 4).
 pub fn other_tokens_name_nothing()
     ensures { NamesNothingElse }
 {}

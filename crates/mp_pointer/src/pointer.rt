@@ -1,6 +1,7 @@
 //! Pointers: lists of tokens, and their spelling (RFC 6901 section 3).
-ghost use Rattle.std.specs.Prelude.{◌≡◌, ◌≤◌, ◌-◌, ◌↔◌, ◌++◌, ◌∷◌, [], length, take, get_or, slice_get, IsTrue, IfOk, IfErr, OnOk, OnErr, string_bytes};
+ghost use Rattle.std.specs.Prelude.{◌≡◌, ◌≤◌, ◌-◌, ◌↔◌, ◌++◌, ◌∷◌, [], length, take, get_or, slice_get, IsTrue, IfOk, IfErr, IfSome, OnOk, OnErr, string_bytes};
 ghost use Rattle.std.specs.Option.{option_copied};
+ghost use Rattle.mp_pointer.specs.Bytes.{slash};
 ghost use Rattle.mp_pointer.specs.Spelling.{BeginsWith, spell, IsFaultOf, IsProperPrefix};
 
 use crate::fault::PointerFault;
@@ -62,10 +63,37 @@ impl Pointer {
         let Some(rest) = text.strip_prefix('/') else {
             return Err(PointerFault::NoSlash);
         };
+        if let Some(pointer) = Pointer::without_tildes(alloc, rest)? {
+            return Ok(pointer);
+        }
         match bad_tilde(text.as_bytes()) {
             Some(offset) => Err(PointerFault::BadTilde(offset)),
             None => Ok(pointer_after(alloc, rest)?),
         }
+    }
+
+    // The pointer that is spelled by a slash and then `rest`, which keeps that text as it is; None where a `~` is in it.
+    fn without_tildes(alloc: Global, rest: &str) -> Result<Option<Pointer>, AllocError>
+        ensures { IfOk result (λ found. IfSome found (λ p. slash ∷ rest.now ≡ spell p)) }
+    {
+        let mut ends = Vec::new(alloc);
+        for (offset, byte) in rest.as_bytes().iter().enumerate() {
+            if *byte == b'~' {
+                return Ok(None);
+            }
+            if *byte == b'/' {
+                ends.push(offset + 1)?;
+            }
+        }
+        ends.push(rest.len() + 1)?;
+        let mut text = String::with_capacity(alloc, rest.len() + 1)?;
+        text.push_str("/")?;
+        text.push_str(rest)?;
+        Ok(Some(Pointer {
+            text,
+            ends,
+            is_plain: true,
+        }))
     }
 
     /// The pointer with no token, which names the whole document. Takes no memory.

@@ -1,6 +1,6 @@
 // From a spelling to its tokens and back.
 ghost use Rattle.std.specs.Prelude.{◌≡◌, ◌≢◌, ◌+◌, ◌++◌, ◌∷◌, ◌<◌, ◌↔◌, ◌⊎◌, ℕ, length, slice_index, IsTrue, MatchOption, IfOk, OnOk, None, string_bytes};
-ghost use Rattle.mp_pointer.specs.Bytes.{slash, tilde};
+ghost use Rattle.mp_pointer.specs.Bytes.{slash, tilde, digit_zero, digit_one};
 ghost use Rattle.mp_pointer.specs.Private.BadTilde.{first_bad_tilde};
 ghost use Rattle.mp_pointer.specs.Private.Cuts.{IsPlain};
 ghost use Rattle.mp_pointer.specs.Spelling.{escape, spell, IsBadTilde, IsFirstBadTilde};
@@ -21,7 +21,8 @@ pub(crate) fn bad_tilde(text: &[u8]) -> Option<usize>
 
 fn is_escape(text: &[u8], offset: usize) -> bool
     ensures { IsTrue result
-        ↔ (slice_index text.now offset ≡ 48) ⊎ (slice_index text.now offset ≡ 49) }
+        ↔ (slice_index text.now offset ≡ digit_zero)
+        ⊎ (slice_index text.now offset ≡ digit_one) }
 {
     offset < text.len() && (text[offset] == b'0' || text[offset] == b'1')
 }

@@ -3,7 +3,7 @@
 use Rattle.std.specs.Prelude.{◌≡◌, ◌≢◌, ℕ, List, None, Ok, Err, ⊤}
 use Rattle.mp_tree.specs.Document.{Document}
 use Rattle.mp_tree.specs.Text.{document_in}
-use Rattle.mp_tree.specs.declared.reading.ReadFault.{ReadFault}
+use Rattle.mp_tree.specs.declared.fault.ReadFault.{ReadFault}
 use Rattle.mp_pointer.specs.Part.{part}
 use Rattle.mp_pointer.specs.Spelling.{Tokens, spell, IsFaultOf as IsSpellingFault}
 use Rattle.mp_pointer.specs.declared.fault.PointerFault.{PointerFault}

@@ -3,7 +3,7 @@ use Rattle.std.specs.Prelude.{◌≡◌, ℕ, List, map, slice_get, take, Some, 
 use Rattle.std.specs.Borrow.{Bor}
 use Rattle.mp_tree.specs.Document.{Document}
 use Rattle.mp_tree.specs.Text.{document_in}
-use Rattle.mp_tree.specs.declared.reading.ReadFault.{ReadFault}
+use Rattle.mp_tree.specs.declared.fault.ReadFault.{ReadFault}
 use Rattle.mp_merge.specs.Lists.{HaveSameMembers, PairwiseCompatible}
 
 -- the texts of a slice of texts

@@ -1,13 +1,15 @@
--- What the proofs of the crates above may cite: facts about names, about what is written, about members as finite maps, about looks, about what is read, and about what a `Doc` and a change to its map mean.
-pub use Rattle.mp_tree.proofs.Decisions.{decide_name, decide_path, decide_document}
-pub use Rattle.mp_tree.proofs.Depths.{members_depth-put, members_depth-without, value-depth}
-pub use Rattle.mp_tree.proofs.Elements.{all_before, append-documents, append_nothing, count-take, count_of-append, count_of-items, count_of-set, depth-append, documents-append, items-append, items-set, list_of-items, nth-here, nth-items, nth-set, nth_past, nth_split, same_parts, set_item}
-pub use Rattle.mp_tree.proofs.EqualLooks.{equal_looks, is_here, IsDocument-find, same_plain}
-pub use Rattle.mp_tree.proofs.Looks.{name_above, nothing_or, same_look, some_part}
-pub use Rattle.mp_tree.proofs.MapEdits.{IsMap-members, members-cons, find-members, members-inserted, members-removed}
-pub use Rattle.mp_tree.proofs.Maps.{find-here, find-put, find-without, find-below, IsBelow-trans, IsMap-put, IsMap-without, members_same, find-put_other, find-put_same}
-pub use Rattle.mp_tree.proofs.Meaning.{IsDocument-document, document-Null, document-Flag, document-Whole, document-Text, document-Items, document-Members}
-pub use Rattle.mp_tree.proofs.Names.{cases_same, is_name-self, name_cmp-self, same_from_cmp}
-pub use Rattle.mp_tree.proofs.SameParts.{members_of_object}
-pub use Rattle.mp_tree.proofs.Texts.{has_float-data_of}
-pub use Rattle.mp_tree.proofs.Throughout.{Throughout-find, Throughout-put, Throughout-without}
+-- What the proofs of the crates above may cite: facts about names, about what is written, about members as finite maps, about looks, about what is read, about what an `Option` has, and about what a `Doc` and a change to its map mean.
+pub use Rattle.mp_tree.proofs.Documents.Decisions.{decide_name, decide_path, decide_document, either}
+pub use Rattle.mp_tree.proofs.Documents.Depths.{members_depth-members, members_depth-put, members_depth-without, value-depth}
+pub use Rattle.mp_tree.proofs.Documents.Elements.{all_before, append-documents, append_nothing, count-take, count_of-append, count_of-items, count_of-set, depth-append, documents-append, items-append, items-set, list_of-items, nth-here, nth-items, nth-set, nth_past, nth_split, same_parts, set_item}
+pub use Rattle.mp_tree.proofs.Documents.Meaning.{IsDocument-document, document-Null, document-Flag, document-Whole, document-Text, document-Items, document-Members}
+pub use Rattle.mp_tree.proofs.Documents.SameParts.{members_of_object, no_list_is_map, same_elements, same_item, same_text_at}
+pub use Rattle.mp_tree.proofs.Documents.Throughout.{Throughout-find, Throughout-put, Throughout-without}
+pub use Rattle.mp_tree.proofs.Looks.Equal.{equal_looks, found_document, is_here, IsDocument-find, same_plain}
+pub use Rattle.mp_tree.proofs.Looks.Known.{name_above, nothing_or, same_look, some_part}
+pub use Rattle.mp_tree.proofs.Maps.Edits.{IsMap-members, members-cons, find-members, members-inserted, members-removed}
+pub use Rattle.mp_tree.proofs.Maps.Finite.{find-here, find-put, find-without, find-below, IsBelow-trans, IsMap-put, IsMap-without, members_same, find-put_other, find-put_same}
+pub use Rattle.mp_tree.proofs.Maps.Names.{cases_same, is_name-self, name_cmp-self, same_from_cmp}
+pub use Rattle.mp_tree.proofs.Options.{same_some, some_none, some_same}
+pub use Rattle.mp_tree.proofs.Texts.Unescaped.{IsUtf8-ascii}
+pub use Rattle.mp_tree.proofs.Texts.Written.{has_float-data_of}

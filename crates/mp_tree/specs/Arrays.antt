@@ -2,9 +2,21 @@
 use Rattle.std.specs.Prelude.{◌≡◌, ◌⊎◌, ℕ, List, [], ◌∷◌, ◌++◌, codes}
 use Rattle.std.specs.List.{All, AllZip, flat_map}
 
--- a space, a tab, a line feed or a carriage return
+abbrev pub space : ℕ
+space = 32
+
+abbrev pub tab : ℕ
+tab = 9
+
+abbrev pub line_feed : ℕ
+line_feed = 10
+
+abbrev pub carriage_return : ℕ
+carriage_return = 13
+
+-- white space (section 2)
 abbrev pub IsSpace : ℕ → Type 0
-IsSpace c = (c ≡ 32) ⊎ ((c ≡ 9) ⊎ ((c ≡ 10) ⊎ (c ≡ 13)))
+IsSpace c = (c ≡ space) ⊎ ((c ≡ tab) ⊎ ((c ≡ line_feed) ⊎ (c ≡ carriage_return)))
 
 -- the text, with white space before and after it
 pub record IsSpaced (text spaced : List ℕ) : Type 0 where

@@ -1,5 +1,5 @@
 -- What a JSON document is (RFC 8259 section 3, with whole numbers alone): null, a truth value, a whole number,
--- a text, a list of documents, or a finite map from names to documents. Texts and names are UTF-8 bytes.
+-- a text, an array of documents, or an object: a finite map from names to documents. Texts and names are UTF-8 bytes.
 use Rattle.std.specs.Prelude.{◌≡◌, ◌≤◌, ◌≤ℤ◌, ◌^◌, ◌-◌, ℕ, suc, max, ℤ, pos, negsuc, List, Bool, cond, Option, None}
 use Rattle.std.specs.Prelude.{Some, ⊤, IsUtf8}
 use Rattle.std.specs.declared.cmp.Ordering.{Ordering}
@@ -17,17 +17,17 @@ mutual
     list : Items → Document
     object : Members → Document
 
-  -- the elements of a list, in order
+  -- the elements of an array, in order
   pub data Items : Type 0 where
     no_items : Items
     item : Document → Items → Items
 
-  -- the names of a map, each with its value
+  -- the names of an object, each with its value
   pub data Members : Type 0 where
     no_members : Members
     member : List ℕ → Document → Members → Members
 
--- ---- a map's names
+-- ---- an object's names
 
 -- names are ordered by their UTF-8 bytes
 abbrev pub name_cmp : List ℕ → List ℕ → Ordering
@@ -74,7 +74,7 @@ abbrev mutual
 
 -- ---- depth, numbers and texts
 
--- 0 for a scalar; one more than the deepest part for a list or an object, and 1 for an empty one
+-- 0 for a scalar; one more than the deepest part for an array or an object, and 1 for an empty one
 abbrev mutual
   pub depth : Document → ℕ
   depth (list ds) = suc (items_depth ds)

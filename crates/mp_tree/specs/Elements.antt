@@ -1,4 +1,4 @@
--- The elements of a list: as many, at an index, one after another.
+-- The elements of an array: as many, at an index, one after another.
 use Rattle.std.specs.Prelude.{ℕ, zero, suc, List, [], ◌∷◌, Option, None, Some}
 use Rattle.mp_tree.specs.Document.{Document, Items, no_items, item}
 

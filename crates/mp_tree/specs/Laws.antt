@@ -9,11 +9,11 @@ use Rattle.mp_tree.specs.Look.{Path, look}
 use Rattle.mp_tree.specs.Text.{document_in, documents_in, read, text}
 use Rattle.mp_tree.specs.View.{document, number_of}
 use Rattle.mp_tree.specs.declared.doc.Doc.{Doc}
-use Rattle.mp_tree.specs.declared.reading.DocsFault.TheVariants as elements_fault
-use Rattle.mp_tree.specs.declared.reading.ReadFault.TheVariants as fault
+use Rattle.mp_tree.specs.declared.fault.DocsFault.TheVariants as elements_fault
+use Rattle.mp_tree.specs.declared.fault.ReadFault.TheVariants as fault
 use Rattle.mp_tree.specs.declared.whole.Whole.{Whole}
 
--- each `Doc` means a document: its maps have their names once and in order, its texts are UTF-8, its numbers are within
+-- each `Doc` means a document: its objects have their names once and in order, its texts are UTF-8, its numbers are within
 -- the number rule
 abbrev pub DocsAreDocuments : Type 0
 DocsAreDocuments = (d : Doc) → IsDocument (document d) × HasTexts (document d) × IsInRange (document d)
@@ -64,24 +64,24 @@ EqualLooks = (d e : Document) → IsDocument d → IsDocument e → (d ≡ e) �
 abbrev pub EqualNumbers : Type 0
 EqualNumbers = (m n : Whole) → number_of m ≡ number_of n → m ≡ n
 
--- ---- maps
+-- ---- objects
 
 -- names are the same name exactly if they are equal
 abbrev pub SameNames : Type 0
 SameNames = (n m : List ℕ) → (is_name n m ≡ true) ↔ (n ≡ m)
 
--- a map with n set to d: a map that has d at n, and at each other name what was there
+-- an object with n set to d: an object that has d at n, and at each other name what was there
 abbrev pub SetsOneName : Type 0
 SetsOneName =
     (n : List ℕ) (d : Document) (ms : Members) → IsDocument d → IsMap ms
     → IsMap (put n d ms) × (find n (put n d ms) ≡ Some d) × ((m : List ℕ) → m ≢ n → find m (put n d ms) ≡ find m ms)
 
--- a map without n: a map that has nothing at n, and at each other name what was there
+-- an object without n: an object that has nothing at n, and at each other name what was there
 abbrev pub RemovesOneName : Type 0
 RemovesOneName =
     (n : List ℕ) (ms : Members) → IsMap ms
     → IsMap (without n ms) × (find n (without n ms) ≡ None) × ((m : List ℕ) → m ≢ n → find m (without n ms) ≡ find m ms)
 
--- maps are equal exactly if they have the same at each name
+-- objects are equal exactly if they have the same at each name
 abbrev pub EqualMaps : Type 0
 EqualMaps = (ms es : Members) → IsMap ms → IsMap es → (ms ≡ es) ↔ ((n : List ℕ) → find n ms ≡ find n es)

@@ -10,10 +10,10 @@ use Rattle.serde_json.specs.Read as serde_json
 use Rattle.serde_json.specs.Written.{compact_text}
 use Rattle.mp_tree.specs.Document.{Document, null, flag, whole, string, list, object, Items, no_items, item, Members}
 use Rattle.mp_tree.specs.Document.{no_members, member, put, depth, depth_limit}
-use Rattle.mp_tree.specs.declared.reading.DocsFault.{DocsFault}
-use Rattle.mp_tree.specs.declared.reading.DocsFault.TheVariants.{NotJson, NotWhole, NotAnArray}
-use Rattle.mp_tree.specs.declared.reading.ReadFault.{ReadFault}
-use Rattle.mp_tree.specs.declared.reading.ReadFault.TheVariants as fault
+use Rattle.mp_tree.specs.declared.fault.DocsFault.{DocsFault}
+use Rattle.mp_tree.specs.declared.fault.DocsFault.TheVariants.{NotJson, NotWhole, NotAnArray}
+use Rattle.mp_tree.specs.declared.fault.ReadFault.{ReadFault}
+use Rattle.mp_tree.specs.declared.fault.ReadFault.TheVariants as fault
 
 -- ---- reading
 
@@ -49,7 +49,7 @@ read bytes = option_and_then document_from (reading bytes)
 
 -- ---- the elements of the array that the bytes are, or the first fault: not JSON, a number that is not whole, no array
 
--- the elements of a list, and a fault for any other document
+-- the elements of an array, and a fault for any other document
 abbrev pub elements : Document → Result Items DocsFault
 elements (list ds) = Ok ds
 elements _ = Err NotAnArray

@@ -1,5 +1,5 @@
 // From `serde_json`'s value to a document, by value: texts and names are moved.
-ghost use Rattle.std.specs.Prelude.{◌≡◌, ◌≢◌, None, Some, Err, IfOk, option_map};
+ghost use Rattle.std.specs.Prelude.{◌≡◌, ◌≢◌, ◌≤◌, length, None, Some, Err, IfOk, option_map};
 ghost use Rattle.serde_json.specs.View.{view, items_view, members_view, number_view};
 ghost use Rattle.mp_tree.specs.View.{document, items, number_of};
 ghost use Rattle.mp_tree.specs.Private.Entries.{members};
@@ -95,7 +95,9 @@ fn members_of(values: Map<String, Value>, alloc: Global) -> Result<BTreeMap<Stri
         → members_from (members_view values.entries) ≡ None }
     ensures is_json { result ≢ Err Unread.NotJson }
 {
-    if values.len() <= FEW {
+    if values.len() <= 1 {
+        one_member_of(values, alloc)
+    } else if values.len() <= FEW {
         few_members_of(values, alloc)
     } else {
         many_members_of(values, alloc)
@@ -134,6 +136,26 @@ fn few_members_of(
 {
     let mut docs = BTreeMap::new(alloc);
     for (name, value) in values {
+        drop(docs.insert(name, doc_of(value, alloc)?)?);
+    }
+    Ok(docs)
+}
+
+// The same of one member or none: to take it out costs less than to walk the map.
+#[cycle(doc_of)]
+fn one_member_of(
+    mut values: Map<String, Value>,
+    alloc: Global,
+) -> Result<BTreeMap<String, Doc>, Unread>
+    requires { length values.entries ≤ 1 }
+    ensures ok { IfOk result (λ docs. members_from (members_view values.entries)
+        ≡ Some (members docs.entries)) }
+    ensures not_whole { result ≡ Err Unread.NotWhole
+        → members_from (members_view values.entries) ≡ None }
+    ensures is_json { result ≢ Err Unread.NotJson }
+{
+    let mut docs = BTreeMap::new(alloc);
+    if let Some((name, value)) = values.pop_first() {
         drop(docs.insert(name, doc_of(value, alloc)?)?);
     }
     Ok(docs)

@@ -11,7 +11,7 @@ use std::collections::BTreeMap;
 /// A JSON document (RFC 8259) whose numbers are whole: what replicas keep, and what a merge patch is written as.
 ///
 /// `Members` has each name once, in the order of the names' UTF-8 bytes.
-#[derive(Drop)]
+#[derive(Debug, Drop)]
 pub enum Doc {
     /// `null`
     Null,
@@ -57,7 +57,7 @@ impl Doc {
         is_same(self, other)
     }
 
-    /// Whether the depth is at most `limit`. A scalar has depth 0; a list or an object is one deeper than its deepest part,
+    /// Whether the depth is at most `limit`. A scalar has depth 0; an array or an object is one deeper than its deepest part,
     /// and 1 where it is empty.
     ///
     /// It takes no memory, looks at each part once at most, and stops at the first part that is too deep.

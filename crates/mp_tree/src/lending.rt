@@ -9,7 +9,7 @@ ghost use Rattle.mp_tree.specs.Rows.{doc_row, items_row, members_row};
 use crate::doc::Doc;
 use std::collections::BTreeMap;
 
-/// The elements of a document that is a list, lent for writing: what is left there is the document's. None for any other
+/// The elements of a document that is an array, lent for writing: what is left there is the document's. None for any other
 /// document. Takes no memory.
 ///
 /// ```text

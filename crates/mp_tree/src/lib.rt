@@ -5,6 +5,7 @@ mod building;
 mod comparing;
 mod converting;
 mod doc;
+mod fault;
 pub mod laws;
 // Public, since a proof by hand in mp_pointer names the contracts of its functions.
 pub mod lending;
@@ -15,7 +16,8 @@ mod whole;
 mod writing;
 
 pub use doc::Doc;
+pub use fault::{DocsFault, ReadFault};
 pub use lending::{items_mut, members_mut};
-pub use reading::{DEPTH_LIMIT, DocsFault, ReadFault, read_doc, read_docs};
+pub use reading::{DEPTH_LIMIT, read_doc, read_docs};
 pub use whole::Whole;
 pub use writing::{write_doc, write_text};

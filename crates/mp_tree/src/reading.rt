@@ -7,30 +7,13 @@ ghost use Rattle.mp_tree.specs.Text.{document_in, documents_in, read, reading};
 
 use crate::converting::{Unread, doc_of};
 use crate::doc::Doc;
+use crate::fault::{DocsFault, ReadFault};
 use serde_json::Value;
 use std::alloc::Global;
-use thiserror::Error;
 
 /// The depth of the deepest document that is read on its own, so that it may stand in an array
 /// within `serde_json`'s nesting of 127. What a patch places is held within it too.
 pub const DEPTH_LIMIT: u32 = 126;
-
-/// Why bytes gave no document.
-#[derive(Clone, Copy, Debug, Drop, PartialEq, Eq, Error)]
-pub enum ReadFault {
-    /// no JSON text of nesting at most 127, or not UTF-8
-    #[error("not JSON")]
-    NotJson,
-    /// a number with a fraction or an exponent, or outside -2^63 to 2^64 - 1
-    #[error("number not whole")]
-    NotWhole,
-    /// the depth is 127
-    #[error("too deep")]
-    TooDeep,
-    /// memory ran out
-    #[error("out of memory")]
-    OutOfMemory,
-}
 
 /// The document that a JSON text (RFC 8259) is.
 ///
@@ -56,37 +39,6 @@ pub fn read_doc(alloc: Global, bytes: &[u8]) -> Result<Doc, ReadFault>
     }
 }
 
-impl From<Unread> for ReadFault {
-    ghost use Rattle.mp_tree.specs.Private.Faults.{read_fault};
-
-    ghost from_gives = { λ unread fault. fault ≡ read_fault unread };
-
-    fn from(unread: Unread) -> ReadFault {
-        match unread {
-            Unread::NotJson => ReadFault::NotJson,
-            Unread::NotWhole => ReadFault::NotWhole,
-            Unread::OutOfMemory => ReadFault::OutOfMemory,
-        }
-    }
-}
-
-/// Why bytes gave no list of documents.
-#[derive(Clone, Copy, Debug, Drop, PartialEq, Eq, Error)]
-pub enum DocsFault {
-    /// no JSON text of nesting at most 127, or not UTF-8
-    #[error("not JSON")]
-    NotJson,
-    /// a number with a fraction or an exponent, or outside -2^63 to 2^64 - 1
-    #[error("number not whole")]
-    NotWhole,
-    /// the value is no array
-    #[error("not an array")]
-    NotAnArray,
-    /// memory ran out
-    #[error("out of memory")]
-    OutOfMemory,
-}
-
 /// The documents that stand in one JSON array (RFC 8259), as `jq -s .` makes it from several texts.
 ///
 /// The first fault that holds is answered: `NotJson` where `serde_json` has no reading (the bytes are not UTF-8,
@@ -106,20 +58,6 @@ pub fn read_docs(alloc: Global, bytes: &[u8]) -> Result<Vec<Doc>, DocsFault>
     match read_tree(alloc, bytes)? {
         Doc::Items(docs) => Ok(docs),
         _ => Err(DocsFault::NotAnArray),
-    }
-}
-
-impl From<Unread> for DocsFault {
-    ghost use Rattle.mp_tree.specs.Private.Faults.{docs_fault};
-
-    ghost from_gives = { λ unread fault. fault ≡ docs_fault unread };
-
-    fn from(unread: Unread) -> DocsFault {
-        match unread {
-            Unread::NotJson => DocsFault::NotJson,
-            Unread::NotWhole => DocsFault::NotWhole,
-            Unread::OutOfMemory => DocsFault::OutOfMemory,
-        }
     }
 }
 

@@ -6,7 +6,7 @@ ghost use Rattle.std.specs.Prelude.{◌≡◌, ◌^◌, ◌-◌, ◌≤ℤ◌, p
 /// ```text
 /// Doc::Whole(Whole::from_i64(-3))  // the document -3
 /// ```
-#[derive(Clone, Copy, PartialEq, Eq, Drop)]
+#[derive(Clone, Copy, Debug, PartialEq, Eq, Drop)]
 pub struct Whole {
     value: i128,
     ghost at_least: { negsuc (2 ^ 63 - 1) ≤ℤ value },

@@ -33,6 +33,22 @@ fn read_doc(rt: HostRuntime) -> Result<(), Fail> {
     tell(&rt, watch_read_doc(rt.alloc()))
 }
 
+/// What is too deep is read before its depth is known.
+fn watch_read_too_deep(alloc: Global) -> Option<Seen> {
+    let mut text = "[".repeat(alloc, 127).ok()?;
+    text.push_str("]".repeat(alloc, 127).ok()?.as_str()).ok()?;
+    Some(match mp_tree::read_doc(alloc, text.as_bytes()) {
+        Err(ReadFault::TooDeep) => Seen::answer_if(true),
+        Err(ReadFault::OutOfMemory) => Seen::NoMemory,
+        _ => Seen::Wrong,
+    })
+}
+
+#[test]
+fn read_too_deep(rt: HostRuntime) -> Result<(), Fail> {
+    tell(&rt, watch_read_too_deep(rt.alloc()))
+}
+
 fn watch_read_docs(alloc: Global) -> Option<Seen> {
     let wanted = docs_of(alloc, "[1,{}]")?;
     Some(match mp_tree::read_docs(alloc, b"[1,{}]") {

@@ -6,11 +6,12 @@ use mp_tree::Doc;
 use std::alloc::Global;
 use std::test::Fail;
 
-const TARGET: &str = r#"{"a":5,"k":0}"#;
+/// A text is made an object, an object a text, and a text goes away.
+const TARGET: &str = r#"{"a":"text","k":0,"t":{"d":"text"},"u":"text"}"#;
 
-const CHANGE: &str = r#"{"a":{"b":1,"c":null},"z":{"y":2}}"#;
+const CHANGE: &str = r#"{"a":{"b":1,"c":null},"t":"new","u":null,"z":{"y":2}}"#;
 
-const MERGED: &str = r#"{"a":{"b":1},"k":0,"z":{"y":2}}"#;
+const MERGED: &str = r#"{"a":{"b":1},"k":0,"t":"new","z":{"y":2}}"#;
 
 /// Two patches with three clashes, and where they clash.
 const CLASHING: &str =

@@ -5,7 +5,7 @@ use std::mem;
 use std::process::Abort;
 use std::test::Fail;
 
-/// Lists and maps within one another, with names that are empty or need escapes.
+/// Arrays and objects within one another, with names that are empty or need escapes.
 const NESTED: &str = r#"{"a/b":{"":[1,{"~":2}]}}"#;
 
 /// Pointers into that document, and the parts that are there.

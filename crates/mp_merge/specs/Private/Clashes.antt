@@ -15,7 +15,7 @@ abbrev mutual
   WalksClashes s (object ps) (Some (object qs)) places = WalksMembers s ps qs places
   WalksClashes s p (Some q) places = IsOneClash s p q places
 
-  -- name by name, where both have maps
+  -- name by name, where both have objects
   pub WalksMembers : Path → Members → Members → List Path → Type 0
   WalksMembers s no_members qs places = places ≡ []
   WalksMembers s (member n p ps) qs places =

@@ -34,7 +34,7 @@ IsOneEdit s p t found =
     ((t ≡ part_left s (Some p)) × (found ≡ []))
     ⊎ ((t ≢ part_left s (Some p)) × (found ≡ (guard_of s t, edit_to s (look_of t []) (part_left s (Some p))) ∷ []))
 
--- at most one of the two is a map
+-- at most one of the two is an object
 abbrev pub NotBothMaps : Document → Option Document → Type 0
 NotBothMaps p t = look p [] ≡ an_object → look_of t [] ≢ an_object
 
@@ -44,7 +44,7 @@ abbrev mutual
   AreEdits s (object ps) (Some (object ds)) found = AreMemberEdits s ps ds found
   AreEdits s p t found = IsOneEdit s p t found
 
-  -- name by name, where both have maps
+  -- name by name, where both have objects
   pub AreMemberEdits : Path → Members → Members → List GuardedEdit → Type 0
   AreMemberEdits s no_members ds found = found ≡ []
   AreMemberEdits s (member n p ps) ds found =

@@ -10,7 +10,7 @@ abbrev pub earlier_or : Option Document → Document → Document
 earlier_or None p = p
 earlier_or (Some j) p = j
 
--- a map is joined name by name
+-- an object is joined name by name
 abbrev pub union_over : Option Document → Members → Members → Document
 union_over None ps both = object ps
 union_over (Some (object js)) ps both = object both

@@ -19,7 +19,7 @@ abbrev pub IsElementFault : Refusal FormCause → Document → Type 0
 IsElementFault (By cause) d = IsFaulty cause d
 IsElementFault OutOfMemory d = ⊤
 
--- ---- what the reading of a map has found where it gives the map up
+-- ---- what the reading of an object has found where it gives the object up
 
 -- the path is no pointer, or the origin, where there is one
 abbrev pub FindsNoPointer : Need → List ℕ → Document → Type 0
@@ -73,7 +73,7 @@ IsValueFault OutOfMemory d = ⊤
 
 -- ---- an operation but for its value
 
--- the map carries what the draft has
+-- the object carries what the draft has
 abbrev pub Drafts : Draft → Members → Type 0
 Drafts (Whole op) ms = Carries ms (needed_members (operation_of op))
 Drafts (Add path) ms = Carries ms (op_member (codes "add") ∷ path_member path ∷ [])

@@ -1,10 +1,10 @@
 -- The fault that is answered where a reading fails. Only private clauses cite it.
 use Rattle.mp_tree.specs.declared.converting.Unread.{Unread}
 use Rattle.mp_tree.specs.declared.converting.Unread.TheVariants as unread
-use Rattle.mp_tree.specs.declared.reading.DocsFault.{DocsFault}
-use Rattle.mp_tree.specs.declared.reading.DocsFault.TheVariants.{NotJson, NotWhole, OutOfMemory}
-use Rattle.mp_tree.specs.declared.reading.ReadFault.{ReadFault}
-use Rattle.mp_tree.specs.declared.reading.ReadFault.TheVariants as fault
+use Rattle.mp_tree.specs.declared.fault.DocsFault.{DocsFault}
+use Rattle.mp_tree.specs.declared.fault.DocsFault.TheVariants.{NotJson, NotWhole, OutOfMemory}
+use Rattle.mp_tree.specs.declared.fault.ReadFault.{ReadFault}
+use Rattle.mp_tree.specs.declared.fault.ReadFault.TheVariants as fault
 
 -- of a list of documents
 abbrev pub docs_fault : Unread → DocsFault

@@ -5,19 +5,15 @@ use Rattle.mp_tree.specs.Private.Entries.{members}
 use Rattle.mp_tree.specs.declared.doc.Doc.{Doc}
 use Rattle.mp_merge.specs.Private.Edits.{lists_of}
 use Rattle.mp_pointer.proofs.Facts.{lent_part}
-use Rattle.mp_merge.proofs.Clashes.Conflicts.{back_again}
 use Rattle.mp_merge.proofs.Rewritings.Walk.{all_edits, both_maps, edits_after_one, renamed}
 use Rattle.mp_merge.proofs.Collections.Members.{document_of_map, looked_up, pass_change, no_changes}
 use Rattle.mp_merge.proofs.rewriting.+push_edits.Goals as goal
 
-pub push_edits-returns-in_ok-push_member_edits-in-Members-there-clause-path : goal.push_edits-returns-in_ok-push_member_edits-in-Members-there-clause-path
-push_edits-returns-in_ok-push_member_edits-in-Members-there-clause-path t c =
-    back_again c.args.path.now c.args.name.now c.push.new.self c.push_member_edits.new.path c.pop.new.self c.in_ok-push-in-Members-there.ensures.ok c.in_ok-push_member_edits-in-Members-there.ensures.path c.pop.ensures
-
-pub push_edits-returns-in_ok-push_member_edits-in-Members-there-clause-edits : goal.push_edits-returns-in_ok-push_member_edits-in-Members-there-clause-edits
-push_edits-returns-in_ok-push_member_edits-in-Members-there-clause-edits t c =
-    let target = ap (option_map (λ (v : Bor Doc). document v.now)) c.in-Some.is ∙ ap Some (document_of_map c.in-Members-there.entries c.in-Members-there.is) in
-    both_maps _ _ _ _ _ _ _ _ (document_of_map c.in-Members.changes c.in-Members.is) target c.in_ok-push-in-Members-there.ensures.ok c.in_ok-push_member_edits-in-Members-there.ensures.edits
+pub push_edits-returns-in-Members-Members-clause-edits : goal.push_edits-returns-in-Members-Members-clause-edits
+push_edits-returns-in-Members-Members-clause-edits t c =
+    let both = c.in-Members-Members in
+    let target = ap (option_map (λ (v : Bor Doc). document v.now)) c.in-Some.is ∙ ap Some (document_of_map both.entries both.is-1) in
+    both_maps _ _ _ _ _ _ _ _ (document_of_map both.changes both.is-0) target c.in_ok-push.ensures.ok c.in_ok-push_member_edits.ensures.edits
 
 pub push_member_edits-loop-name-preserved : goal.push_member_edits-loop-name-preserved
 push_member_edits-loop-name-preserved t c =

@@ -5,8 +5,8 @@ use Rattle.mp_tree.proofs.Facts.{IsDocument-document}
 use Rattle.mp_patch.specs.Run.{IsFaultOf}
 use Rattle.mp_patch.specs.View.{operation_of, operations_of}
 use Rattle.mp_patch.specs.declared.fault.ApplyFault.{ApplyFault}
-use Rattle.mp_patch.proofs.Depth.{Step-depth}
-use Rattle.mp_patch.proofs.Runs.{run_further, run_end, few_done, fault_next}
+use Rattle.mp_patch.proofs.Operations.Depth.{Step-depth}
+use Rattle.mp_patch.proofs.Runs.Growth.{run_further, run_end, few_done, fault_next}
 use Rattle.mp_patch.proofs.applying.apply_once.Goals as goal
 
 pub loop-op-init : goal.loop-op-init

@@ -3,7 +3,7 @@ use Rattle.std.specs.Vec.Iter.{into_iter_items}
 use Rattle.mp_tree.specs.Document.{depth, depth_limit}
 use Rattle.mp_tree.specs.View.{document}
 use Rattle.mp_patch.specs.Private.Bounds.{Bounds}
-use Rattle.mp_patch.proofs.Runs.{HasRunTo}
+use Rattle.mp_patch.proofs.Runs.Growth.{HasRunTo}
 use Rattle.mp_patch.proofs.applying.apply_once.Given as goal
 
 abbrev pub invariant-loop-op : goal.invariant-loop-op

@@ -5,8 +5,8 @@ use Rattle.mp_patch.specs.Operation.{Operation}
 use Rattle.mp_patch.specs.Run.{Runs, IsFaultOf}
 use Rattle.mp_patch.specs.View.{operation_of, operations_of}
 use Rattle.mp_patch.specs.declared.fault.ApplyFault.{ApplyFault}
-use Rattle.mp_patch.proofs.Depth.{Step-depth}
-use Rattle.mp_patch.proofs.Runs.{Runs-more, fault_there, operation_there, take_next}
+use Rattle.mp_patch.proofs.Operations.Depth.{Step-depth}
+use Rattle.mp_patch.proofs.Runs.Growth.{Runs-more, fault_there, operation_there, take_next}
 use Rattle.mp_patch.proofs.applying.apply_owned.Goals as goal
 
 pub loop-number-preserved : goal.loop-number-preserved

@@ -7,7 +7,7 @@ use Rattle.mp_tree.specs.declared.doc.Doc.{Doc}
 use Rattle.mp_tree.proofs.Facts.{members-inserted}
 use Rattle.mp_patch.specs.Operation.{AddsTo}
 use Rattle.mp_patch.specs.Refusal.{LacksPlace}
-use Rattle.mp_patch.proofs.SingleSteps.{value_inserted}
+use Rattle.mp_patch.proofs.Operations.SingleSteps.{value_inserted}
 use Rattle.mp_patch.proofs.containers.insert.Goals as goal
 
 pub returns-in_ok-insert : goal.returns-in_ok-insert

@@ -1,5 +1,5 @@
 use Rattle.std.proofs.Common.{◌≡◌, ◌≤◌, length, arith}
-use Rattle.mp_patch.proofs.SingleSteps.{element_inserted, element_place, no_element_place, in_list}
+use Rattle.mp_patch.proofs.Operations.SingleSteps.{element_inserted, element_place, no_element_place, in_list}
 use Rattle.mp_patch.proofs.containers.insert_element.Goals as goal
 
 pub returns-in_default : goal.returns-in_default

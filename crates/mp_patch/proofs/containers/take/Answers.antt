@@ -5,7 +5,7 @@ use Rattle.mp_tree.specs.declared.doc.Doc.{Doc}
 use Rattle.mp_tree.proofs.Facts.{find-members, members-removed}
 use Rattle.mp_patch.specs.Private.Steps.{Takes}
 use Rattle.mp_pointer.proofs.Facts.{no_child}
-use Rattle.mp_patch.proofs.SingleSteps.{value_removed}
+use Rattle.mp_patch.proofs.Operations.SingleSteps.{value_removed}
 use Rattle.mp_patch.proofs.containers.take.Goals as goal
 
 pub returns-in-Some : goal.returns-in-Some

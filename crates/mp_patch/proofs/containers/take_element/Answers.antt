@@ -1,6 +1,6 @@
 use Rattle.std.proofs.Common.{◌<◌, ◌^◌, length, arith}
 use Rattle.mp_pointer.proofs.Facts.{no_index_here, past_end}
-use Rattle.mp_patch.proofs.SingleSteps.{element_removed}
+use Rattle.mp_patch.proofs.Operations.SingleSteps.{element_removed}
 use Rattle.mp_patch.proofs.containers.take_element.Goals as goal
 
 pub returns-in_err-index : goal.returns-in_err-index

@@ -1,4 +1,4 @@
-use Rattle.mp_patch.proofs.ValueLaws.{forms_have_documents}
+use Rattle.mp_patch.proofs.Forms.Values.{forms_have_documents}
 use Rattle.mp_patch.proofs.laws.forms_have_documents.Goals as goal
 
 pub returns : goal.returns

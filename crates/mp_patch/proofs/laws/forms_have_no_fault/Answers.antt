@@ -1,4 +1,4 @@
-use Rattle.mp_patch.proofs.FaultLaws.{forms_have_no_fault}
+use Rattle.mp_patch.proofs.Forms.Faults.{forms_have_no_fault}
 use Rattle.mp_patch.proofs.laws.forms_have_no_fault.Goals as goal
 
 pub returns : goal.returns

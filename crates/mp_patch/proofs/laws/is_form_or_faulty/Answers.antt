@@ -1,4 +1,4 @@
-use Rattle.mp_patch.proofs.SomeForm.{is_form_or_faulty}
+use Rattle.mp_patch.proofs.Forms.SomeForm.{is_form_or_faulty}
 use Rattle.mp_patch.proofs.laws.is_form_or_faulty.Goals as goal
 
 pub returns : goal.returns

@@ -1,4 +1,4 @@
-use Rattle.mp_patch.proofs.FaultLaws.{has_one_fault}
+use Rattle.mp_patch.proofs.Forms.Faults.{has_one_fault}
 use Rattle.mp_patch.proofs.laws.one_fault.Goals as goal
 
 pub returns : goal.returns

@@ -1,4 +1,4 @@
-use Rattle.mp_patch.proofs.TakenOperations.{operations_are_taken}
+use Rattle.mp_patch.proofs.Operations.Taken.{operations_are_taken}
 use Rattle.mp_patch.proofs.laws.operations_are_taken.Goals as goal
 
 pub returns : goal.returns

@@ -1,4 +1,4 @@
-use Rattle.mp_patch.proofs.ValueLaws.{have_documents}
+use Rattle.mp_patch.proofs.Forms.Values.{have_documents}
 use Rattle.mp_patch.proofs.laws.patches_have_documents.Goals as goal
 
 pub returns : goal.returns

@@ -1,4 +1,4 @@
-use Rattle.mp_patch.proofs.RunLaws.{stays_shallow}
+use Rattle.mp_patch.proofs.Runs.Laws.{stays_shallow}
 use Rattle.mp_patch.proofs.laws.runs_stay_shallow.Goals as goal
 
 pub returns : goal.returns

@@ -1,4 +1,4 @@
-use Rattle.mp_patch.proofs.FormLaws.{shapes_are_forms}
+use Rattle.mp_patch.proofs.Forms.Laws.{shapes_are_forms}
 use Rattle.mp_patch.proofs.laws.shapes_are_forms.Goals as goal
 
 pub returns : goal.returns

@@ -1,4 +1,4 @@
-use Rattle.mp_patch.proofs.ReadableShapes as readable
+use Rattle.mp_patch.proofs.Shapes.Readable as readable
 use Rattle.mp_patch.proofs.laws.shapes_are_readable.Goals as goal
 
 pub returns : goal.returns

@@ -3,8 +3,7 @@ use Rattle.std.proofs.lemmas.List.{drop_more}
 use Rattle.mp_tree.specs.Document.{depth, items_depth, members_depth}
 use Rattle.mp_tree.specs.View.{document, items}
 use Rattle.mp_tree.specs.Private.Entries.{members}
-use Rattle.mp_tree.proofs.Facts.{document-Members}
-use Rattle.mp_patch.proofs.Depth.{members_depth-values}
+use Rattle.mp_tree.proofs.Facts.{document-Members, members_depth-members}
 use Rattle.mp_patch.proofs.measuring.+measure.Goals as goal
 
 -- an element is too deep
@@ -24,7 +23,7 @@ pub depth_of_members-returns-in_err-depth_within : goal.depth_of_members-returns
 depth_of_members-returns-in_err-depth_within t c =
     let l = c.loop-value in
     let left : items_depth (items l.value-iterator) ≡ max (depth (document c.in-Some.value.now)) (items_depth (items c.next.new.self)) = ap (λ ds. items_depth (items ds)) c.in-Some.ensures.steps in
-    let all = members_depth-values c.args.entries.now.entries c.values-value-items.ensures.ordered in
+    let all = members_depth-members c.args.entries.now.entries c.values-value-items.ensures.ordered in
     let deep : c.args.limit < members_depth (members c.args.entries.now.entries) = omega (arith, c.in_err-depth_within.ensures) in
     rw c.from_residual.ensures deep
 
@@ -32,7 +31,7 @@ pub depth_of_members-returns : goal.depth_of_members-returns
 depth_of_members-returns t c =
     let l = c.loop-value in
     let left : items_depth (items l.value-iterator) ≡ 0 = ap (λ ds. items_depth (items ds)) c.in-None.ensures.steps.0 in
-    let all = members_depth-values c.args.entries.now.entries c.values-value-items.ensures.ordered in
+    let all = members_depth-members c.args.entries.now.entries c.values-value-items.ensures.ordered in
     (omega arith, l.invariant.within)
 
 pub depth_within-returns-in_err-deepest-in-Members : goal.depth_within-returns-in_err-deepest-in-Members

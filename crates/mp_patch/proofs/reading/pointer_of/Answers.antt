@@ -1,5 +1,5 @@
 use Rattle.std.proofs.Common.{sym, ◌∙◌}
-use Rattle.mp_patch.proofs.Forms.{no_pointer, no_slash_is_no_memory, bad_tilde_is_no_memory}
+use Rattle.mp_patch.proofs.Forms.Reading.{no_pointer, no_slash_is_no_memory, bad_tilde_is_no_memory}
 use Rattle.mp_patch.proofs.reading.pointer_of.Goals as goal
 
 pub returns-in-Err-NoSlash : goal.returns-in-Err-NoSlash

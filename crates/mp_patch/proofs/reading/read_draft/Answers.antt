@@ -5,7 +5,7 @@ use Rattle.mp_tree.specs.Document.{object}
 use Rattle.mp_tree.specs.Private.Entries.{members}
 use Rattle.mp_patch.specs.Form.{text_at}
 use Rattle.mp_patch.specs.Private.Names.{name_of}
-use Rattle.mp_patch.proofs.Forms.{origin_fault}
+use Rattle.mp_patch.proofs.Forms.Reading.{origin_fault}
 use Rattle.mp_patch.proofs.reading.read_draft.Goals as goal
 
 pub returns-in_err-origin-in-Move : goal.returns-in_err-origin-in-Move

@@ -3,7 +3,7 @@ use Rattle.mp_tree.specs.Document.{list}
 use Rattle.mp_tree.specs.View.{items}
 use Rattle.mp_patch.specs.Form.{IsFormFault}
 use Rattle.mp_patch.specs.declared.fault.FormFault.{FormFault}
-use Rattle.mp_patch.proofs.Forms.{form_pushed, fault_there}
+use Rattle.mp_patch.proofs.Forms.Reading.{form_pushed, fault_there}
 use Rattle.mp_patch.proofs.reading.read_ops.Goals as goal
 
 pub returns-in-Err : goal.returns-in-Err

@@ -3,7 +3,7 @@ use Rattle.std.proofs.lemmas.Result.{err_from_is_err_and}
 use Rattle.mp_tree.specs.Private.Entries.{members}
 use Rattle.mp_patch.specs.Private.Reading.{Drafts}
 use Rattle.mp_patch.specs.declared.reading.Draft.{Draft}
-use Rattle.mp_patch.proofs.Forms.{value_fault}
+use Rattle.mp_patch.proofs.Forms.Reading.{value_fault}
 use Rattle.mp_patch.proofs.reading.read_owned_members.Goals as goal
 
 pub returns-in_err-value_out-in-Add : goal.returns-in_err-value_out-in-Add

@@ -2,7 +2,7 @@ use Rattle.std.proofs.Common.{ap, ◌∙◌}
 use Rattle.mp_tree.specs.View.{document}
 use Rattle.mp_tree.specs.Private.Entries.{members}
 use Rattle.mp_tree.proofs.Facts.{document-Members}
-use Rattle.mp_patch.proofs.Forms.{form_of_map}
+use Rattle.mp_patch.proofs.Forms.Reading.{form_of_map}
 use Rattle.mp_patch.proofs.reading.read_owned_op.Goals as goal
 
 pub returns-in-Members : goal.returns-in-Members

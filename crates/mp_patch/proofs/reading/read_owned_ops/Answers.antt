@@ -5,7 +5,7 @@ use Rattle.mp_tree.specs.View.{items}
 use Rattle.mp_patch.specs.Form.{IsFormFault}
 use Rattle.mp_patch.specs.declared.fault.FormFault.{FormFault}
 use Rattle.mp_patch.specs.Private.Faults.{fault_of_element}
-use Rattle.mp_patch.proofs.Forms.{read_more, read_end, read_fault}
+use Rattle.mp_patch.proofs.Forms.Reading.{read_more, read_end, read_fault}
 use Rattle.mp_patch.proofs.reading.read_owned_ops.Goals as goal
 
 pub loop-element-preserved : goal.loop-element-preserved

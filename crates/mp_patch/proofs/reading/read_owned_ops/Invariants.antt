@@ -1,5 +1,5 @@
 use Rattle.std.specs.Vec.Iter.{into_iter_items}
-use Rattle.mp_patch.proofs.Forms.{AreReadTo}
+use Rattle.mp_patch.proofs.Forms.Reading.{AreReadTo}
 use Rattle.mp_patch.proofs.reading.read_owned_ops.Given as goal
 
 abbrev pub invariant-loop-element : goal.invariant-loop-element

@@ -3,7 +3,7 @@ use Rattle.std.proofs.lemmas.List.{drop_all}
 use Rattle.std.proofs.lemmas.Result.{on_ok_weaker}
 use Rattle.serde.specs.Event.{Logs, seq_begins}
 use Rattle.serde_json.specs.Events.{SendsItems}
-use Rattle.mp_patch.proofs.WrittenShapes.{shapes_data, items_len-shapes}
+use Rattle.mp_patch.proofs.Shapes.Written.{shapes_data, items_len-shapes}
 use Rattle.mp_patch.proofs.serializing.send_operations.Goals as goal
 
 pub returns : goal.returns

@@ -1,7 +1,7 @@
 use Rattle.std.proofs.Common.{drop}
 use Rattle.serde.specs.Event.{Log}
 use Rattle.serde_json.specs.Events.{SendsItems}
-use Rattle.mp_patch.proofs.WrittenShapes.{shapes_data}
+use Rattle.mp_patch.proofs.Shapes.Written.{shapes_data}
 use Rattle.mp_patch.proofs.serializing.send_operations.Given as goal
 
 -- whatever sends the operations that are left, and the end, from here, sends all of them from the start

@@ -1,6 +1,6 @@
 use Rattle.mp_tree.specs.View.{document}
 use Rattle.mp_tree.proofs.Facts.{IsDocument-document}
-use Rattle.mp_patch.proofs.Bounds.{added-bounds}
+use Rattle.mp_patch.proofs.Operations.Bounds.{added-bounds}
 use Rattle.mp_patch.proofs.steps.add.Goals as goal
 
 pub returns-clause-bounds : goal.returns-clause-bounds

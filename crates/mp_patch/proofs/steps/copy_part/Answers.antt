@@ -1,6 +1,6 @@
 use Rattle.std.proofs.Common.{Some, ap, sym, ◌∙◌}
 use Rattle.mp_tree.specs.View.{document}
-use Rattle.mp_patch.proofs.Moves.{copied}
+use Rattle.mp_patch.proofs.Operations.Moves.{copied}
 use Rattle.mp_patch.proofs.steps.copy_part.Goals as goal
 
 pub returns-clause-answer : goal.returns-clause-answer

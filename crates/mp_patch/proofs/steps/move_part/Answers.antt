@@ -6,8 +6,8 @@ use Rattle.mp_tree.proofs.Facts.{IsDocument-document}
 use Rattle.mp_pointer.specs.Spelling.{IsProperPrefix}
 use Rattle.mp_pointer.proofs.Facts.{are_same_tokens-Decides}
 use Rattle.mp_patch.specs.Private.Bounds.{Bounds}
-use Rattle.mp_patch.proofs.Bounds.{part-bounds, Removes-bounds, added-bounds}
-use Rattle.mp_patch.proofs.Moves.{moved, not_moved, stays}
+use Rattle.mp_patch.proofs.Operations.Bounds.{part-bounds, Removes-bounds, added-bounds}
+use Rattle.mp_patch.proofs.Operations.Moves.{moved, not_moved, stays}
 use Rattle.mp_patch.proofs.steps.move_part.Goals as goal
 
 pub returns-in-Some-clause-answer : goal.returns-in-Some-clause-answer

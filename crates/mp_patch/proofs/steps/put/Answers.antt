@@ -3,7 +3,7 @@ use Rattle.mp_tree.specs.View.{document}
 use Rattle.mp_tree.specs.declared.doc.Doc.{Doc}
 use Rattle.mp_patch.specs.Refusal.{LacksPlace}
 use Rattle.mp_patch.specs.Private.Steps.{Inserts}
-use Rattle.mp_patch.proofs.SingleSteps.{at_ends, added}
+use Rattle.mp_patch.proofs.Operations.SingleSteps.{at_ends, added}
 use Rattle.mp_patch.proofs.steps.put.Goals as goal
 
 pub returns-in-Some-edit_part : goal.returns-in-Some-edit_part

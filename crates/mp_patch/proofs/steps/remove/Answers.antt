@@ -4,7 +4,7 @@ use Rattle.mp_tree.specs.declared.doc.Doc.{Doc}
 use Rattle.mp_pointer.specs.Part.{child}
 use Rattle.mp_patch.specs.Operation.{RemovesFrom}
 use Rattle.mp_patch.specs.Private.Steps.{Takes}
-use Rattle.mp_patch.proofs.SingleSteps.{at_ends, removed, nothing_there}
+use Rattle.mp_patch.proofs.Operations.SingleSteps.{at_ends, removed, nothing_there}
 use Rattle.mp_patch.proofs.steps.remove.Goals as goal
 
 pub returns-in_default-edit_part : goal.returns-in_default-edit_part

@@ -6,8 +6,8 @@ use Rattle.mp_pointer.specs.Spelling.{Tokens}
 use Rattle.mp_patch.specs.declared.fault.Cause.TheVariants.{TooDeep}
 use Rattle.mp_patch.specs.declared.fault.Refusal.TheVariants.{By}
 use Rattle.mp_tree.proofs.Facts.{IsDocument-document}
-use Rattle.mp_patch.proofs.Bounds.{replaced-bounds}
-use Rattle.mp_patch.proofs.SingleSteps.{replaced, set_means}
+use Rattle.mp_patch.proofs.Operations.Bounds.{replaced-bounds}
+use Rattle.mp_patch.proofs.Operations.SingleSteps.{replaced, set_means}
 use Rattle.mp_patch.proofs.steps.replace.Goals as goal
 use Rattle.mp_pointer.proofs.Facts.{to_end}
 

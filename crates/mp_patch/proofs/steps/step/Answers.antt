@@ -1,6 +1,6 @@
 use Rattle.mp_tree.specs.View.{document}
 use Rattle.mp_tree.proofs.Facts.{IsDocument-document}
-use Rattle.mp_patch.proofs.Bounds.{Removes-bounds}
+use Rattle.mp_patch.proofs.Operations.Bounds.{Removes-bounds}
 use Rattle.mp_patch.proofs.steps.step.Goals as goal
 
 pub returns-in_ok-remove-in-Remove-clause-bounds : goal.returns-in_ok-remove-in-Remove-clause-bounds

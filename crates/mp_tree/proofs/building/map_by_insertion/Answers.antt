@@ -1,4 +1,4 @@
-use Rattle.mp_tree.proofs.MapBuilding.{insert-last-passed}
+use Rattle.mp_tree.proofs.Maps.Building.{insert-last-passed}
 use Rattle.mp_tree.proofs.Passed.{Passed-step, Passed-end, over-into_iter}
 use Rattle.mp_tree.proofs.building.map_by_insertion.Goals as goal
 

@@ -2,7 +2,7 @@ use Rattle.std.proofs.Common.{string_cmp, ◌∙◌}
 use Rattle.std.proofs.lemmas.Iterator.Adapters.{YieldsList-from_vec, fact_from_collect}
 use Rattle.std.proofs.lemmas.Result.{IfOk-weaker}
 use Rattle.std.specs.BTreeMap.{IsFromIterResult}
-use Rattle.mp_tree.proofs.MapBuilding.{byte_entries-from_iter}
+use Rattle.mp_tree.proofs.Maps.Building.{byte_entries-from_iter}
 use Rattle.mp_tree.proofs.building.map_of.Goals as goal
 
 pub returns : goal.returns

@@ -6,10 +6,10 @@ use Rattle.mp_tree.specs.Document.{object}
 use Rattle.mp_tree.specs.View.{document}
 use Rattle.mp_tree.specs.Private.Entries.{members}
 use Rattle.mp_tree.specs.declared.doc.Doc.{Doc}
-use Rattle.mp_tree.proofs.MapBuilding.{seen}
-use Rattle.mp_tree.proofs.Meaning.{document-Members}
+use Rattle.mp_tree.proofs.Maps.Building.{seen}
+use Rattle.mp_tree.proofs.Documents.Meaning.{document-Members}
 use Rattle.mp_tree.proofs.Passed.{Passed-step, Passed-push}
-use Rattle.mp_tree.proofs.SameParts.{length_from_items, length_from_members, members_of_object, at_from_items, items_from_each, next_same, all_same, seen_from_members, members_from_seen}
+use Rattle.mp_tree.proofs.Documents.SameParts.{length_from_items, length_from_members, members_of_object, at_from_items, items_from_each, next_same, all_same, seen_from_members, members_from_seen}
 use Rattle.mp_tree.proofs.comparing.+same.Goals as goal
 use Rattle.mp_tree.proofs.comparing.+same.Goals.{are_same_members-then-ne-via-then-ne, are_same_members-then-ne-via-else-ne+then-not-is_same}
 

@@ -2,8 +2,8 @@ use Rattle.std.proofs.Common.{◌≡◌, ◌<◌, ℕ, length, get_or}
 use Rattle.std.specs.Iterator.Adapters.{zip_first, zip_second}
 use Rattle.mp_tree.specs.View.{document}
 use Rattle.mp_tree.specs.declared.doc.Doc.{Doc}
-use Rattle.mp_tree.proofs.MapBuilding.{seen}
-use Rattle.mp_tree.proofs.SameParts.{PassedAlike}
+use Rattle.mp_tree.proofs.Maps.Building.{seen}
+use Rattle.mp_tree.proofs.Documents.SameParts.{PassedAlike}
 use Rattle.mp_tree.proofs.comparing.+same.Given as goal
 
 abbrev pub invariant-are_same_items-loop-element : goal.invariant-are_same_items-loop-element

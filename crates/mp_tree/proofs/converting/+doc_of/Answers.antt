@@ -3,10 +3,10 @@ use Rattle.serde_json.specs.View.{items_view}
 use Rattle.serde_json.proofs.Views.{view-Object}
 use Rattle.mp_tree.specs.Document.{object}
 use Rattle.mp_tree.specs.Text.{document_from, items_from}
-use Rattle.mp_tree.proofs.MapBuilding.{seen-same, ascend_from_seen, insert-last-seen}
-use Rattle.mp_tree.proofs.FromData.{from_value, read_as, items_from-all, items_from-none, members_from-all, read_one_more, none_if_refused}
+use Rattle.mp_tree.proofs.Maps.Building.{seen-same, ascend_from_seen, insert-last-seen}
+use Rattle.mp_tree.proofs.Texts.FromData.{from_value, read_as, items_from-all, items_from-none, members_from-all, read_one_more, none_if_refused}
 use Rattle.mp_tree.proofs.Passed.{Passed-next, Passed-push, Passed-end, over-into_iter}
-use Rattle.mp_tree.proofs.Meaning.{document-Members}
+use Rattle.mp_tree.proofs.Documents.Meaning.{document-Members}
 use Rattle.mp_tree.proofs.converting.+doc_of.Goals as goal
 
 pub doc_of-returns-in_ok-members_of-in-Object-clause-ok : goal.doc_of-returns-in_ok-members_of-in-Object-clause-ok

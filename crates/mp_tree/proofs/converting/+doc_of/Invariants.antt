@@ -1,6 +1,6 @@
 use Rattle.std.proofs.Common.{◌≡◌, map}
 use Rattle.std.specs.Vec.Iter.{into_iter_items}
-use Rattle.mp_tree.proofs.FromData.{from_value, read_as, ReadMembers}
+use Rattle.mp_tree.proofs.Texts.FromData.{from_value, read_as, ReadMembers}
 use Rattle.mp_tree.proofs.Passed.{Passed}
 use Rattle.mp_tree.proofs.converting.+doc_of.Given as goal
 

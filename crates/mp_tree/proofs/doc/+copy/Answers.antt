@@ -3,8 +3,8 @@ use Rattle.std.proofs.lemmas.Result.{IfOk-weaker}
 use Rattle.mp_tree.specs.Document.{object}
 use Rattle.mp_tree.specs.View.{document, members_of}
 use Rattle.mp_tree.specs.declared.doc.Doc.{Doc}
-use Rattle.mp_tree.proofs.MapBuilding.{seen, ascend_from_seen, insert-last-seen, seen-same}
-use Rattle.mp_tree.proofs.Meaning.{document-Members}
+use Rattle.mp_tree.proofs.Maps.Building.{seen, ascend_from_seen, insert-last-seen, seen-same}
+use Rattle.mp_tree.proofs.Documents.Meaning.{document-Members}
 use Rattle.mp_tree.proofs.Passed.{Passed-push, Passed-end}
 use Rattle.mp_tree.proofs.doc.+copy.Goals as goal
 

@@ -1,6 +1,6 @@
 use Rattle.std.proofs.Common.{◌≡◌, take, map}
 use Rattle.mp_tree.specs.View.{document}
-use Rattle.mp_tree.proofs.MapBuilding.{seen}
+use Rattle.mp_tree.proofs.Maps.Building.{seen}
 use Rattle.mp_tree.proofs.Passed.{Passed}
 use Rattle.mp_tree.proofs.doc.+copy.Given as goal
 

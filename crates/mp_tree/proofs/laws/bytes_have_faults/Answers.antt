@@ -1,4 +1,4 @@
-use Rattle.mp_tree.proofs.ReadFaults.{faults_are_of_bytes, faults_are_of_arrays}
+use Rattle.mp_tree.proofs.Readings.Faults.{faults_are_of_bytes, faults_are_of_arrays}
 use Rattle.mp_tree.proofs.laws.bytes_have_faults.Goals as goal
 
 pub returns-clause-document : goal.returns-clause-document

@@ -1,4 +1,4 @@
-use Rattle.mp_tree.proofs.MapLaws.{equal_maps, removes_one_name, same_names, sets_one_name}
+use Rattle.mp_tree.proofs.Maps.Laws.{equal_maps, removes_one_name, same_names, sets_one_name}
 use Rattle.mp_tree.proofs.laws.objects_are_maps.Goals as goal
 
 pub returns-clause-names : goal.returns-clause-names

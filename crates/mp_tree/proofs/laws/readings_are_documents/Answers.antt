@@ -1,4 +1,4 @@
-use Rattle.mp_tree.proofs.ReadTexts.{reads_readable, reads_readables}
+use Rattle.mp_tree.proofs.Readings.Readable.{reads_readable, reads_readables}
 use Rattle.mp_tree.proofs.laws.readings_are_documents.Goals as goal
 
 pub returns-clause-document : goal.returns-clause-document

@@ -1,4 +1,4 @@
-use Rattle.mp_tree.proofs.RoundTrip.{read-text, read-utf8}
+use Rattle.mp_tree.proofs.Texts.RoundTrip.{read-text, read-utf8}
 use Rattle.mp_tree.proofs.laws.texts_read_back.Goals as goal
 
 pub returns-clause-readable : goal.returns-clause-readable

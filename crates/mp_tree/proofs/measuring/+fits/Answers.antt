@@ -3,10 +3,10 @@ use Rattle.std.specs.BTreeMap.{values}
 use Rattle.mp_tree.specs.Document.{depth, object, items_depth, members_depth}
 use Rattle.mp_tree.specs.View.{document, items}
 use Rattle.mp_tree.specs.Private.Entries.{members}
-use Rattle.mp_tree.proofs.Depths.{items_depth_from_each, items_depth-append, members_depth-members}
-use Rattle.mp_tree.proofs.Meaning.{document-Members}
+use Rattle.mp_tree.proofs.Documents.Depths.{items_depth_from_each, items_depth-append, members_depth-members}
+use Rattle.mp_tree.proofs.Documents.Meaning.{document-Members}
 use Rattle.mp_tree.proofs.Passed.{Passed-next, Passed-step, Passed-end}
-use Rattle.mp_tree.proofs.ReadValues.{item_depth}
+use Rattle.mp_tree.proofs.Readings.Values.{item_depth}
 use Rattle.mp_tree.proofs.measuring.+fits.Goals as goal
 
 pub are_items_within-returns-then-not-is_within : goal.are_items_within-returns-then-not-is_within

@@ -1,8 +1,8 @@
 use Rattle.std.proofs.Common.{◌≡◌, ◌≤◌, ap, ◌∙◌, subst, arith}
 use Rattle.mp_tree.specs.Document.{depth, list}
 use Rattle.mp_tree.specs.View.{document, items}
-use Rattle.mp_tree.proofs.Meaning.{document-Items}
-use Rattle.mp_tree.proofs.ReadValues.{item_depth}
+use Rattle.mp_tree.proofs.Documents.Meaning.{document-Items}
+use Rattle.mp_tree.proofs.Readings.Values.{item_depth}
 use Rattle.mp_tree.proofs.reading.read_docs.Goals as goal
 
 pub returns-in-Items-clause-depth : goal.returns-in-Items-clause-depth

@@ -3,7 +3,7 @@ use Rattle.std.proofs.lemmas.Result.{IfOk-weaker}
 use Rattle.serde_json.specs.View.{view}
 use Rattle.mp_tree.specs.View.{document}
 use Rattle.mp_tree.specs.Text.{document_from}
-use Rattle.mp_tree.proofs.ReadValues.{reading-some, reading-none, depth-from}
+use Rattle.mp_tree.proofs.Readings.Values.{reading-some, reading-none, depth-from}
 use Rattle.mp_tree.proofs.reading.read_tree.Goals as goal
 use Rattle.std.specs.Option.{option_and_then}
 

@@ -7,8 +7,8 @@ use Rattle.mp_tree.specs.Document.{object}
 use Rattle.mp_tree.specs.Text.{items_data}
 use Rattle.mp_tree.specs.View.{document, items}
 use Rattle.mp_tree.specs.Private.Entries.{members}
-use Rattle.mp_tree.proofs.IntoData.{entries_data, items_len-items, members_len-entries, members_data-entries}
-use Rattle.mp_tree.proofs.Meaning.{document-Members}
+use Rattle.mp_tree.proofs.Texts.IntoData.{entries_data, items_len-items, members_len-entries, members_data-entries}
+use Rattle.mp_tree.proofs.Documents.Meaning.{document-Members}
 use Rattle.mp_tree.proofs.serializing.+send.Goals as goal
 
 pub send-returns-in-Members : goal.send-returns-in-Members

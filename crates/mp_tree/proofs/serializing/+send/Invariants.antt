@@ -3,7 +3,7 @@ use Rattle.serde.specs.Event.{Log}
 use Rattle.serde_json.specs.Events.{SendsItems, SendsMembers}
 use Rattle.mp_tree.specs.Text.{items_data}
 use Rattle.mp_tree.specs.View.{items}
-use Rattle.mp_tree.proofs.IntoData.{entries_data}
+use Rattle.mp_tree.proofs.Texts.IntoData.{entries_data}
 use Rattle.mp_tree.proofs.serializing.+send.Given as goal
 
 -- whatever sends the elements that are left, and the end, from here, sends all of them from the start

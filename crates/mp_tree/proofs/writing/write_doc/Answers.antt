@@ -2,9 +2,9 @@ use Rattle.std.proofs.Common.{ap, ◌∙◌}
 use Rattle.serde_json.proofs.FreeTexts.{text_of_value}
 use Rattle.mp_tree.specs.Text.{data_of, read}
 use Rattle.mp_tree.specs.View.{document}
-use Rattle.mp_tree.proofs.Meaning.{IsReadable-document}
-use Rattle.mp_tree.proofs.RoundTrip.{read-text}
-use Rattle.mp_tree.proofs.Texts.{has_float-data_of}
+use Rattle.mp_tree.proofs.Documents.Meaning.{IsReadable-document}
+use Rattle.mp_tree.proofs.Texts.RoundTrip.{read-text}
+use Rattle.mp_tree.proofs.Texts.Written.{has_float-data_of}
 use Rattle.mp_tree.proofs.writing.write_doc.Goals as goal
 
 -- the text is that of the document, which has no float

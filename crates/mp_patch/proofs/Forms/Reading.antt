@@ -1,0 +1,183 @@
+-- Reading operations from documents that are forms of them, element by element.
+use Rattle.std.proofs.Common.{◌≡◌, ◌≢◌, ◌<◌, ◌+◌, ◌⊎◌, inl, inr, ◌∷◌, ◌++◌, ℕ, List, [], length, get_or, take, drop, None, Some, option_and_then, suc, append_assoc, append-nil, Result, Ok, Err, MatchResult, refl, sym, ap, ◌∙◌, subst, arith, codes}
+use Rattle.std.proofs.lemmas.List.{take_more, take-append-drop, drop_more, length-take-le, map-append}
+use Rattle.mp_tree.specs.Document.{Document, object, list, Members}
+use Rattle.mp_tree.specs.View.{document, items}
+use Rattle.mp_tree.specs.declared.doc.Doc.{Doc}
+use Rattle.mp_pointer.specs.Spelling.{Tokens, spell, IsFaultOf}
+use Rattle.mp_pointer.specs.declared.fault.PointerFault.{PointerFault}
+use Rattle.mp_pointer.proofs.Facts.{spellings_have_no_fault}
+use Rattle.mp_patch.specs.Form.{NamesOp, Need, path_alone, a_value, an_origin, HasOp, HasNoPointer, Carries, EachForm, IsForm, IsFormFault, IsNoPointer, needed_members, op_member, path_member, text_at, text_of}
+use Rattle.mp_patch.specs.Operation.{Operation}
+use Rattle.mp_patch.specs.Private.Faults.{fault_of_element}
+use Rattle.mp_patch.specs.Private.Reading.{FindsNoPointer, IsMapFault, IsElementFault, IsOriginFault, IsValueFault}
+use Rattle.mp_patch.specs.View.{operation_of, operations_of}
+use Rattle.mp_patch.specs.declared.fault.FormCause.{FormCause}
+use Rattle.mp_patch.specs.declared.fault.FormCause.TheVariants.{NotAnObject, NoOp, UnknownOp, NoPath, NoFrom, BadPointer, NoValue}
+use Rattle.mp_patch.specs.declared.op.Op.{Op}
+use Rattle.mp_patch.specs.declared.fault.Refusal.{Refusal}
+use Rattle.mp_patch.specs.declared.fault.Refusal.TheVariants.{By, OutOfMemory}
+use Rattle.mp_patch.proofs.Forms.Needs.{one_need, value_or_origin}
+use Rattle.mp_tree.proofs.Facts.{count_of-items, items-append, same_some, some_none}
+
+-- ---- reading
+
+pub no_pointer : (text : List ℕ) (fault : PointerFault) → fault ≢ PointerFault.OutOfMemory → IsFaultOf fault text → IsNoPointer text
+no_pointer text fault known holds t is = known (spellings_have_no_fault t fault (subst (IsFaultOf fault) is holds))
+
+-- what the reading found in a map is the first that is wrong with it
+module _ (ms : Members) where
+  abbrev d : Document
+  d = object ms
+
+  is_object : ¬ ((es : Members) → d ≢ object es)
+  is_object other = other ms refl
+
+  names_op : (name : List ℕ) → text_at (codes "op") d ≡ Some name → ¬ (text_at (codes "op") d ≡ None)
+  names_op name at none = some_none (text_at (codes "op") d) name at none
+
+  has_path : (path : List ℕ) → text_at (codes "path") d ≡ Some path → ¬ (text_at (codes "path") d ≡ None)
+  has_path path at none = some_none (text_at (codes "path") d) path at none
+
+  none_named : (name : List ℕ) → text_at (codes "op") d ≡ Some name → ((need : Need) → ¬ NamesOp need name) → (need : Need) → ¬ HasOp need d
+  none_named name at unknown need (other, there, names) = unknown need (subst (NamesOp need) (same_some (text_at (codes "op") d) other name there at) names)
+
+  -- with a bad pointer
+  has_from : (need : Need) (path : List ℕ) → HasOp need d → FindsNoPointer need path d → ¬ (HasOp an_origin d × (text_at (codes "from") d ≡ None))
+  has_from path_alone path has bad (origin, none) = let same : path_alone ≡ an_origin = one_need path_alone an_origin d has origin in cc
+  has_from a_value path has bad (origin, none) = value_or_origin d has origin
+  has_from an_origin path has (text, at, bad) (origin, none) = some_none (text_at (codes "from") d) text at none
+
+  bad_pointer : (need : Need) (path : List ℕ) → HasOp need d → text_at (codes "path") d ≡ Some path → FindsNoPointer need path d → HasNoPointer (codes "path") d ⊎ (HasOp an_origin d × HasNoPointer (codes "from") d)
+  bad_pointer path_alone path has at bad = inl (path, at, bad)
+  bad_pointer a_value path has at bad = inl (path, at, bad)
+  bad_pointer an_origin path has at (text, there, inl bad) = inl (path, at, bad)
+  bad_pointer an_origin path has at (text, there, inr bad) = inr (has, (text, there, bad))
+
+  -- with no value
+  good_pointers : (t : Tokens) → HasOp a_value d → text_at (codes "path") d ≡ Some (spell t) → ¬ (HasNoPointer (codes "path") d ⊎ (HasOp an_origin d × HasNoPointer (codes "from") d))
+  good_pointers t has at (inl (path, there, bad)) = bad t (same_some (text_at (codes "path") d) path (spell t) there at)
+  good_pointers t has at (inr (origin, bad)) = value_or_origin d has origin
+
+  pub map_fault : (fault : Refusal FormCause) → IsMapFault fault d → IsElementFault fault d
+  map_fault (By NotAnObject) found = absurd found
+  map_fault (By NoOp) none = inr (is_object, inl (refl, none))
+  map_fault (By UnknownOp) (name, at, unknown) = inr (is_object, inr (names_op name at, inl (refl, none_named name at unknown)))
+  map_fault (By NoPath) (need, has, none) = inr (is_object, inr (names_op has.0 has.1, inr ((λ unknown. unknown need has), inl (refl, none))))
+  map_fault (By NoFrom) (has, path, at, none) = inr (is_object, inr (names_op has.0 has.1, inr ((λ unknown. unknown an_origin has), inr (has_path path at, inl (refl, (has, none))))))
+  map_fault (By BadPointer) (need, has, path, at, bad) =
+      inr (is_object, inr (names_op has.0 has.1, inr ((λ unknown. unknown need has), inr (has_path path at, inr (has_from need path has bad, inl (refl, bad_pointer need path has at bad))))))
+  map_fault (By NoValue) (has, t, at, none) =
+      inr (
+        is_object,
+        inr (
+          names_op has.0 has.1,
+          inr ((λ unknown. unknown a_value has), inr (has_path (spell t) at, inr ((λ h. value_or_origin d has h.0), inr (good_pointers t has at, inl (refl, (has, none)))))),
+        ),
+      )
+  map_fault OutOfMemory found = tt
+
+pub form_of_map : (r : Result Op (Refusal FormCause)) (ms : Members) (d : Document) → d ≡ object ms → MatchResult r (λ op. Carries ms (needed_members (operation_of op))) (λ fault. IsMapFault fault (object ms))
+    → MatchResult r (λ op. IsForm d (operation_of op)) (λ fault. IsElementFault fault d)
+form_of_map (Ok op) ms d is carries = (ms, is, carries)
+form_of_map (Err fault) ms d is found = subst (IsElementFault fault) (sym is) (map_fault ms fault found)
+
+EachForm-more : (docs : List Doc) (operations : List Operation) (d : Doc) (o : Operation) → EachForm (items docs) operations → IsForm (document d) o → EachForm (items (docs ++ d ∷ [])) (operations ++ o ∷ [])
+EachForm-more [] [] d o forms form = (form, tt)
+EachForm-more [] (p ∷ operations) d o forms form = absurd forms
+EachForm-more (x ∷ docs) [] d o forms form = absurd forms
+EachForm-more (x ∷ docs) (p ∷ operations) d o forms form = (forms.0, EachForm-more docs operations d o forms.1 form)
+
+pub form_pushed : (docs : List Doc) (old new : List Op) (k : ℕ) (d : Doc) (op : Op) → k < length docs → d ≡ get_or docs k d → EachForm (items (take k docs)) (operations_of old) → IsForm (document d) (operation_of op) → new ≡ old ++ op ∷ []
+    → EachForm (items (take (k + 1) docs)) (operations_of new)
+form_pushed docs old new k d op less here forms form pushed =
+    let longer : take (k + 1) docs ≡ take k docs ++ d ∷ [] = take_more docs k d less ∙ ap (λ x. take k docs ++ x ∷ []) (sym here) in
+    let grown : operations_of new ≡ operations_of old ++ operation_of op ∷ [] = ap operations_of pushed ∙ map-append operation_of old (op ∷ []) in
+    subst (λ xs. EachForm (items xs) (operations_of new)) (sym longer) (subst (λ os. EachForm (items (take k docs ++ d ∷ [])) os) (sym grown) (EachForm-more (take k docs) (operations_of old) d (operation_of op) forms form))
+
+pub fault_there : (fault : Refusal FormCause) (docs : List Doc) (old : List Op) (k : ℕ) (d : Doc) → k < length docs → d ≡ get_or docs k d → EachForm (items (take k docs)) (operations_of old) → IsElementFault fault (document d)
+    → IsFormFault (fault_of_element k fault) (list (items docs))
+fault_there OutOfMemory docs old k d less here forms faulty = tt
+fault_there (By cause) docs old k d less here forms faulty =
+    let split : docs ≡ take k docs ++ d ∷ drop (k + 1) docs = sym (take-append-drop k docs) ∙ ap (λ r. take k docs ++ r) (drop_more docs k d less ∙ ap (λ x. x ∷ drop (k + 1) docs) (sym here)) in
+    record {
+      front = items (take k docs);
+      element = document d;
+      back = items (drop (k + 1) docs);
+      is = ap list (ap items split ∙ items-append (take k docs) (d ∷ drop (k + 1) docs));
+      numbered = sym (count_of-items (take k docs) ∙ length-take-le k docs (omega arith));
+      operations = operations_of old;
+      forms = forms;
+      faulty = faulty;
+    }
+
+-- ---- reading a list that is taken apart
+
+pub record AreReadTo (docs left : List Doc) (ops : List Op) : Type 0 where
+  pub passed : List Doc
+  pub all : docs ≡ passed ++ left
+  pub forms : EachForm (items passed) (operations_of ops)
+
+as_many : (docs : List Doc) (ops : List Op) → EachForm (items docs) (operations_of ops) → length ops ≡ length docs
+as_many [] [] forms = refl
+as_many [] (op ∷ ops) forms = absurd forms
+as_many (d ∷ docs) [] forms = absurd forms
+as_many (d ∷ docs) (op ∷ ops) forms = ap suc (as_many docs ops forms.1)
+
+module _ (docs left : List Doc) (ops : List Op) (r : AreReadTo docs left ops) where
+  pub read_more : (d : Doc) (more : List Doc) (op : Op) (new : List Op) → left ≡ d ∷ more → IsForm (document d) (operation_of op) → new ≡ ops ++ op ∷ [] → AreReadTo docs more new
+  read_more d more op new next form pushed =
+      let grown : operations_of new ≡ operations_of ops ++ operation_of op ∷ [] = ap operations_of pushed ∙ map-append operation_of ops (op ∷ []) in
+      record {
+        passed = r.passed ++ d ∷ [];
+        all = r.all ∙ ap (λ ds. r.passed ++ ds) next ∙ sym (append_assoc r.passed (d ∷ []) more);
+        forms = subst (λ os. EachForm (items (r.passed ++ d ∷ [])) os) (sym grown) (EachForm-more r.passed (operations_of ops) d (operation_of op) r.forms form);
+      }
+
+  pub read_end : length left ≡ 0 → EachForm (items docs) (operations_of ops)
+  read_end none = subst (λ ds. EachForm (items ds) (operations_of ops)) (sym (r.all ∙ ap (λ ds. r.passed ++ ds) (empty left none) ∙ append-nil r.passed)) r.forms
+    where
+      empty : (ds : List Doc) → length ds ≡ 0 → ds ≡ []
+      empty [] none = refl
+      empty (d ∷ ds) none = absurd (omega (arith, none))
+
+  pub read_fault : (fault : Refusal FormCause) (d : Doc) (more : List Doc) → left ≡ d ∷ more → IsElementFault fault (document d) → IsFormFault (fault_of_element (length ops) fault) (list (items docs))
+  read_fault OutOfMemory d more next faulty = tt
+  read_fault (By cause) d more next faulty = record {
+    front = items r.passed;
+    element = document d;
+    back = items more;
+    is = ap list (ap items (r.all ∙ ap (λ ds. r.passed ++ ds) next) ∙ items-append r.passed (d ∷ more));
+    numbered = as_many r.passed ops r.forms ∙ sym (count_of-items r.passed);
+    operations = operations_of ops;
+    forms = r.forms;
+    faulty = faulty;
+  }
+
+-- ---- what is found in a map
+
+pub no_slash_is_no_memory : PointerFault.NoSlash ≢ PointerFault.OutOfMemory
+no_slash_is_no_memory e = cc
+
+pub bad_tilde_is_no_memory : (place : ℕ) → PointerFault.BadTilde place ≢ PointerFault.OutOfMemory
+bad_tilde_is_no_memory place e = cc
+
+pub origin_fault : (fault : Refusal FormCause) (name path : List ℕ) (ms : Members) → text_at (codes "op") (object ms) ≡ Some name → NamesOp an_origin name → text_at (codes "path") (object ms) ≡ Some path → IsOriginFault fault path (object ms) → IsMapFault fault (object ms)
+origin_fault (By NoFrom) name path ms op named at faulty = ((name, op, named), path, at, faulty)
+origin_fault (By BadPointer) name path ms op named at faulty = (an_origin, (name, op, named), path, at, faulty)
+origin_fault (By NotAnObject) name path ms op named at faulty = absurd faulty
+origin_fault (By NoOp) name path ms op named at faulty = absurd faulty
+origin_fault (By UnknownOp) name path ms op named at faulty = absurd faulty
+origin_fault (By NoPath) name path ms op named at faulty = absurd faulty
+origin_fault (By NoValue) name path ms op named at faulty = absurd faulty
+origin_fault OutOfMemory name path ms op named at faulty = tt
+
+pub value_fault : (fault : Refusal FormCause) (name : List ℕ) (t : Tokens) (ms : Members) → NamesOp a_value name → Carries ms (op_member name ∷ path_member t ∷ []) → IsValueFault fault (object ms) → IsMapFault fault (object ms)
+value_fault (By NoValue) name t ms named carries none = ((name, ap (option_and_then text_of) carries.0, named), t, ap (option_and_then text_of) carries.1.0, none)
+value_fault (By NotAnObject) name t ms named carries faulty = absurd faulty
+value_fault (By NoOp) name t ms named carries faulty = absurd faulty
+value_fault (By UnknownOp) name t ms named carries faulty = absurd faulty
+value_fault (By NoPath) name t ms named carries faulty = absurd faulty
+value_fault (By NoFrom) name t ms named carries faulty = absurd faulty
+value_fault (By BadPointer) name t ms named carries faulty = absurd faulty
+value_fault OutOfMemory name t ms named carries faulty = tt

@@ -1,0 +1,82 @@
+-- Runs of a patch that grow at their end.
+use Rattle.std.proofs.Common.{◌≡◌, ◌<◌, ◌+◌, ℕ, List, [], ◌∷◌, ◌++◌, length, get_or, take, option_map, Some, Err, refl, sym, ap, ap₂, ◌∙◌, subst, arith, append_assoc, append-nil, length-append}
+use Rattle.std.proofs.lemmas.List.{take_more, map-append, length-map}
+use Rattle.std.proofs.lemmas.Option.{slice_get-map, slice_get_read, slice_get_within, get_or_from_slice_get}
+use Rattle.std.specs.List.{slice_get}
+use Rattle.mp_tree.specs.Document.{Document}
+use Rattle.mp_patch.specs.Operation.{Operation, Step}
+use Rattle.mp_patch.specs.Run.{IsRefused, Runs, IsFaultOf}
+use Rattle.mp_patch.specs.View.{operation_of, operations_of}
+use Rattle.mp_patch.specs.declared.op.Op.{Op}
+use Rattle.mp_patch.specs.Private.Faults.{fault_of_operation}
+use Rattle.mp_patch.specs.Private.Steps.{Answers}
+use Rattle.mp_patch.specs.declared.fault.Cause.{Cause}
+use Rattle.mp_patch.specs.declared.fault.Refusal.{Refusal}
+use Rattle.mp_patch.specs.declared.fault.Refusal.TheVariants.{By, OutOfMemory}
+
+pub Runs-more : (operations : List Operation) (d m e : Document) (o : Operation) → Runs d operations m → ¬ IsRefused m o → Step m o e → Runs d (operations ++ o ∷ []) e
+Runs-more [] d m e o run free step = (subst (λ x. ¬ IsRefused x o) run free, e, subst (λ x. Step x o e) run step, refl)
+Runs-more (p ∷ operations) d m e o run free step = (run.0, run.1, run.2, Runs-more operations run.1 m e o run.3 free step)
+
+pub fault_there : (fault : Refusal Cause) (k : ℕ) (d m e : Document) (operations : List Operation) (o : Operation) → Runs d (take k operations) m → slice_get operations k ≡ Some o → Answers (Err fault) m o e → IsFaultOf (fault_of_operation k fault) d operations
+fault_there (By cause) k d m e operations o run there refused = (m, run, o, there, refused)
+fault_there OutOfMemory k d m e operations o run there refused = tt
+
+-- the operation that is read at a place
+pub operation_there : (ops items : List Op) (i : ℕ) (op : Op) → items ≡ ops → i < length items → op ≡ get_or items i op → slice_get (operations_of ops) i ≡ Some (operation_of op)
+operation_there ops items i op same less read = slice_get-map operation_of ops i ∙ ap (option_map operation_of) (ap (λ xs. slice_get xs i) (sym same) ∙ slice_get_read items (length items) i op refl less read)
+
+pub take_next : (operations : List Operation) (i : ℕ) (o : Operation) → slice_get operations i ≡ Some o → take (i + 1) operations ≡ take i operations ++ o ∷ []
+take_next operations i o there = take_more operations i o (slice_get_within operations i o there) ∙ ap (λ x. take i operations ++ x ∷ []) (get_or_from_slice_get operations i o o there)
+
+-- ---- a list of operations that is taken apart
+
+pub record HasRunTo (d : Document) (ops left : List Op) (done : ℕ) (e : Document) : Type 0 where
+  pub passed : List Op
+  pub all : ops ≡ passed ++ left
+  pub numbered : done ≡ length passed
+  pub run : Runs d (operations_of passed) e
+
+take_front : (xs ys : List Operation) → take (length xs) (xs ++ ys) ≡ xs
+take_front [] ys = refl
+take_front (x ∷ xs) ys = ap (λ zs. x ∷ zs) (take_front xs ys)
+
+get_next : (xs ys : List Operation) (y : Operation) → slice_get (xs ++ y ∷ ys) (length xs) ≡ Some y
+get_next [] ys y = refl
+get_next (x ∷ xs) ys y = get_next xs ys y
+
+module _ (d : Document) (ops left : List Op) (done : ℕ) (m : Document) (r : HasRunTo d ops left done m) where
+  pub run_end : length left ≡ 0 → Runs d (operations_of ops) m
+  run_end none = subst (λ os. Runs d (operations_of os) m) (sym (r.all ∙ ap (λ os. r.passed ++ os) (empty left none) ∙ append-nil r.passed)) r.run
+    where
+      empty : (os : List Op) → length os ≡ 0 → os ≡ []
+      empty [] none = refl
+      empty (o ∷ os) none = absurd (omega (arith, none))
+
+  module _ (op : Op) (more : List Op) (next : left ≡ op ∷ more) where
+    split : operations_of ops ≡ operations_of r.passed ++ operation_of op ∷ operations_of more
+    split = ap operations_of (r.all ∙ ap (λ os. r.passed ++ os) next) ∙ map-append operation_of r.passed (op ∷ more)
+
+    long : done ≡ length (operations_of r.passed)
+    long = r.numbered ∙ sym (length-map r.passed operation_of)
+
+    pub run_further : (e : Document) → ¬ IsRefused m (operation_of op) → Step m (operation_of op) e → HasRunTo d ops more (done + 1) e
+    run_further e free step = record {
+      passed = r.passed ++ op ∷ [];
+      all = r.all ∙ ap (λ os. r.passed ++ os) next ∙ sym (append_assoc r.passed (op ∷ []) more);
+      numbered = ap (λ n. n + 1) r.numbered ∙ sym (length-append r.passed (op ∷ []));
+      run = subst (λ os. Runs d os e) (sym (map-append operation_of r.passed (op ∷ []))) (Runs-more (operations_of r.passed) d m e (operation_of op) r.run free step);
+    }
+
+    pub few_done : done < length ops
+    few_done = omega (arith, r.numbered, ap length (r.all ∙ ap (λ os. r.passed ++ os) next), length-append r.passed (op ∷ more))
+
+    pub fault_next : (fault : Refusal Cause) (e : Document) → Answers (Err fault) m (operation_of op) e → IsFaultOf (fault_of_operation done fault) d (operations_of ops)
+    fault_next (By cause) e refused = (
+      m,
+      subst (λ os. Runs d os m) (sym (ap₂ take long split ∙ take_front (operations_of r.passed) (operation_of op ∷ operations_of more))) r.run,
+      operation_of op,
+      ap₂ slice_get split long ∙ get_next (operations_of r.passed) (operations_of more) (operation_of op),
+      refused,
+    )
+    fault_next OutOfMemory e refused = tt

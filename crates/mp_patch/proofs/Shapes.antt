@@ -1,0 +1,4 @@
+-- Shapes: the documents that are made and written of operations.
+pub mod Made
+pub mod Readable
+pub mod Written

@@ -1,8 +1,0 @@
-use Rattle.std.proofs.Common.{◌≡◌, map, take}
-use Rattle.mp_tree.specs.View.{document}
-use Rattle.mp_patch.specs.Form.{shape}
-use Rattle.mp_patch.specs.View.{operations_of}
-use Rattle.mp_patch.proofs.writing.shapes_of.Given as goal
-
-abbrev pub invariant-loop-op : goal.invariant-loop-op
-invariant-loop-op l = map document l.elements.items ≡ map shape (operations_of (take l.op-index l.fn.ops))

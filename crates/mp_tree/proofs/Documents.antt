@@ -1,0 +1,8 @@
+-- Documents: what a `Doc` means, and the parts of a document.
+pub mod Decisions
+pub mod Depths
+pub mod Elements
+pub mod Meaning
+pub mod SameParts
+pub mod Throughout
+pub mod Wholes

@@ -1,0 +1,124 @@
+-- When lists of elements and maps are seen alike.
+use Rattle.std.proofs.Common.{◌≡◌, ◌<◌, ◌⊎◌, inl, inr, ℕ, zero, suc, List, [], ◌∷◌, ◌++◌, map, length, get_or, String, Global, string_cmp, string_bytes, refl, sym, ap, ap₂, ◌∙◌, arith, length-append, Some}
+use Rattle.std.proofs.lemmas.List.{length-map}
+use Rattle.std.specs.List.Sorted.{IsStrictlySortedBy}
+use Rattle.std.specs.Map.{keys_of}
+use Rattle.mp_tree.specs.Document.{Document, string, list, object, Items, no_items, item, Members, no_members, find}
+use Rattle.mp_tree.specs.View.{document, members_of, items}
+use Rattle.mp_tree.specs.Private.Entries.{members}
+use Rattle.mp_tree.specs.declared.doc.Doc.{Doc}
+use Rattle.mp_tree.proofs.Maps.Building.{seen}
+use Rattle.mp_tree.proofs.Texts.IntoData.{put-below, IsBelow-members}
+use Rattle.mp_tree.proofs.Maps.Finite.{pairs_of}
+use Rattle.mp_tree.proofs.Lists.{empty_from_length}
+use Rattle.mp_tree.proofs.Passed.{Passed, Passed-next, Passed-end}
+use Rattle.mp_tree.proofs.Options.{same_some}
+
+-- ---- elements
+
+abbrev elements_of : Items → List Document
+elements_of no_items = []
+elements_of (item d ds) = d ∷ elements_of ds
+
+elements_of-items : (ds : List Doc) → elements_of (items ds) ≡ map document ds
+elements_of-items [] = refl
+elements_of-items (d ∷ ds) = ap (λ es. document d ∷ es) (elements_of-items ds)
+
+documents_from_items : (ds es : List Doc) → items ds ≡ items es → map document ds ≡ map document es
+documents_from_items ds es same = sym (elements_of-items ds) ∙ ap elements_of same ∙ elements_of-items es
+
+pub length_from_items : (ds es : List Doc) → items ds ≡ items es → length ds ≡ length es
+length_from_items ds es same = sym (length-map ds document) ∙ ap length (documents_from_items ds es same) ∙ length-map es document
+
+-- elements at each place
+at_from_map : (ds es : List Doc) (k : ℕ) (d : Doc) → map document ds ≡ map document es → document (get_or ds k d) ≡ document (get_or es k d)
+at_from_map [] [] k d same = refl
+at_from_map [] (e ∷ es) k d same = absurd (cc)
+at_from_map (x ∷ ds) [] k d same = absurd (cc)
+at_from_map (x ∷ ds) (e ∷ es) zero d same = cc
+at_from_map (x ∷ ds) (e ∷ es) (suc k) d same = let others : map document ds ≡ map document es = cc in at_from_map ds es k d others
+
+pub at_from_items : (ds es : List Doc) (k : ℕ) (d : Doc) → items ds ≡ items es → document (get_or ds k d) ≡ document (get_or es k d)
+at_from_items ds es k d same = at_from_map ds es k d (documents_from_items ds es same)
+
+pub items_from_each : (ds es : List Doc) → length ds ≡ length es → ((k : ℕ) (d : Doc) → k < length ds → document (get_or ds k d) ≡ document (get_or es k d)) → items ds ≡ items es
+items_from_each [] [] long each = refl
+items_from_each [] (e ∷ es) long each = absurd (omega arith)
+items_from_each (d ∷ ds) [] long each = absurd (omega arith)
+items_from_each (d ∷ ds) (e ∷ es) long each = ap₂ item (each zero d (omega arith)) (items_from_each ds es (omega arith) (λ k x below. each (suc k) x (omega arith)))
+
+-- ---- members
+
+pairs_of-members : (es : List (String Global × Doc)) → IsStrictlySortedBy string_cmp (keys_of es) → pairs_of (members es) ≡ map (seen document) es
+unfolding IsStrictlySortedBy
+pairs_of-members [] ascending = refl
+pairs_of-members (e ∷ es) ascending =
+    let listed = put-below (string_bytes e.0) (document e.1) (members es) (IsBelow-members e.0 es ascending.0) in
+    ap pairs_of listed ∙ ap (λ ps. seen document e ∷ ps) (pairs_of-members es ascending.1)
+
+abbrev inside : Document → Members
+inside (object ms) = ms
+inside d = no_members
+
+pub members_of_object : (ms es : Members) → object ms ≡ object es → ms ≡ es
+members_of_object ms es same = ap inside same
+
+-- ---- equal documents
+
+pub same_text : (s t : List ℕ) → string s ≡ string t → s ≡ t
+same_text s t same = cc
+
+pub same_elements : (ds es : Items) → list ds ≡ list es → ds ≡ es
+same_elements ds es same = cc
+
+pub same_item : (d e : Document) (ds es : Items) → item d ds ≡ item e es → (d ≡ e) × (ds ≡ es)
+same_item d e ds es same = (cc, cc)
+
+pub no_list_is_map : {P : Type 0} (ms : Members) (ds : Items) → object ms ≡ list ds → P
+no_list_is_map ms ds same = cc
+
+-- the texts that are found at one name
+pub same_text_at : (n : List ℕ) (ms : Members) (s t : List ℕ) → find n ms ≡ Some (string s) → find n ms ≡ Some (string t) → s ≡ t
+same_text_at n ms s t here there = same_text s t (same_some (find n ms) (string s) (string t) here there)
+
+-- ---- entries that ascend
+
+-- ascending entries whose members are the same are seen alike
+pub seen_from_members : (es fs : List (String Global × Doc)) → IsStrictlySortedBy string_cmp (keys_of es) → IsStrictlySortedBy string_cmp (keys_of fs) → members es ≡ members fs
+    → map (seen document) es ≡ map (seen document) fs
+seen_from_members es fs a b same = sym (pairs_of-members es a) ∙ ap pairs_of same ∙ pairs_of-members fs b
+
+pub members_from_seen : (es fs : List (String Global × Doc)) → map (seen document) es ≡ map (seen document) fs → members es ≡ members fs
+members_from_seen es fs same = ap members_of same
+
+pub length_from_members : (es fs : List (String Global × Doc)) → IsStrictlySortedBy string_cmp (keys_of es) → IsStrictlySortedBy string_cmp (keys_of fs) → members es ≡ members fs
+    → length es ≡ length fs
+length_from_members es fs a b same = sym (length-map es (seen document)) ∙ ap length (seen_from_members es fs a b same) ∙ length-map fs (seen document)
+
+-- ---- two lists that are walked together
+
+module _ {A C : Type 0} (f : A → C) where
+  -- what was passed of the one list is seen as what was passed of the other
+  abbrev pub PassedAlike : List A → List A → List A → List A → Type 0
+  PassedAlike xs left ys rest = Passed xs left (λ passed. Passed ys rest (λ others. map f passed ≡ map f others))
+
+  after_alike : (passed others left rest : List A) (x y : A) → map f passed ≡ map f others → map f (passed ++ x ∷ left) ≡ map f (others ++ y ∷ rest) → f x ≡ f y
+  after_alike [] [] left rest x y same all = cc
+  after_alike [] (p ∷ others) left rest x y same all = absurd (cc)
+  after_alike (d ∷ passed) [] left rest x y same all = absurd (cc)
+  after_alike (d ∷ passed) (p ∷ others) left rest x y same all =
+      let before : map f passed ≡ map f others = cc in
+      let after : map f (passed ++ x ∷ left) ≡ map f (others ++ y ∷ rest) = cc in
+      after_alike passed others left rest x y before after
+
+  -- what comes next in both
+  pub next_same : (xs left ys rest more others : List A) (x y : A) → PassedAlike xs left ys rest → left ≡ x ∷ more → rest ≡ y ∷ others → map f xs ≡ map f ys → f x ≡ f y
+  next_same xs left ys rest more others x y p next_left next_rest same =
+      after_alike p.passed p.holds.passed more others x y p.holds.holds (sym (ap (map f) (Passed-next p next_left)) ∙ same ∙ ap (map f) (Passed-next p.holds next_rest))
+
+  pub all_same : (xs left ys rest : List A) → PassedAlike xs left ys rest → length xs ≡ length ys → (left ≡ []) ⊎ (rest ≡ []) → map f xs ≡ map f ys
+  all_same xs left ys rest p long over =
+      let sizes : length p.passed ≡ length p.holds.passed = sym (length-map p.passed f) ∙ ap length p.holds.holds ∙ length-map p.holds.passed f in
+      let lengths : length left ≡ length rest = omega (arith, ap length p.all, ap length p.holds.all, length-append p.passed left, length-append p.holds.passed rest) in
+      let none : length left ≡ 0 = elim over [ inl nil ↦ ap length nil | inr nil ↦ lengths ∙ ap length nil ] in
+      Passed-end (Passed-end p (empty_from_length left none)) (empty_from_length rest (sym lengths ∙ none))

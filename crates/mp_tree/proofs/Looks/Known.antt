@@ -1,0 +1,37 @@
+-- Whether two looks are the same, and what follows where a look is not nothing.
+use Rattle.std.proofs.Common.{◌≡◌, ◌≢◌, ◌⊎◌, inl, inr, ℕ, List, Less, cond, Option, Some, None, refl, ap, ◌∙◌, []}
+use Rattle.std.proofs.Math.Decide.{map_dec}
+use Rattle.mp_tree.specs.Document.{Document, Members, no_members, member, name_cmp, find, IsBelow}
+use Rattle.mp_tree.specs.Look.{Path, Look, nothing, an_object, plain, look_of}
+use Rattle.mp_tree.proofs.Documents.Decisions.{decide_document}
+use Rattle.mp_tree.proofs.Maps.Names.{cases_same}
+
+decide_look : (l m : Look) → Dec (l ≡ m)
+decide_look nothing nothing = yes refl
+decide_look nothing m = no (λ same. cc)
+decide_look an_object an_object = yes refl
+decide_look an_object m = no (λ same. cc)
+decide_look (plain v) (plain u) = map_dec (ap plain) (λ same. cc) (decide_document v u)
+decide_look (plain v) m = no (λ same. cc)
+
+-- looks that do not differ are the same
+pub same_look : (l m : Look) → (l ≢ m → ⊥) → l ≡ m
+same_look l m never = elim (decide_look l m) [ yes same ↦ same | no other ↦ absurd (never other) ]
+
+pub nothing_or : (l : Look) → (l ≡ nothing) ⊎ (l ≢ nothing)
+nothing_or nothing = inl refl
+nothing_or an_object = inr (λ same. cc)
+nothing_or (plain v) = inr (λ same. cc)
+
+-- what has a look is there
+pub some_part : (o : Option Document) → look_of o [] ≢ nothing → (z : Document) × (o ≡ Some z)
+some_part None here = absurd (here refl)
+some_part (Some z) here = (z, refl)
+
+-- a name that the members have is above each name that is below them all
+pub name_above : (n k : List ℕ) (w : Path) (ps : Members) → IsBelow n ps → look_of (find k ps) w ≢ nothing → name_cmp n k ≡ Less
+name_above n k w no_members below here = absurd (here refl)
+name_above n k w (member m p ps) below here =
+    cases_same k m
+    (λ same. ap (name_cmp n) same ∙ below.0)
+    (λ other. name_above n k w ps below.1 (λ none. here (ap (λ b. look_of (cond b (Some p) (find k ps)) w) other ∙ none)))
