@@ -1,0 +1,310 @@
+// Makes the calls of rows in one of several ways, and tells what is wrong. Standard input has a row a line: the number of
+// the export, the status, the two numbers, the text and then what the call is given, the texts in hexadecimal digits behind
+// an x. Malloc, realloc and free are wrapped, so that requests can be refused and what is not given back is counted.
+#include <pthread.h>
+#include <stdio.h>
+#include <string.h>
+#include <sys/mman.h>
+
+#include "mergejoin.h"
+
+enum { JOIN, REPLAY, MERGE, REWRITE, PATCH, GET };
+enum { MOST_ROWS = 4000, MOST_TEXTS = 12, MOST_BYTES = 1 << 24, STACK = 1 << 20, BEHIND = 16, THREADS = 4 };
+
+typedef struct row {
+  unsigned export;
+  mergejoin_reply reply;
+  const uint8_t *text;
+  mergejoin_text given[MOST_TEXTS];
+  size_t count;
+} row;
+
+static row rows[MOST_ROWS];
+static size_t row_count;
+static char line[MOST_BYTES];
+static uint8_t bytes[MOST_BYTES];
+static size_t used, wrong;
+
+// ---- a heap that refuses
+
+void *__real_malloc(size_t);
+void *__real_realloc(void *, size_t);
+void __real_free(void *);
+void *__wrap_malloc(size_t);
+void *__wrap_realloc(void *, size_t);
+void __wrap_free(void *);
+
+static int counting, refuses_on;
+static size_t requests, refused_at, refusals;
+static long live;
+
+static int is_refused(void) {
+  if (!counting) return 0;
+  requests += 1;
+  if (requests != refused_at && !(refuses_on && requests > refused_at)) return 0;
+  refusals += 1;
+  return 1;
+}
+
+void *__wrap_malloc(size_t size) {
+  if (is_refused()) return NULL;
+  if (counting) live += 1;
+  return __real_malloc(size);
+}
+
+void *__wrap_realloc(void *block, size_t size) {
+  if (is_refused()) return NULL;
+  if (counting && !block) live += 1;
+  return __real_realloc(block, size);
+}
+
+void __wrap_free(void *block) {
+  if (counting && block) live -= 1;
+  __real_free(block);
+}
+
+// ---- calls
+
+static mergejoin_reply call(const row *it, const mergejoin_text *given, uint8_t *out, size_t room) {
+  const mergejoin_text *rest = given + 1;
+  switch (it->export) {
+  case JOIN: return mergejoin_join(given, it->count, out, room);
+  case REPLAY: return mergejoin_replay(given->bytes, given->length, rest, it->count - 1, out, room);
+  case MERGE: return mergejoin_merge(given->bytes, given->length, rest, it->count - 1, out, room);
+  case REWRITE: return mergejoin_rewrite(given->bytes, given->length, rest->bytes, rest->length, out, room);
+  case PATCH: return mergejoin_patch(given->bytes, given->length, rest->bytes, rest->length, out, room);
+  default: return mergejoin_get(given->bytes, given->length, rest->bytes, rest->length, out, room);
+  }
+}
+
+static char *call_new(const row *it, mergejoin_reply *reply) {
+  const mergejoin_text *given = it->given, *rest = given + 1;
+  switch (it->export) {
+  case JOIN: return mergejoin_join_new(given, it->count, reply);
+  case REPLAY: return mergejoin_replay_new(given->bytes, given->length, rest, it->count - 1, reply);
+  case MERGE: return mergejoin_merge_new(given->bytes, given->length, rest, it->count - 1, reply);
+  case REWRITE: return mergejoin_rewrite_new(given->bytes, given->length, rest->bytes, rest->length, reply);
+  case PATCH: return mergejoin_patch_new(given->bytes, given->length, rest->bytes, rest->length, reply);
+  default: return mergejoin_get_new(given->bytes, given->length, rest->bytes, rest->length, reply);
+  }
+}
+
+static int is_same(mergejoin_reply one, mergejoin_reply other) {
+  return one.length == other.length && one.first == other.first && one.second == other.second && one.status == other.status;
+}
+
+static void tell(const row *it, const char *what, size_t number, mergejoin_reply reply) {
+  wrong += 1;
+  if (wrong > 20) return;
+  printf("row %zu, %s %zu: status %u, numbers %zu and %zu, length %zu\n", (size_t)(it - rows) + 1, what, number,
+         reply.status, reply.first, reply.second, reply.length);
+}
+
+// Whether the room begins with the row's text, as far as it goes, and has dots behind that.
+static int is_room(const row *it, const uint8_t *room, size_t size, size_t length) {
+  for (size_t place = 0; place < size + BEHIND; place += 1) {
+    uint8_t wanted = place < size && place < length ? it->text[place] : '.';
+    if (room[place] != wanted) return 0;
+  }
+  return 1;
+}
+
+static int is_answered(const row *it, size_t size) {
+  uint8_t *room = malloc(size + BEHIND);
+  memset(room, '.', size + BEHIND);
+  mergejoin_reply reply = call(it, it->given, room, size);
+  int same = is_same(reply, it->reply) && is_room(it, room, size, reply.length);
+  free(room);
+  return same;
+}
+
+// ---- the ways
+
+// Each room from none to two bytes more than the text.
+static void in_rooms(void) {
+  size_t calls = 0;
+  for (row *it = rows; it < rows + row_count; it += 1) {
+    for (size_t size = 0; size <= it->reply.length + 2; size += 1, calls += 1) {
+      if (!is_answered(it, size)) tell(it, "room", size, it->reply);
+    }
+  }
+  printf("%zu calls in rooms of each size, %zu wrong\n", calls, wrong);
+}
+
+// What is lent, and the room, in blocks of their own that end where they end.
+static void in_blocks(void) {
+  for (row *it = rows; it < rows + row_count; it += 1) {
+    mergejoin_text *given = malloc(sizeof it->given);
+    for (size_t number = 0; number < it->count; number += 1) {
+      uint8_t *block = malloc(it->given[number].length);
+      memcpy(block, it->given[number].bytes, it->given[number].length);
+      given[number].bytes = block;
+      given[number].length = it->given[number].length;
+    }
+    size_t sizes[] = {0, it->reply.length / 2, it->reply.length};
+    for (size_t number = 0; number < 3; number += 1) {
+      uint8_t *room = malloc(sizes[number]);
+      mergejoin_reply reply = call(it, given, room, sizes[number]);
+      if (!is_same(reply, it->reply) || memcmp(room, it->text, sizes[number])) tell(it, "block", sizes[number], reply);
+      free(room);
+    }
+    for (size_t number = 0; number < it->count; number += 1) free((void *)(uintptr_t)given[number].bytes);
+    free(given);
+  }
+  printf("%zu rows in blocks of their own, %zu wrong\n", row_count, wrong);
+}
+
+// By the helpers that make a room.
+static void in_rooms_of_their_own(void) {
+  for (row *it = rows; it < rows + row_count; it += 1) {
+    mergejoin_reply reply;
+    char *text = call_new(it, &reply);
+    if (!text || !is_same(reply, it->reply) || memcmp(text, it->text, reply.length) || text[reply.length])
+      tell(it, "a room of its own", 0, reply);
+    free(text);
+  }
+  printf("%zu rows in rooms of their own, %zu wrong\n", row_count, wrong);
+}
+
+// Request number `refused_at` is refused, or each from it on: want of memory, with the room as it was, or the answer.
+static int is_refused_well(const row *it, uint8_t *room, mergejoin_reply *reply) {
+  memset(room, '.', it->reply.length + BEHIND);
+  requests = refusals = 0, live = 0, counting = 1;
+  *reply = call(it, it->given, room, it->reply.length);
+  counting = 0;
+  if (live) return 0;
+  if (is_same(*reply, it->reply)) return is_room(it, room, it->reply.length, reply->length);
+  return refusals && reply->status == MERGEJOIN_NO_MEMORY && !reply->length && !reply->first && !reply->second &&
+         is_room(it, room, 0, 0) && is_room(it, room + it->reply.length, 0, 0);
+}
+
+// The helper under the same heap gives a text, or none and says so.
+static int is_made_well(const row *it, mergejoin_reply *reply) {
+  requests = refusals = 0, live = 0, counting = 1;
+  char *text = call_new(it, reply);
+  int well = text ? is_same(*reply, it->reply) && !memcmp(text, it->text, reply->length)
+                  : refusals && reply->status == MERGEJOIN_NO_MEMORY && !reply->length;
+  free(text);
+  counting = 0;
+  return well && !live;
+}
+
+static void with_a_heap_that_refuses(void) {
+  size_t calls = 0, wants = 0;
+  for (row *it = rows; it < rows + row_count; it += 1) {
+    uint8_t *room = malloc(it->reply.length + BEHIND);
+    for (refuses_on = 0; refuses_on < 2; refuses_on += 1) {
+      for (refused_at = 1;; refused_at += 1, calls += 1) {
+        mergejoin_reply reply, made;
+        if (!is_made_well(it, &made)) tell(it, "helper, request", refused_at, made);
+        size_t left = refusals;
+        if (!is_refused_well(it, room, &reply)) tell(it, "request", refused_at, reply);
+        wants += reply.status == MERGEJOIN_NO_MEMORY;
+        if (!refusals && !left) break;
+      }
+    }
+    free(room);
+  }
+  printf("%zu calls with requests refused, %zu of them told, %zu wrong\n", calls, wants, wrong);
+  wrong += wants < row_count;
+}
+
+static void *all_rows(void *told) {
+  for (int times = 0; times < 20; times += 1) {
+    for (row *it = rows; it < rows + row_count; it += 1) *(size_t *)told += !is_answered(it, it->reply.length);
+  }
+  return NULL;
+}
+
+static void in_threads(void) {
+  pthread_t threads[THREADS];
+  size_t told[THREADS] = {0};
+  for (int number = 0; number < THREADS; number += 1) pthread_create(&threads[number], NULL, all_rows, &told[number]);
+  for (int number = 0; number < THREADS; number += 1) {
+    pthread_join(threads[number], NULL);
+    wrong += told[number];
+  }
+  printf("%d threads, %zu rows 20 times, %zu wrong\n", THREADS, row_count, wrong);
+}
+
+// ---- the stack
+
+static uint8_t stack_room[1 << 16];
+
+typedef struct measured {
+  const row *it;
+  mergejoin_reply reply;
+} measured;
+
+static void *on_a_stack(void *call_of) {
+  measured *here = call_of;
+  if (here->it) here->reply = call(here->it, here->it->given, stack_room, sizeof stack_room);
+  return NULL;
+}
+
+// How many bytes of a fresh stack a thread touched that makes the call, or makes none.
+static size_t stack_of(measured *here) {
+  uint8_t *stack = mmap(NULL, STACK, PROT_READ | PROT_WRITE, MAP_PRIVATE | MAP_ANONYMOUS, -1, 0);
+  pthread_attr_t how;
+  pthread_t thread;
+  size_t place = 0;
+  memset(stack, 0xa5, STACK);
+  pthread_attr_init(&how);
+  pthread_attr_setstack(&how, stack, STACK);
+  wrong += pthread_create(&thread, &how, on_a_stack, here) != 0;
+  pthread_join(thread, NULL);
+  while (place < STACK && stack[place] == 0xa5) place += 1;
+  munmap(stack, STACK);
+  return STACK - place;
+}
+
+static void on_stacks(void) {
+  measured idle = {0};
+  size_t most = 0, none = stack_of(&idle);
+  for (row *it = rows; it < rows + row_count; it += 1) {
+    measured here = {.it = it};
+    size_t size = stack_of(&here) - none;
+    if (!is_same(here.reply, it->reply) || memcmp(stack_room, it->text, it->reply.length)) tell(it, "stack", size, here.reply);
+    if (size > most) most = size;
+  }
+  printf("%zu bytes of stack at the most, %zu wrong\n", most, wrong);
+}
+
+// ---- the rows
+
+static unsigned digit(char it) { return it <= '9' ? (unsigned)(it - '0') : (unsigned)(it - 'a') + 10; }
+
+static mergejoin_text next_text(char **at) {
+  mergejoin_text text = {bytes + used, 0};
+  for (*at += 1; **at > ' '; *at += 2, text.length += 1) bytes[used++] = (uint8_t)(16 * digit((*at)[0]) + digit((*at)[1]));
+  while (**at == ' ') *at += 1;
+  used += 1;
+  return text;
+}
+
+static void read_rows(void) {
+  while (fgets(line, sizeof line, stdin)) {
+    row *it = &rows[row_count++];
+    int head = 0;
+    sscanf(line, "%u %u %zu %zu %n", &it->export, &it->reply.status, &it->reply.first, &it->reply.second, &head);
+    char *at = line + head;
+    mergejoin_text text = next_text(&at);
+    it->text = text.bytes;
+    it->reply.length = text.length;
+    while (*at == 'x') it->given[it->count++] = next_text(&at);
+  }
+}
+
+int main(int count, char **words) {
+  static const struct { const char *name; void (*run)(void); } ways[] = {
+      {"rooms", in_rooms}, {"blocks", in_blocks}, {"own", in_rooms_of_their_own},
+      {"refused", with_a_heap_that_refuses}, {"threads", in_threads}, {"stack", on_stacks}};
+  read_rows();
+  for (size_t number = 0; count == 2 && number < sizeof ways / sizeof *ways; number += 1) {
+    if (!strcmp(words[1], ways[number].name)) {
+      ways[number].run();
+      return wrong ? 1 : 0;
+    }
+  }
+  return 2;
+}

@@ -1,0 +1,98 @@
+"""Rows for what calls the library: an export, the status, the numbers and the text of its reply, and the texts that it is
+given. They are those of crates/worked_rows, each program's line told as a reply, and those below.
+"""
+
+import json
+import re
+
+from calls import TOP
+
+EXPORTS = ["join", "replay", "merge", "rewrite", "patch", "get"]
+
+# Each export on what the program can't be given, since it reads one text: the status, the numbers, the text, the texts.
+ROWS = [
+    ("join", 2, 0, 0, "no patches", []),
+    ("join", 6, 0, 0, "not JSON", [b""]),
+    ("join", 6, 1, 0, "not JSON", [b"1", b"1,2", b"["]),
+    ("join", 6, 2, 0, "number not whole", [b"1", b"2", b"1.5", b"["]),
+    ("join", 6, 1, 0, "too deep", [b"1", b"[" * 127 + b"]" * 127]),
+    ("join", 0, 0, 0, '{"a":1,"b":2}', [b'\n {"b" : 2,\t"a" : 1}\r\n', b' {"a":1} ']),
+    ("replay", 5, 0, 0, "not JSON", [b"[", b"["]),
+    ("replay", 5, 0, 0, "too deep", [b"[" * 127 + b"]" * 127, b"1"]),
+    ("replay", 6, 1, 0, "not JSON", [b"5", b"{}", b"["]),
+    ("replay", 0, 0, 0, "5", [b" 5 "]),
+    ("merge", 5, 0, 0, "number not whole", [b"18446744073709551616", b"["]),
+    ("merge", 6, 0, 0, "not JSON", [b"5", b"[\xff]"]),
+    ("rewrite", 5, 0, 0, "not JSON", [b"", b"["]),
+    ("rewrite", 6, 0, 0, "number not whole", [b"5", b"1e0"]),
+    ("patch", 5, 0, 0, "not JSON", [b"[", b"["]),
+    ("patch", 6, 0, 0, "not JSON", [b"1", b"["]),
+    ("patch", 7, 0, 0, "not an array", [b"1", b"{}"]),
+    ("get", 5, 0, 0, "not JSON", [b"[", b"foo"]),
+    ("get", 5, 0, 0, "number not whole", [b"1.5", b"\xff"]),
+    ("get", 8, 2, 0, "not UTF-8", [b"5", b"/a\xff"]),
+    ("get", 8, 0, 0, "not UTF-8", [b"5", b"\xff"]),
+]
+
+# The rows in their sources: a text or a raw text, and a number.
+TEXT = r'(?:r#"(.*?)"#|r"([^"]*)"|"((?:[^"\\]|\\.)*)")'
+ROW = re.compile(rf"\(\s*{TEXT},\s*{TEXT},\s*(\d),?\s*\)", re.S)
+POINTER_ROW = re.compile(rf"\(\s*{TEXT},\s*{TEXT},\s*{TEXT},\s*(\d),?\s*\)", re.S)
+PAIR = re.compile(rf"\(\s*{TEXT},\s*{TEXT},?\s*\)", re.S)
+
+
+def literals(found):
+    """Gives the texts of literals, each found as a raw text with or without a # around it, or as a plain one."""
+    for at in range(0, len(found) - 2, 3):
+        hashed, raw, plain = found[at:at + 3]
+        yield hashed or raw or json.loads(f'"{plain}"')
+
+
+def elements_of(text):
+    """Gives the texts of the elements of a JSON array."""
+    found, at = [], text.index("[") + 1
+    while (at := re.compile(r"[\s,]*").match(text, at).end()) < len(text) and text[at] != "]":
+        _, end = json.JSONDecoder().raw_decode(text, at)
+        found.append(text[at:end].encode())
+        at = end
+    return found
+
+
+def reply_of(line, status):
+    """Gives the status, the numbers and the text of the reply that tells what a line of the program does, or nothing where
+    that tells of the input as a whole."""
+    if line.startswith("input: "):
+        return None
+    if status == 0:
+        return 0, 0, 0, line
+    if found := re.fullmatch(r"operation (\d+): (.*)", line):
+        return 3 if status == 1 else 7, int(found[1]), 0, found[2]
+    if found := re.fullmatch(r"conflict: patches (\d+) and (\d+) at (.*)", line):
+        places = json.dumps(json.loads(f"[{found[3]}]"), ensure_ascii=False, separators=(",", ":"))
+        return 1, int(found[1]), int(found[2]), places
+    if found := re.fullmatch(r"pointer: (no slash|bad tilde)(?: at (\d+))?", line):
+        return 8, int(found[2] or 0), 0, found[1]
+    return {"missing": 4, "no patches": 2}[line], 0, 0, line
+
+
+def worked_rows():
+    """Gives the rows of crates/worked_rows as those above."""
+    for path in sorted((TOP / "crates/worked_rows/src").glob("*_rows.rt")):
+        source = path.read_text("utf-8")
+        tables = dict(re.findall(r"^const (\w+): &\[[^=\n]*\] = &\[\n(.*?)^\];", source, re.M | re.S))
+        for command, table in re.findall(r"check_rows\(&rt, &Command::(\w+), (\w+)\)", source):
+            for *words, status in ROW.findall(tables[table]):
+                yield from told(command.lower(), *literals(words), int(status), [])
+        if path.stem == "get_rows":
+            for *words, status in POINTER_ROW.findall(tables["PARTS"] + tables["FAULTS"]):
+                pointer, text, line = literals(words)
+                yield from told("get", text, line, int(status), [pointer.encode()])
+            example = re.search(r'^const EXAMPLE: &str =\s+r#"(.*?)"#;', source, re.M | re.S)[1]
+            for words in PAIR.findall(tables["EXAMPLES"]):
+                pointer, line = literals(words)
+                yield from told("get", example, line, 0, [pointer.encode()])
+
+
+def told(export, text, line, status, more):
+    if reply := reply_of(line, status):
+        yield export, *reply, elements_of(text) + more

@@ -1,0 +1,37 @@
+use Rattle.std.proofs.Common.{ℕ, subst, sym}
+use Rattle.std.specs.Str.{IsValidUpTo}
+use Rattle.mp_tree.specs.View.{document as document_of}
+use Rattle.mp_texts.specs.Faults.{IsRead}
+use Rattle.mp_c.specs.Answered.{IsPart, not_utf8}
+use Rattle.mp_c.proofs.Exports.{no_document, part_of_text, renamed, replied}
+use Rattle.mp_c.proofs.documents.mergejoin_get.Goals as goal
+use Rattle.mp_c.proofs.documents.mergejoin_get.Goals.{in-Ok-read_doc, in-Err-read_doc}
+
+pub returns-in-Ok : goal.returns-in-Ok
+returns-in-Ok c =
+    let document = c.args.document.now in
+    let pointer = c.args.pointer.now in
+    let (same, utf8) = c.in-Ok.ensures.cases in
+    let is = part_of_text c.part_text.result document pointer c.in-Ok.pointer.now same utf8 c.part_text.ensures in
+    replied (IsPart document pointer) c.part_text.result c.tell.result c.args.out.now c.tell.new.out is tt c.tell.ensures
+
+-- a document that is none is told first
+pub returns-after-read_doc : goal.returns-after-read_doc
+returns-after-read_doc c =
+    let document = c.args.document.now in
+    let pointer = c.args.pointer.now in
+    let before = c.args.out.now in
+    let reply = c.match-read_doc.result in
+    let after = c.match-read_doc.out in
+    elim c.match-read_doc.branch [
+      | in-Ok-read_doc w ↦
+          let read : IsRead document = (document_of w.in-Ok-read_doc.field-0, w.in-Ok-read_doc.ensures.document) in
+          let told = w.tell_not_utf8 in
+          renamed (IsPart document pointer) reply told.result before after told.new.out w.result-is w.out-is
+          (not_utf8 w.valid_up_to.result, (read, subst (λ (n : ℕ). IsValidUpTo pointer n) (sym w.valid_up_to.ensures) c.in-Err.ensures.cases.1), told.ensures)
+      | in-Err-read_doc w ↦
+          let arm = w.in-Err-read_doc in
+          let told = w.tell-in-Err-read_doc in
+          renamed (IsPart document pointer) reply told.result before after told.new.out w.result-is w.out-is
+          (no_document arm.why document pointer told.result before told.new.out arm.ensures.faults told.ensures)
+    ]

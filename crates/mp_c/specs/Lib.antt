@@ -1,0 +1,5 @@
+pub mod Answered
+pub mod Laws
+pub mod Private
+pub mod Replies
+pub mod Told

@@ -1,0 +1,2 @@
+-- What private clauses alone cite: who trusts the public contracts need not read it.
+pub mod Telling

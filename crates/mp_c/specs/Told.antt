@@ -1,0 +1,124 @@
+-- What C is told of an answer: a status, two numbers and a text, as the table of the header has them.
+use Rattle.std.specs.Prelude.{ℕ, List, [], codes}
+use Rattle.mp_tree.specs.Text.{text as compact}
+use Rattle.mp_tree.specs.declared.fault.ReadFault.{ReadFault}
+use Rattle.mp_tree.specs.declared.fault.ReadFault.TheVariants as read
+use Rattle.mp_pointer.specs.declared.fault.PointerFault.{PointerFault}
+use Rattle.mp_pointer.specs.declared.fault.PointerFault.TheVariants as pointer
+use Rattle.mp_patch.specs.Texts.{cause_text, form_text}
+use Rattle.mp_patch.specs.declared.fault.ApplyFault.{ApplyFault}
+use Rattle.mp_patch.specs.declared.fault.ApplyFault.TheVariants as run
+use Rattle.mp_patch.specs.declared.fault.FormFault.{FormFault}
+use Rattle.mp_patch.specs.declared.fault.FormFault.TheVariants as form
+use Rattle.mp_merge.specs.declared.fault.ListFault.{ListFault}
+use Rattle.mp_merge.specs.declared.fault.ListFault.TheVariants as list
+use Rattle.mp_texts.specs.Answers.{places_list}
+use Rattle.mp_texts.specs.declared.fault.TextsFault.{TextsFault}
+use Rattle.mp_texts.specs.declared.fault.TextsFault.TheVariants as texts
+use Rattle.mp_c.specs.Answered.{Answered, text, fault, not_utf8}
+
+-- ---- the status
+
+-- there is a result
+abbrev pub status_result : ℕ
+status_result = 0
+
+-- two merge patches clash
+abbrev pub status_conflict : ℕ
+status_conflict = 1
+
+-- there is no patch to join
+abbrev pub status_no_patches : ℕ
+status_no_patches = 2
+
+-- an operation of the JSON Patch is refused
+abbrev pub status_refused : ℕ
+status_refused = 3
+
+-- the document has no part there
+abbrev pub status_missing : ℕ
+status_missing = 4
+
+-- the document, or the start, is none
+abbrev pub status_document : ℕ
+status_document = 5
+
+-- a patch is no document
+abbrev pub status_patch : ℕ
+status_patch = 6
+
+-- a document is no JSON Patch
+abbrev pub status_form : ℕ
+status_form = 7
+
+-- the pointer is none
+abbrev pub status_pointer : ℕ
+status_pointer = 8
+
+-- memory ran out
+abbrev pub status_no_memory : ℕ
+status_no_memory = 9
+
+-- ---- what is told
+
+pub record Told : Type 0 where
+  pub status : ℕ
+  pub first : ℕ
+  pub second : ℕ
+  pub text : List ℕ
+
+-- a number that says nothing is 0
+abbrev pub numbered : ℕ → ℕ → List ℕ → Told
+numbered status number words = record { status = status; first = number; second = 0; text = words }
+
+abbrev pub plain : ℕ → List ℕ → Told
+plain status words = numbered status 0 words
+
+-- want of memory, wherever it comes from: no text, so that nothing is written
+abbrev pub no_memory : Told
+no_memory = plain status_no_memory []
+
+-- why a text is no document
+abbrev pub told_of_unread : ℕ → ℕ → ReadFault → Told
+told_of_unread status number read.NotJson = numbered status number (codes "not JSON")
+told_of_unread status number read.NotWhole = numbered status number (codes "number not whole")
+told_of_unread status number read.TooDeep = numbered status number (codes "too deep")
+told_of_unread status number read.OutOfMemory = no_memory
+
+-- the numbers of two patches that clash, and all their places
+abbrev pub told_of_list : ListFault → Told
+told_of_list list.NoPatches = plain status_no_patches (codes "no patches")
+told_of_list (list.ConflictOf first second places) =
+    record { status = status_conflict; first = first; second = second; text = compact (places_list places.items) }
+told_of_list list.OutOfMemory = no_memory
+
+-- the number of the operation
+abbrev pub told_of_form : FormFault → Told
+told_of_form form.NotAnArray = plain status_form (codes "not an array")
+told_of_form (form.Form number cause) = numbered status_form number (form_text cause)
+told_of_form form.OutOfMemory = no_memory
+
+abbrev pub told_of_run : ApplyFault → Told
+told_of_run (run.Refused number cause) = numbered status_refused number (cause_text cause)
+told_of_run run.OutOfMemory = no_memory
+
+-- the offset of the tilde
+abbrev pub told_of_pointer : PointerFault → Told
+told_of_pointer pointer.NoSlash = plain status_pointer (codes "no slash")
+told_of_pointer (pointer.BadTilde offset) = numbered status_pointer offset (codes "bad tilde")
+told_of_pointer pointer.OutOfMemory = no_memory
+
+abbrev pub told_of_fault : TextsFault → Told
+told_of_fault (texts.Document why) = told_of_unread status_document 0 why
+told_of_fault (texts.Patch number why) = told_of_unread status_patch number why
+told_of_fault (texts.List why) = told_of_list why
+told_of_fault (texts.Form why) = told_of_form why
+told_of_fault (texts.Refused why) = told_of_run why
+told_of_fault (texts.Pointer why) = told_of_pointer why
+told_of_fault texts.Missing = plain status_missing (codes "missing")
+told_of_fault texts.OutOfMemory = no_memory
+
+abbrev pub told_of : Answered → Told
+told_of (text result) = plain status_result result
+told_of (fault why) = told_of_fault why
+told_of (not_utf8 offset) = numbered status_pointer offset (codes "not UTF-8")
