@@ -1,0 +1,49 @@
+"""JSON Merge Patches (RFC 7396), JSON Patches (RFC 6902) and JSON Pointers (RFC 6901) over texts.
+
+Replicas of one JSON document that exchange merge patches end with the same document, in whatever order each of them receives
+the patches and with any repeats, as long as no two patches clash:
+
+>>> import mergejoin
+>>> patches = ['{"author": "Ada"}', '{"title": null}']
+>>> mergejoin.replay('{"title": "Notes"}', patches)
+'{"author":"Ada"}'
+>>> mergejoin.replay('{"title": "Notes"}', patches[::-1] + patches)
+'{"author":"Ada"}'
+
+Two patches clash where both say something of one place and say different things. The join of patches that do not is one
+merge patch with the effect of all:
+
+>>> mergejoin.join(patches)
+'{"author":"Ada","title":null}'
+>>> try:
+...     mergejoin.join(patches + ['{"author": "Bob"}'])
+... except mergejoin.Conflict as clash:
+...     print(clash.first, clash.second, clash.places)
+0 2 ['/author']
+
+Each document and each patch is a JSON text of its own, a str or bytes of UTF-8. Results are compact, with names in the order
+of their UTF-8 bytes. Numbers are whole, from -2**63 to 2**64 - 1; a text with another is refused, and so is one of more than
+126 levels. mergejoin.objects has the same functions over dict, list and so on.
+
+join(), replay(), merge(), rewrite(), patch() and get() are those of the shared library in this package, whose answers are
+proved; the package itself is tested alone. A call gives up the interpreter's lock while it runs, can't be cancelled, and needs
+256 KiB of stack, which threading.stack_size() should leave. It takes mostly 15 to 50 bytes of memory for each byte that it
+reads, and never more than 360 beside what the answer takes. A JSON Patch may double a document with each copy: bound the texts
+of strangers.
+"""
+
+from . import objects
+from ._conflicts import conflicts
+from ._errors import Conflict, InputError, Malformed, MergejoinError, Missing, NoPatches, Refused
+from ._patches import Patches
+from ._texts import get, join, merge, patch, replay, rewrite
+
+__all__ = [
+    "join", "replay", "merge", "rewrite", "patch", "get", "conflicts", "Patches", "objects",
+    "MergejoinError", "Conflict", "NoPatches", "Refused", "Malformed", "Missing", "InputError",
+]
+
+# They are told, and pickled, by the name that users know.
+for _it in (Patches, MergejoinError, Conflict, NoPatches, Refused, Malformed, Missing, InputError):
+    _it.__module__ = __name__
+del _it

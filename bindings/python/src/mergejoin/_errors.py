@@ -1,0 +1,111 @@
+"""Why there is no text."""
+
+import json
+from typing import Any, List, Optional, Union
+
+
+class MergejoinError(Exception):
+    """What all errors of this package are, but MemoryError and TypeError.
+
+    Patches and operations are numbered from 0.
+    """
+
+
+class Conflict(MergejoinError):
+    """Two patches clash: both say something of one place, and say different things.
+
+    first and second are the numbers of the two: second is the least number of a patch that clashes with an earlier one, and
+    first the least of those. places are all places at which these two clash, as JSON Pointers, in the order of paths.
+
+    Patches.text() keeps no numbers, so there they are None.
+    """
+
+    first: Union[int, Any]
+    second: Union[int, Any]
+    places: List[str]
+
+    def __init__(self, first: Optional[int], second: Optional[int], places: List[str]) -> None:
+        super().__init__(first, second, places)
+        self.first, self.second, self.places = first, second, places
+
+    def __str__(self) -> str:
+        which = "patches" if self.first is None else f"patches {self.first} and {self.second}"
+        return f"{which} clash at {json.dumps(self.places, ensure_ascii=False)}"
+
+
+class NoPatches(MergejoinError):
+    """There are no patches to join."""
+
+    def __str__(self) -> str:
+        return "no patches"
+
+
+class Refused(MergejoinError):
+    """An operation of a JSON Patch can't be done.
+
+    operation is its number, and cause is "into itself", "remove of root", "missing", "no place", "too deep" or "test failed".
+    """
+
+    operation: int
+    cause: str
+
+    def __init__(self, operation: int, cause: str) -> None:
+        super().__init__(operation, cause)
+        self.operation, self.cause = operation, cause
+
+    def __str__(self) -> str:
+        return f"operation {self.operation}: {self.cause}"
+
+
+class Malformed(MergejoinError):
+    """What is given as a JSON Patch is a document, but no JSON Patch.
+
+    cause is "not an array", and operation 0; or operation is the number of what is no operation, and cause "not an object",
+    "no op", "unknown op", "no path", "no from", "bad pointer" or "no value".
+    """
+
+    operation: int
+    cause: str
+
+    def __init__(self, operation: int, cause: str) -> None:
+        super().__init__(operation, cause)
+        self.operation, self.cause = operation, cause
+
+    def __str__(self) -> str:
+        return f"form of operation {self.operation}: {self.cause}"
+
+
+class Missing(MergejoinError, LookupError):
+    """The document has no part where the pointer points."""
+
+    def __str__(self) -> str:
+        return "missing"
+
+
+class InputError(MergejoinError, ValueError):
+    """What is given is no document, no patch or no pointer.
+
+    what is "document", "patch" or "pointer". number is that of the patch, and of a pointer the offset in bytes at which it
+    goes wrong; of a document it is 0.
+
+    why is "not JSON", "number not whole" (whole numbers from -2**63 to 2**64 - 1 are) or "too deep" (126 levels are not); of
+    a pointer it is "no slash", "bad tilde" or "not UTF-8".
+
+    place is the JSON Pointer of the value at fault, where mergejoin.objects found it before the call, and else None. There
+    why may be "name not text" too, of the object at that place.
+    """
+
+    what: str
+    number: int
+    why: str
+    place: Optional[str]
+
+    def __init__(self, what: str, number: int, why: str, place: Optional[str] = None) -> None:
+        super().__init__(what, number, why, place)
+        self.what, self.number, self.why, self.place = what, number, why, place
+
+    def __str__(self) -> str:
+        if self.what == "pointer":
+            return f"pointer: {self.why} at {self.number}"
+        which = f"patch {self.number}" if self.what == "patch" else self.what
+        return f"{which}: {self.why}" + ("" if self.place is None else f" at {json.dumps(self.place, ensure_ascii=False)}")

@@ -1,0 +1,106 @@
+"""What the errors are, carry and say; and what is no text at all."""
+
+import copy
+import pickle
+import subprocess
+import sys
+import threading
+import time
+import unittest
+
+import mergejoin
+from mergejoin import Conflict, InputError, Malformed, MergejoinError, Missing, NoPatches, Refused
+
+ALL = [
+    (Conflict(0, 2, ["/a", "/é"]), 'patches 0 and 2 clash at ["/a", "/é"]'),
+    (Conflict(None, None, [""]), 'patches clash at [""]'),
+    (NoPatches(), "no patches"),
+    (Refused(3, "test failed"), "operation 3: test failed"),
+    (Malformed(0, "not an array"), "form of operation 0: not an array"),
+    (Missing(), "missing"),
+    (InputError("document", 0, "not JSON"), "document: not JSON"),
+    (InputError("patch", 5, "too deep"), "patch 5: too deep"),
+    (InputError("pointer", 5, "bad tilde"), "pointer: bad tilde at 5"),
+    (InputError("patch", 5, "number not whole", "/a"), 'patch 5: number not whole at "/a"'),
+]
+SHORT_OF_MEMORY = """
+import resource, mergejoin
+text = "[" + ",".join(["[]"] * 500_000) + "]"
+now = int(open("/proc/self/statm").read().split()[0]) * resource.getpagesize()
+resource.setrlimit(resource.RLIMIT_AS, (now + 20_000_000,) * 2)
+try:
+    mergejoin.join([text])
+except MemoryError:
+    print("MemoryError")
+"""
+
+
+class Errors(unittest.TestCase):
+    def test_each_says_what_it_carries(self):
+        for error, words in ALL:
+            self.assertEqual(str(error), words)
+            self.assertIsInstance(error, MergejoinError)
+            self.assertEqual(type(error).__module__, "mergejoin")
+            for again in (pickle.loads(pickle.dumps(error)), copy.copy(error)):
+                self.assertEqual((type(again), str(again), vars(again)), (type(error), words, vars(error)))
+
+    def test_they_are_python_s_own_too(self):
+        self.assertTrue(issubclass(Missing, LookupError))
+        self.assertTrue(issubclass(InputError, ValueError))
+        self.assertFalse(issubclass(MergejoinError, (ValueError, LookupError)))
+
+    def test_a_refused_request_to_the_heap(self):
+        done = subprocess.run([sys.executable, "-I", "-c", SHORT_OF_MEMORY], capture_output=True, text=True, check=False)
+        self.assertEqual((done.returncode, done.stdout, done.stderr), (0, "MemoryError\n", ""))
+
+    def test_half_of_a_surrogate_pair(self):
+        for call, words, told in (
+            (mergejoin.join, [['{}', '"\ud800"']], ("patch", 1, "not JSON")),
+            (mergejoin.merge, ["[", ['"\udfff"']], ("document", 0, "not JSON")),
+            (mergejoin.get, ["{}", "/a\ud800"], ("pointer", 2, "not UTF-8")),
+        ):
+            with self.assertRaises(InputError) as raised:
+                call(*words)
+            error = raised.exception
+            self.assertEqual((error.what, error.number, error.why, error.place), (*told, None))
+
+    def test_what_is_no_text(self):
+        for call, words in ((mergejoin.join, ["{}"]), (mergejoin.join, [b"{}"]), (mergejoin.join, [[{}]]),
+                            (mergejoin.join, [None]), (mergejoin.get, ["{}", None]), (mergejoin.merge, [{}, []]),
+                            (mergejoin.replay, ["{}", "{}"]), (mergejoin.patch, ["{}", []]),
+                            (mergejoin.conflicts, ["{}"]), (mergejoin.Patches().add, [{}]),
+                            (mergejoin.objects.join, [{"a": 1}]), (mergejoin.objects.merge, [{}, "text"])):
+            self.assertRaises(TypeError, call, *words)
+
+    def test_texts_may_come_from_a_generator(self):
+        self.assertEqual(mergejoin.join(text for text in ("{}", b"{}")), "{}")
+
+    def test_a_long_call_gives_up_the_lock(self):
+        """While it runs another thread is never kept waiting for half of its time."""
+        text, took = "[" + ",".join(["{}"] * 300_000) + "]", []
+
+        def work():
+            begun = time.monotonic()
+            mergejoin.merge(text, [text])
+            took.append(time.monotonic() - begun)
+
+        thread, gaps = threading.Thread(target=work), []
+        thread.start()
+        before = time.monotonic()
+        while thread.is_alive():
+            time.sleep(0.001)
+            now = time.monotonic()
+            gaps.append(now - before)
+            before = now
+        self.assertLess(max(gaps), took[0] / 2)
+
+    def test_many_threads(self):
+        names, seen = [f'{{"{number}":{number}}}' for number in range(300)], []
+        wanted = mergejoin.join(names)
+        threads = [threading.Thread(target=lambda: seen.append({mergejoin.join(names[::-1]) for _ in range(20)}))
+                   for _ in range(4)]
+        for it in threads:
+            it.start()
+        for it in threads:
+            it.join()
+        self.assertEqual(seen, [{wanted}] * 4)

@@ -1,0 +1,72 @@
+"""What is no document is refused before the call, with its place."""
+
+import enum
+import json
+import unittest
+
+import mergejoin
+from mergejoin import InputError, objects
+
+
+class Colour(enum.IntEnum):
+    RED = 7
+
+
+def nested(levels, inner=1):
+    return inner if levels == 0 else {"a": nested(levels - 1, inner)}
+
+
+HIMSELF = []
+HIMSELF.append(HIMSELF)
+REFUSED = [
+    (1.5, "number not whole", ""),
+    (2.0, "number not whole", ""),
+    (float("nan"), "number not whole", ""),
+    (2**64, "number not whole", ""),
+    ([0, -(2**63) - 1], "number not whole", "/1"),
+    ({"a/b": {"c~d": [1, {"": 1e3}]}}, "number not whole", "/a~1b/c~0d/1/"),
+    ({"a": {1: 2}}, "name not text", "/a"),
+    ({None: 2}, "name not text", ""),
+    ({"a": [b"bytes"]}, "not JSON", "/a/0"),
+    ({"a": {1, 2}}, "not JSON", "/a"),
+    ({"a": ["\ud800"]}, "not JSON", "/a/0"),
+    ({"a": {"\ud800": 1}}, "not JSON", "/a"),
+    (nested(127), "too deep", "/a" * 126),
+    (HIMSELF, "too deep", "/0" * 126),
+]
+TAKEN = [None, True, 0, -(2**63), 2**64 - 1, "", "é\U0001f600\n\x00", [], {}, [[], {}], {"": {"b": [1]}}, nested(126)]
+
+
+class Objects(unittest.TestCase):
+    def test_refused(self):
+        for value, why, place in REFUSED:
+            for call, words, told in (
+                (objects.join, [[{}, {}, value, 1.5]], ("patch", 2)), (objects.replay, [value, [1.5]], ("document", 0)),
+                (objects.replay, [{}, [value]], ("patch", 0)), (objects.merge, [{}, iter([1, value])], ("patch", 1)),
+                (objects.rewrite, [{}, value], ("patch", 0)), (objects.patch, [value, 1.5], ("document", 0)),
+                (objects.patch, [{}, value], ("patch", 0)), (objects.get, [value, "?"], ("document", 0)),
+            ):
+                with self.subTest(place=place, why=why, call=call.__name__), self.assertRaises(InputError) as raised:
+                    call(*words)
+                error = raised.exception
+                self.assertEqual((error.what, error.number, error.why, error.place), (*told, why, place))
+
+    def test_taken(self):
+        for value in TAKEN:
+            self.assertEqual(objects.get(value, ""), value)
+
+    def test_taken_as_json_does(self):
+        self.assertEqual(objects.get({"a": (Colour.RED, True)}, b"/a"), [7, True])
+
+    def test_numbers_and_names_are_kept(self):
+        value = [{"é": 2**64 - 1}, -(2**63), True]
+        self.assertEqual(objects.join([value]), value)
+        self.assertIs(type(objects.join([value])[2]), bool)
+
+    def test_depth_is_the_library_s(self):
+        self.assertEqual(json.loads(mergejoin.get(json.dumps(nested(126)), "")), nested(126))
+        with self.assertRaises(InputError) as raised:
+            mergejoin.get(json.dumps(nested(127)), "")
+        self.assertEqual((raised.exception.why, raised.exception.place), ("too deep", None))
+        edits = [{"op": "add", "path": "/a", "value": nested(124)}]
+        self.assertEqual(objects.patch({}, edits), nested(125))
