@@ -17,7 +17,7 @@
  *            takes. Of n bytes that are read the places of a clash and the edits of a rewriting may have n * n / 15, and a
  *            JSON Patch may double a document with each copy: bound the texts of strangers. Where malloc or realloc
  *            refuses, the status is MERGEJOIN_NO_MEMORY.
- *   needs    256 KiB of stack: the deepest documents take 160 KiB of them.
+ *   needs    256 KiB of stack: the deepest documents take up to 176 KiB of them.
  *
  * No pointer may be null, also where its length, count or room is 0. No length is more than PTRDIFF_MAX. No function may be
  * called from a signal handler, nor in the child of a process that had threads when it forked, before it calls exec. A call

