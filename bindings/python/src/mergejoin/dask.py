@@ -32,9 +32,7 @@ def join_by_key(bag: "Bag", split_every: Optional[int] = None) -> "Bag":
     It is Bag.foldby() with a Patches for each key of a partition, and of split_every of those one, until one partition is
     left: all joins fit into the memory of one worker. Each Patches goes from one worker to another as one text.
     """
-    joined: "Bag" = bag.foldby(  # type: ignore[no-untyped-call]  # Dask tells few of its types
-        _key, _with_text, Patches, _with_all, Patches, split_every).map(_told)
-    return joined
+    return bag.foldby(_key, _with_text, Patches, _with_all, Patches, split_every).map(_told)
 
 
 def _key(item: Tuple[Any, Given]) -> Any:
