@@ -6,6 +6,7 @@ use Rattle.std.proofs.lemmas.Option.{slice_get_within, get_or_from_slice_get}
 use Rattle.std.specs.List.{Contains}
 use Rattle.mp_tree.specs.Document.{Document}
 use Rattle.mp_tree.specs.Look.{Path}
+use Rattle.mp_tree.proofs.Facts.{some_same}
 use Rattle.library_example.specs.Keeper.{AreChosen, ChosenClash, Held, IsDecideFault, held_of}
 use Rattle.library_example.specs.Private.Keeping.{ArePicked, IsEndFault, IsToldByName}
 use Rattle.library_example.specs.declared.fault.DecideFault.{DecideFault}
@@ -14,7 +15,7 @@ use Rattle.library_example.specs.declared.keeping.Identity.{Identity}
 use Rattle.library_example.specs.declared.keeping.Keeper.{Keeper}
 use Rattle.library_example.proofs.Held.{mapped, same_pair, unmapped}
 use Rattle.library_example.proofs.Kept.{no_element}
-use Rattle.library_example.proofs.Told.{one_place, some_same}
+use Rattle.library_example.proofs.Told.{one_place}
 
 pub none_picked : (chosen : List Identity) → ArePicked [] chosen [] []
 none_picked chosen = record {

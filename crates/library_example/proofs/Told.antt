@@ -4,6 +4,7 @@ use Rattle.std.proofs.lemmas.Bool.{cases_lt}
 use Rattle.std.proofs.lemmas.List.Elements.{Contains-append_left, Contains-push, Contains-push_cases}
 use Rattle.std.proofs.lemmas.Option.{slice_get-map, slice_get_read, slice_get_within}
 use Rattle.std.specs.List.{Contains}
+use Rattle.mp_tree.proofs.Facts.{some_same}
 use Rattle.mp_merge.specs.Clash.{Compatible}
 use Rattle.library_example.specs.Keeper.{Held, TellsClash, held_in}
 use Rattle.library_example.specs.Private.Keeping.{AreToldBefore, IsToldBefore}
@@ -14,9 +15,6 @@ use Rattle.library_example.proofs.Kept.{no_element}
 
 pub held_place : (ks : List KeptPatch) (i : ℕ) (k : KeptPatch) → i < length ks → k ≡ get_or ks i k → slice_get (held_in ks) i ≡ Some (held_at k)
 held_place ks i k below is = slice_get-map held_at ks i ∙ ap (option_map held_at) (slice_get_read ks (length ks) i k refl below is)
-
-pub some_same : {X : Type 0} (x y : X) → Some x ≡ Some y → x ≡ y
-some_same x y same = cc
 
 -- what stands at one place is one
 pub one_place : (held : List Held) (m n : ℕ) (g h : Held) → m ≡ n → slice_get held m ≡ Some g → slice_get held n ≡ Some h → g ≡ h

@@ -3,7 +3,7 @@ ghost use Rattle.std.specs.Prelude.{◌≡◌, map, option_map, IfOk, IfErr, Mat
 ghost use Rattle.mp_tree.specs.Document.{Document, depth_limit};
 ghost use Rattle.mp_tree.specs.View.{document};
 ghost use Rattle.mp_pointer.specs.Part.{part};
-ghost use Rattle.mp_pointer.specs.Spelling.{Tokens, IsFaultOf, spell};
+ghost use Rattle.mp_pointer.specs.Spelling.{Tokens, IsPointerFault, spell};
 ghost use Rattle.mp_patch.specs.Run.{Runs};
 ghost use Rattle.mp_patch.specs.View.{operations_of};
 ghost use Rattle.mp_merge.specs.Lists.{AreWithin, IsJoinAllFault};
@@ -46,7 +46,7 @@ pub fn for_a_peer(alloc: Global, start: &Doc, patches: &[Doc]) -> Result<JsonPat
 pub fn at<'a>(alloc: Global, doc: &'a Doc, place: &str) -> Result<Option<&'a Doc>, PointerFault>
     ensures found { IfOk result (λ found. (tokens : Tokens) × (place.now ≡ spell tokens)
         × (option_map (λ d. document d.now) found ≡ part (document doc.now) tokens)) }
-    ensures refused { IfErr result (λ fault. IsFaultOf fault place.now) }
+    ensures refused { IfErr result (λ fault. IsPointerFault fault place.now) }
 {
     let pointer = Pointer::parse(alloc, place)?;
     Ok(get(doc, &pointer))

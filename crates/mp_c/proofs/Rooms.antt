@@ -7,7 +7,7 @@ use Rattle.mp_tree.specs.declared.fault.ReadFault.TheVariants as read
 use Rattle.mp_pointer.specs.declared.fault.PointerFault.{PointerFault}
 use Rattle.mp_pointer.specs.declared.fault.PointerFault.TheVariants as pointer
 use Rattle.mp_patch.specs.declared.fault.ApplyFault.{ApplyFault}
-use Rattle.mp_patch.specs.declared.fault.ApplyFault.TheVariants as run
+use Rattle.mp_patch.specs.declared.fault.ApplyFault.TheVariants as apply
 use Rattle.mp_patch.specs.declared.fault.FormFault.{FormFault}
 use Rattle.mp_patch.specs.declared.fault.FormFault.TheVariants as form
 use Rattle.mp_merge.specs.declared.fault.ListFault.{ListFault}
@@ -19,7 +19,7 @@ use Rattle.mp_texts.specs.declared.fault.TextsFault.TheVariants as texts
 use Rattle.mp_c.specs.Answered.{Answered, text, fault, not_utf8, IsReplayed}
 use Rattle.mp_c.specs.Laws.{HasReplayed, ReplaysAgreeInTheirRooms}
 use Rattle.mp_c.specs.Replies.{IsReply, room_after}
-use Rattle.mp_c.specs.Told.{status_document, status_patch, status_result, told_of, told_of_fault, told_of_form, told_of_list, told_of_pointer, told_of_run, told_of_unread}
+use Rattle.mp_c.specs.Told.{status_document, status_patch, status_result, told_of, told_of_fault, told_of_form, told_of_list, told_of_pointer, told_of_apply, told_of_unread}
 use Rattle.mp_c.specs.declared.replying.Reply.{Reply}
 
 -- ---- no fault is told as a result
@@ -46,9 +46,9 @@ of_form form.NotAnArray e = cc
 of_form (form.Form number cause) e = cc
 of_form form.OutOfMemory e = cc
 
-of_run : (why : ApplyFault) → ¬ ((told_of_run why).status ≡ status_result)
-of_run (run.Refused number cause) e = cc
-of_run run.OutOfMemory e = cc
+of_apply : (why : ApplyFault) → ¬ ((told_of_apply why).status ≡ status_result)
+of_apply (apply.Refused number cause) e = cc
+of_apply apply.OutOfMemory e = cc
 
 of_pointer : (why : PointerFault) → ¬ ((told_of_pointer why).status ≡ status_result)
 of_pointer pointer.NoSlash e = cc
@@ -60,7 +60,7 @@ no_result (texts.Document why) e = of_document why e
 no_result (texts.Patch number why) e = of_patch number why e
 no_result (texts.List why) e = of_list why e
 no_result (texts.Form why) e = of_form why e
-no_result (texts.Refused why) e = of_run why e
+no_result (texts.Refused why) e = of_apply why e
 no_result (texts.Pointer why) e = of_pointer why e
 no_result texts.Missing e = cc
 no_result texts.OutOfMemory e = cc

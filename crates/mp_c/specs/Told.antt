@@ -7,7 +7,7 @@ use Rattle.mp_pointer.specs.declared.fault.PointerFault.{PointerFault}
 use Rattle.mp_pointer.specs.declared.fault.PointerFault.TheVariants as pointer
 use Rattle.mp_patch.specs.Texts.{cause_text, form_text}
 use Rattle.mp_patch.specs.declared.fault.ApplyFault.{ApplyFault}
-use Rattle.mp_patch.specs.declared.fault.ApplyFault.TheVariants as run
+use Rattle.mp_patch.specs.declared.fault.ApplyFault.TheVariants as apply
 use Rattle.mp_patch.specs.declared.fault.FormFault.{FormFault}
 use Rattle.mp_patch.specs.declared.fault.FormFault.TheVariants as form
 use Rattle.mp_merge.specs.declared.fault.ListFault.{ListFault}
@@ -98,9 +98,9 @@ told_of_form form.NotAnArray = plain status_form (codes "not an array")
 told_of_form (form.Form number cause) = numbered status_form number (form_text cause)
 told_of_form form.OutOfMemory = no_memory
 
-abbrev pub told_of_run : ApplyFault → Told
-told_of_run (run.Refused number cause) = numbered status_refused number (cause_text cause)
-told_of_run run.OutOfMemory = no_memory
+abbrev pub told_of_apply : ApplyFault → Told
+told_of_apply (apply.Refused number cause) = numbered status_refused number (cause_text cause)
+told_of_apply apply.OutOfMemory = no_memory
 
 -- the offset of the tilde
 abbrev pub told_of_pointer : PointerFault → Told
@@ -113,7 +113,7 @@ told_of_fault (texts.Document why) = told_of_unread status_document 0 why
 told_of_fault (texts.Patch number why) = told_of_unread status_patch number why
 told_of_fault (texts.List why) = told_of_list why
 told_of_fault (texts.Form why) = told_of_form why
-told_of_fault (texts.Refused why) = told_of_run why
+told_of_fault (texts.Refused why) = told_of_apply why
 told_of_fault (texts.Pointer why) = told_of_pointer why
 told_of_fault texts.Missing = plain status_missing (codes "missing")
 told_of_fault texts.OutOfMemory = no_memory

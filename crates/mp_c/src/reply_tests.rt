@@ -216,9 +216,9 @@ fn check_room<R: Abort + AllocGlobal>(
     let mut room = Vec::from_elem(rt.alloc(), b'.', size)?;
     let reply = reply_of(rt.alloc(), export, texts, room.as_mut_slice());
     assert_eq!(rt; reply, Some(wanted), "{export:?} of room {size}");
-    for (place, byte) in room.iter().enumerate() {
-        let held = text.get(place).copied().unwrap_or(b'.');
-        assert_eq!(rt; *byte, held, "{export:?} of room {size} at {place}");
+    for (offset, byte) in room.iter().enumerate() {
+        let held = text.get(offset).copied().unwrap_or(b'.');
+        assert_eq!(rt; *byte, held, "{export:?} of room {size} at {offset}");
     }
     Ok(())
 }

@@ -1,7 +1,7 @@
 //! What a call leaves behind: the reply, and the text in the caller's room.
 ghost use Rattle.mp_c.specs.Private.Telling.{Tells, answered_by};
 ghost use Rattle.mp_c.specs.Replies.{IsReply};
-ghost use Rattle.mp_c.specs.Told.{no_memory, numbered, plain, told_of, told_of_fault, told_of_form, told_of_list, told_of_pointer, told_of_run, told_of_unread};
+ghost use Rattle.mp_c.specs.Told.{no_memory, numbered, plain, told_of, told_of_fault, told_of_form, told_of_list, told_of_pointer, told_of_apply, told_of_unread};
 ghost use Rattle.mp_c.specs.Answered.{not_utf8};
 
 use mp_merge::ListFault;
@@ -129,7 +129,7 @@ fn tell_form_fault(fault: FormFault, out: &mut [u8]) -> Reply
 }
 
 fn tell_run_fault(fault: ApplyFault, out: &mut [u8]) -> Reply
-    ensures { IsReply (told_of_run fault) result out.old out.new }
+    ensures { IsReply (told_of_apply fault) result out.old out.new }
 {
     match fault {
         ApplyFault::Refused { op, cause } => write(REFUSED, op, cause.as_str(), out),

@@ -8,53 +8,52 @@ use Rattle.mp_tree.specs.Laws.{ReadsReadables}
 use Rattle.mp_tree.specs.Look.{Path}
 use Rattle.mp_tree.specs.Text.{documents_in}
 use Rattle.mp_tree.specs.declared.fault.DocsFault.{DocsFault}
+use Rattle.mp_tree.proofs.Facts.{readable_items, readable_documents}
 use Rattle.mp_pointer.specs.Part.{part}
-use Rattle.mp_pointer.specs.Spelling.{IsFaultOf}
+use Rattle.mp_pointer.specs.Spelling.{IsPointerFault}
 use Rattle.mp_pointer.specs.declared.fault.PointerFault.{PointerFault}
-use Rattle.mp_pointer.specs.declared.fault.PointerFault.TheVariants.{OutOfMemory as PointerMemory}
 use Rattle.mp_patch.specs.Form.{shapes}
 use Rattle.mp_patch.specs.Operation.{HaveDocuments, Operation}
-use Rattle.mp_patch.specs.Run.{Runs, IsFaultOf as IsFaultOfRun}
+use Rattle.mp_patch.specs.Run.{Runs, IsApplyFault}
 use Rattle.mp_patch.specs.declared.fault.ApplyFault.{ApplyFault}
 use Rattle.mp_patch.specs.declared.fault.ApplyFault.TheVariants.{Refused, OutOfMemory}
 use Rattle.mp_patch.specs.declared.fault.FormFault.{FormFault}
-use Rattle.mp_patch.specs.declared.fault.FormFault.TheVariants.{OutOfMemory as FormMemory}
 use Rattle.mp_merge.specs.Join.{IsJoin}
 use Rattle.mp_merge.specs.Lists.{HaveSameMembers, IsToldPair}
 use Rattle.mp_merge.specs.Outcome.{IsOutcome}
 use Rattle.mp_cli.specs.Answered.{IsPartAnswer, spelled, misspelled, IsGetAnswerTo, IsRunAnswer, ran, halted, IsPatchAnswer, malformed, formed, IsJoinAnswer, joined, none_joined, join_refused, IsReplayAnswer, replayed, replay_refused, IsRewriteAnswer, rewritten, IsPatchAnswerTo, IsReplayAnswerTo, IsRewriteAnswerTo, IsAnswerTo, IsChecked, IsAnswered}
-use Rattle.mp_cli.specs.Lines.{Answered, result_line, conflict_line, form_fault, part_line, run_fault, spelling_fault}
+use Rattle.mp_cli.specs.Lines.{Answered, result_line, conflict_line, form_fault, part_line, apply_fault, spelling_fault}
 use Rattle.mp_cli.specs.Laws.{HasOneAnswer}
 use Rattle.mp_cli.specs.Private.LawsBelow.{PointerLaws, PatchLaws, MergeLaws, RewritingLaws}
 use Rattle.mp_cli.specs.declared.command.Command.{Command}
 use Rattle.mp_cli.specs.declared.command.Command.TheVariants.{Get, Patch, Merge, Join, Replay, Rewrite}
-use Rattle.mp_cli.proofs.ReadInputs.{are_documents, documents_of, join_is_of_some, joined_are_compatible, replayed_are_compatible, told_are_some}
+use Rattle.mp_cli.proofs.ReadInputs.{join_is_of_some, joined_are_compatible, replayed_are_compatible, told_are_some}
 
 -- ---- a fault has one line at most, and want of memory has none
 
 one_line : {a b : Answered} → Some a ≡ Some b → a ≡ b
 one_line same = cc
 
-pub told_form : (fault : FormFault) (a : Answered) → form_fault fault ≡ Some a → fault ≢ FormMemory
-told_form fault a is memory = let none : form_fault FormMemory ≡ Some a = subst (λ f. form_fault f ≡ Some a) memory is in cc
+pub told_form : (fault : FormFault) (a : Answered) → form_fault fault ≡ Some a → fault ≢ FormFault.OutOfMemory
+told_form fault a is memory = let none : form_fault FormFault.OutOfMemory ≡ Some a = subst (λ f. form_fault f ≡ Some a) memory is in cc
 
-told_spelling : (fault : PointerFault) (a : Answered) → spelling_fault fault ≡ Some a → fault ≢ PointerMemory
-told_spelling fault a is memory = let none : spelling_fault PointerMemory ≡ Some a = subst (λ f. spelling_fault f ≡ Some a) memory is in cc
+told_spelling : (fault : PointerFault) (a : Answered) → spelling_fault fault ≡ Some a → fault ≢ PointerFault.OutOfMemory
+told_spelling fault a is memory = let none : spelling_fault PointerFault.OutOfMemory ≡ Some a = subst (λ f. spelling_fault f ≡ Some a) memory is in cc
 
 module _ (pointers : PointerLaws) (json : PatchLaws) (merges : MergeLaws) (rewritings : RewritingLaws) where
   -- ---- `patch`
 
   module _ (d : Document) (operations : List Operation) (a b : Answered) (good : IsDocument d) (values : HaveDocuments operations) where
-    not_both : (e : Document) (fault : ApplyFault) (c : Answered) → Runs d operations e → IsFaultOfRun fault d operations → run_fault fault ≡ Some c → ⊥
+    not_both : (e : Document) (fault : ApplyFault) (c : Answered) → Runs d operations e → IsApplyFault fault d operations → apply_fault fault ≡ Some c → ⊥
     not_both e OutOfMemory c runs refused is = cc
     not_both e (Refused k cause) c runs refused is = json.unrefused d e operations k cause good values runs refused
 
-    one_fault : (fault other : ApplyFault) → IsFaultOfRun fault d operations → IsFaultOfRun other d operations → run_fault fault ≡ Some a → run_fault other ≡ Some b → a ≡ b
+    one_fault : (fault other : ApplyFault) → IsApplyFault fault d operations → IsApplyFault other d operations → apply_fault fault ≡ Some a → apply_fault other ≡ Some b → a ≡ b
     one_fault OutOfMemory other one two is was = absurd (cc)
     one_fault (Refused k cause) OutOfMemory one two is was = absurd (cc)
     one_fault (Refused k cause) (Refused n other) one two is was =
         let same = json.one_refusal d operations k n cause other good values one two in
-        one_line (sym is ∙ ap (λ i. run_fault (Refused i cause)) same.0 ∙ ap (λ c. run_fault (Refused n c)) same.1 ∙ was)
+        one_line (sym is ∙ ap (λ i. apply_fault (Refused i cause)) same.0 ∙ ap (λ c. apply_fault (Refused n c)) same.1 ∙ was)
 
     one_run : IsRunAnswer d operations a → IsRunAnswer d operations b → a ≡ b
     one_run (ran e fine runs is) (ran f also more was) = is ∙ ap result_line (json.one_end d e f operations good values runs more) ∙ sym was
@@ -133,8 +132,8 @@ module _ (pointers : PointerLaws) (json : PatchLaws) (merges : MergeLaws) (rewri
 
   one_part : (d : Document) (pointer : List ℕ) (a b : Answered) → IsPartAnswer d pointer a → IsPartAnswer d pointer b → a ≡ b
   one_part d pointer a b (spelled t one is) (spelled u two was) = is ∙ ap (λ tokens. part_line (part d tokens)) (pointers.one_spelling t u (sym one ∙ two)) ∙ sym was
-  one_part d pointer a b (spelled t one is) (misspelled fault two was) = absurd (told_spelling fault b was (pointers.spelling_unfaulty t fault (subst (IsFaultOf fault) one two)))
-  one_part d pointer a b (misspelled fault one is) (spelled u two was) = absurd (told_spelling fault a is (pointers.spelling_unfaulty u fault (subst (IsFaultOf fault) two one)))
+  one_part d pointer a b (spelled t one is) (misspelled fault two was) = absurd (told_spelling fault b was (pointers.spelling_unfaulty t fault (subst (IsPointerFault fault) one two)))
+  one_part d pointer a b (misspelled fault one is) (spelled u two was) = absurd (told_spelling fault a is (pointers.spelling_unfaulty u fault (subst (IsPointerFault fault) two one)))
   one_part d pointer a b (misspelled fault one is) (misspelled other two was) =
       one_line (sym is ∙ ap spelling_fault (pointers.one_fault pointer fault other (told_spelling fault a is) (told_spelling other b was) one two) ∙ was)
 
@@ -147,10 +146,10 @@ module _ (pointers : PointerLaws) (json : PatchLaws) (merges : MergeLaws) (rewri
 
   one_answer_to : (command : Command) (ds : Items) (a b : Answered) → All IsReadable (list_of ds) → IsAnswerTo command ds a → IsAnswerTo command ds b → a ≡ b
   one_answer_to (Get pointer) ds a b can is was = one_get_to (string_bytes pointer) ds a b is was
-  one_answer_to Patch ds a b can is was = one_patch_to ds a b (are_documents ds can) is was
+  one_answer_to Patch ds a b can is was = one_patch_to ds a b (readable_items ds can) is was
   one_answer_to Merge ds a b can is was = is ∙ sym was
-  one_answer_to Join ds a b can is was = one_join_answer (list_of ds) a b (documents_of ds can) is was
-  one_answer_to Replay ds a b can is was = one_replay_to ds a b (documents_of ds can) is was
+  one_answer_to Join ds a b can is was = one_join_answer (list_of ds) a b (readable_documents (list_of ds) can) is was
+  one_answer_to Replay ds a b can is was = one_replay_to ds a b (readable_documents (list_of ds) can) is was
   one_answer_to Rewrite ds a b can is was = one_rewrite_to ds a b is was
 
   one_checked : (command : Command) (r : Result Items DocsFault) (a b : Answered) → ((ds : Items) → r ≡ Ok ds → All IsReadable (list_of ds)) → IsChecked command r a → IsChecked command r b → a ≡ b

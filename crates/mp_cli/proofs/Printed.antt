@@ -8,6 +8,7 @@ use Rattle.mp_tree.specs.Document.{Document, no_items, item, IsDocument, IsReada
 use Rattle.mp_tree.specs.Elements.{list_of}
 use Rattle.mp_tree.specs.Look.{Path}
 use Rattle.mp_tree.specs.Text.{documents_in, text as compact}
+use Rattle.mp_tree.proofs.Facts.{readable_documents}
 use Rattle.mp_patch.specs.Form.{shapes}
 use Rattle.mp_patch.specs.Operation.{HaveDocuments, Operation}
 use Rattle.mp_patch.specs.Run.{Runs}
@@ -23,7 +24,7 @@ use Rattle.mp_cli.specs.Lines.{newline, Answered, conflict_line, line, no_patche
 use Rattle.mp_cli.specs.Laws.{ReplicasPrintTheSame, JoinsPrintTheSame, TellsPair, HaveAClash, ClashesAreTold, JoinTellsClashes, JoinPrintedIsRead, RewritingPrintedIsRead}
 use Rattle.mp_cli.specs.Private.LawsBelow.{TextLaws, PatchLaws, MergeLaws, RewritingLaws}
 use Rattle.mp_cli.specs.declared.command.Command.TheVariants.{Patch, Merge, Join, Replay, Rewrite}
-use Rattle.mp_cli.proofs.ReadInputs.{documents_of, joined_are_compatible, replayed_are_compatible}
+use Rattle.mp_cli.proofs.ReadInputs.{joined_are_compatible, replayed_are_compatible}
 
 -- ---- lines
 
@@ -114,13 +115,13 @@ module _ (texts : TextLaws) (merges : MergeLaws) where
   pub clashes_are_told : ClashesAreTold
   unfolding IsAnswered
   clashes_are_told input start ps a reads clash answered =
-      let all = documents_of (item start ps) (texts.readable input (item start ps) reads) in
+      let all = readable_documents (list_of (item start ps)) (texts.readable input (item start ps) reads) in
       replay_tells start (list_of ps) a (All-head IsDocument start (list_of ps) all) (All-tail IsDocument start (list_of ps) all) clash (subst (λ r. IsChecked Replay r a) reads answered)
 
   pub join_tells_clashes : JoinTellsClashes
   unfolding IsAnswered
   join_tells_clashes input ps a reads clash answered =
-      join_tells (list_of ps) a (documents_of ps (texts.readable input ps reads)) clash (subst (λ r. IsChecked Join r a) reads answered)
+      join_tells (list_of ps) a (readable_documents (list_of ps) (texts.readable input ps reads)) clash (subst (λ r. IsChecked Join r a) reads answered)
 
   -- ---- the join that was printed is the join that is read
 
@@ -141,7 +142,7 @@ module _ (texts : TextLaws) (merges : MergeLaws) where
       let can = texts.readable input (item start ps) reads in
       let good_start = All-head IsReadable start (list_of ps) can in
       let can_patches = All-tail IsReadable start (list_of ps) can in
-      let all = documents_of ps can_patches in
+      let all = readable_documents (list_of ps) can_patches in
       let found = printed_join (list_of ps) printed (subst (λ r. IsChecked Join r (line printed status_result)) reads_list answered) in
       let j = found.join in
       let good_join = merges.readable_join (list_of ps) j found.good can_patches found.is_join in

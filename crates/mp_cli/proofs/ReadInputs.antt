@@ -1,4 +1,4 @@
--- What the elements of an input are, and what the laws of the crates below say of a list of patches.
+-- What the laws of the crates below say of a list of patches.
 use Rattle.std.proofs.Common.{◌≢◌, ℕ, List, [], sym, subst}
 use Rattle.std.proofs.lemmas.List.Elements.{All-contains, All-head, All-nil, All-tail, All-weaker}
 use Rattle.std.specs.List.{All}
@@ -9,14 +9,6 @@ use Rattle.mp_merge.specs.Join.{IsJoin}
 use Rattle.mp_merge.specs.Lists.{IsToldPair, PairwiseCompatible}
 use Rattle.mp_merge.specs.Outcome.{IsOutcome}
 use Rattle.mp_cli.specs.Private.LawsBelow.{MergeLaws}
-
--- each element is a document
-pub documents_of : (ds : Items) → All IsReadable (list_of ds) → All IsDocument (list_of ds)
-documents_of ds can = All-weaker IsReadable IsDocument (λ d is. is.is_document) (list_of ds) can
-
-pub are_documents : (ds : Items) → All IsReadable (list_of ds) → AreDocuments ds
-are_documents no_items can = tt
-are_documents (item d ds) can = ((All-head IsReadable d (list_of ds) can).is_document, are_documents ds (All-tail IsReadable d (list_of ds) can))
 
 module _ (laws : MergeLaws) where
   pub join_is_of_some : (patches : List Document) (j : Document) → IsJoin patches j → patches ≢ []

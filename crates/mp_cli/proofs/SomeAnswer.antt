@@ -7,12 +7,13 @@ use Rattle.mp_tree.specs.Elements.{list_of}
 use Rattle.mp_tree.specs.Laws.{ReadsReadables, FaultsAreOfArrays}
 use Rattle.mp_tree.specs.Text.{documents_in}
 use Rattle.mp_tree.specs.declared.fault.DocsFault.{DocsFault}
-use Rattle.mp_tree.specs.declared.fault.DocsFault.TheVariants.{NotJson, NotWhole, NotAnArray, OutOfMemory as NoMemory}
+use Rattle.mp_tree.specs.declared.fault.DocsFault.TheVariants.{NotJson, NotWhole}
+use Rattle.mp_tree.proofs.Facts.{readable_items, readable_documents}
 use Rattle.mp_pointer.specs.declared.fault.PointerFault.{PointerFault}
-use Rattle.mp_pointer.specs.declared.fault.PointerFault.TheVariants.{NoSlash, BadTilde, OutOfMemory as PointerMemory}
+use Rattle.mp_pointer.specs.declared.fault.PointerFault.TheVariants.{NoSlash, BadTilde}
 use Rattle.mp_patch.specs.Texts.{cause_text}
 use Rattle.mp_patch.specs.declared.fault.FormFault.{FormFault}
-use Rattle.mp_patch.specs.declared.fault.FormFault.TheVariants.{NotAnArray as NoList, Form, OutOfMemory as FormMemory}
+use Rattle.mp_patch.specs.declared.fault.FormFault.TheVariants.{Form}
 use Rattle.mp_pointer.specs.Part.{part}
 use Rattle.mp_patch.specs.Operation.{HaveDocuments, Operation}
 use Rattle.mp_patch.specs.declared.fault.ApplyFault.TheVariants.{Refused}
@@ -22,28 +23,27 @@ use Rattle.mp_cli.specs.Laws.{AnswerExists}
 use Rattle.mp_cli.specs.Private.LawsBelow.{PointerLaws, PatchLaws, MergeLaws, RewritingLaws}
 use Rattle.mp_cli.specs.declared.command.Command.{Command}
 use Rattle.mp_cli.specs.declared.command.Command.TheVariants.{Get, Patch, Merge, Join, Replay, Rewrite}
-use Rattle.mp_cli.proofs.ReadInputs.{are_documents, documents_of}
 
 abbrev Has : (Answered → Type 0) → Type 0
 Has Is = (a : Answered) × Is a
 
 -- ---- each fault but want of memory has its line
 
-input_line : (fault : DocsFault) → fault ≢ NoMemory → Has (λ a. input_fault fault ≡ Some a)
+input_line : (fault : DocsFault) → fault ≢ DocsFault.OutOfMemory → Has (λ a. input_fault fault ≡ Some a)
 input_line NotJson other = (_, refl)
 input_line NotWhole other = (_, refl)
-input_line NotAnArray other = (_, refl)
-input_line NoMemory other = absurd (other refl)
+input_line DocsFault.NotAnArray other = (_, refl)
+input_line DocsFault.OutOfMemory other = absurd (other refl)
 
-spelling_line : (fault : PointerFault) → fault ≢ PointerMemory → Has (λ a. spelling_fault fault ≡ Some a)
+spelling_line : (fault : PointerFault) → fault ≢ PointerFault.OutOfMemory → Has (λ a. spelling_fault fault ≡ Some a)
 spelling_line NoSlash other = (_, refl)
 spelling_line (BadTilde offset) other = (_, refl)
-spelling_line PointerMemory other = absurd (other refl)
+spelling_line PointerFault.OutOfMemory other = absurd (other refl)
 
-form_line : (fault : FormFault) → fault ≢ FormMemory → Has (λ a. form_fault fault ≡ Some a)
-form_line NoList other = (_, refl)
+form_line : (fault : FormFault) → fault ≢ FormFault.OutOfMemory → Has (λ a. form_fault fault ≡ Some a)
+form_line FormFault.NotAnArray other = (_, refl)
 form_line (Form number cause) other = (_, refl)
-form_line FormMemory other = absurd (other refl)
+form_line FormFault.OutOfMemory other = absurd (other refl)
 
 module _ (pointers : PointerLaws) (json : PatchLaws) (merges : MergeLaws) (rewritings : RewritingLaws) where
   some_run : (d : Document) (operations : List Operation) → IsDocument d → HaveDocuments operations → Has (IsRunAnswer d operations)
@@ -103,13 +103,13 @@ module _ (pointers : PointerLaws) (json : PatchLaws) (merges : MergeLaws) (rewri
 
   some_answer_to : (command : Command) (ds : Items) → All IsReadable (list_of ds) → Has (IsAnswerTo command ds)
   some_answer_to (Get pointer) ds can = some_get_to (string_bytes pointer) ds
-  some_answer_to Patch ds can = some_patch_to ds (are_documents ds can)
+  some_answer_to Patch ds can = some_patch_to ds (readable_items ds can)
   some_answer_to Merge ds can = (merge_answer ds, refl)
-  some_answer_to Join ds can = some_join (list_of ds) (documents_of ds can)
-  some_answer_to Replay ds can = some_replay_to ds (documents_of ds can)
-  some_answer_to Rewrite ds can = some_rewrite_to ds (are_documents ds can)
+  some_answer_to Join ds can = some_join (list_of ds) (readable_documents (list_of ds) can)
+  some_answer_to Replay ds can = some_replay_to ds (readable_documents (list_of ds) can)
+  some_answer_to Rewrite ds can = some_rewrite_to ds (readable_items ds can)
 
-  some_checked : (command : Command) (r : Result Items DocsFault) → r ≢ Err NoMemory → ((ds : Items) → r ≡ Ok ds → All IsReadable (list_of ds)) → Has (IsChecked command r)
+  some_checked : (command : Command) (r : Result Items DocsFault) → r ≢ Err DocsFault.OutOfMemory → ((ds : Items) → r ≡ Ok ds → All IsReadable (list_of ds)) → Has (IsChecked command r)
   some_checked command (Err fault) given can = input_line fault (λ memory. given (ap Err memory))
   some_checked command (Ok ds) given can = some_answer_to command ds (can ds refl)
 

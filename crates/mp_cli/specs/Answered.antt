@@ -6,18 +6,18 @@ use Rattle.mp_tree.specs.Text.{documents_in}
 use Rattle.mp_tree.specs.declared.fault.DocsFault.{DocsFault}
 use Rattle.mp_tree.specs.Elements.{list_of}
 use Rattle.mp_pointer.specs.Part.{part}
-use Rattle.mp_pointer.specs.Spelling.{Tokens, spell, IsFaultOf}
+use Rattle.mp_pointer.specs.Spelling.{Tokens, spell, IsPointerFault}
 use Rattle.mp_pointer.specs.declared.fault.PointerFault.{PointerFault}
 use Rattle.mp_merge.specs.Application.{in_turn}
 use Rattle.mp_cli.specs.Lines.{Answered, result_line, wrong_shape, input_fault, spelling_fault, part_line, form_fault}
-use Rattle.mp_cli.specs.Lines.{run_fault, conflict_line, no_patches}
+use Rattle.mp_cli.specs.Lines.{apply_fault, conflict_line, no_patches}
 use Rattle.mp_merge.specs.Join.{IsJoin}
 use Rattle.mp_merge.specs.Lists.{IsToldPair}
 use Rattle.mp_merge.specs.Outcome.{IsOutcome}
 use Rattle.mp_merge.specs.Rewriting.{IsRewriting}
 use Rattle.mp_patch.specs.Form.{AreForms, IsFormFault, shapes}
 use Rattle.mp_patch.specs.Operation.{Operation}
-use Rattle.mp_patch.specs.Run.{Runs, IsFaultOf as IsFaultOfRun}
+use Rattle.mp_patch.specs.Run.{Runs, IsApplyFault}
 use Rattle.mp_patch.specs.declared.fault.ApplyFault.{ApplyFault}
 use Rattle.mp_patch.specs.declared.fault.FormFault.{FormFault}
 use Rattle.mp_cli.specs.declared.answers.Answer.{Answer}
@@ -29,7 +29,7 @@ use Rattle.mp_cli.specs.declared.command.Command.TheVariants.{Get, Patch, Merge,
 -- the part that the tokens name, or what is wrong with their spelling
 pub data IsPartAnswer (d : Document) (pointer : List ℕ) (a : Answered) : Type 0 where
   spelled : (tokens : Tokens) → pointer ≡ spell tokens → a ≡ part_line (part d tokens) → IsPartAnswer d pointer a
-  misspelled : (fault : PointerFault) → IsFaultOf fault pointer → spelling_fault fault ≡ Some a → IsPartAnswer d pointer a
+  misspelled : (fault : PointerFault) → IsPointerFault fault pointer → spelling_fault fault ≡ Some a → IsPartAnswer d pointer a
 
 -- `get` wants `[document]`
 abbrev pub IsGetAnswerTo : List ℕ → Items → Answered → Type 0
@@ -49,7 +49,7 @@ merge_answer (item d ps) = result_line (in_turn d (list_of ps))
 -- where the operations run, the document that they lead to, and else the first that is refused
 pub data IsRunAnswer (d : Document) (operations : List Operation) (a : Answered) : Type 0 where
   ran : (e : Document) → IsDocument e → Runs d operations e → a ≡ result_line e → IsRunAnswer d operations a
-  halted : (fault : ApplyFault) → IsFaultOfRun fault d operations → run_fault fault ≡ Some a → IsRunAnswer d operations a
+  halted : (fault : ApplyFault) → IsApplyFault fault d operations → apply_fault fault ≡ Some a → IsRunAnswer d operations a
 
 -- the form of all operations is checked before any is applied
 pub data IsPatchAnswer (d patch : Document) (a : Answered) : Type 0 where

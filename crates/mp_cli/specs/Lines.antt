@@ -5,16 +5,16 @@ use Rattle.mp_tree.specs.Document.{Document, string}
 use Rattle.mp_tree.specs.Look.{Path}
 use Rattle.mp_tree.specs.Text.{text as compact}
 use Rattle.mp_tree.specs.declared.fault.DocsFault.{DocsFault}
-use Rattle.mp_tree.specs.declared.fault.DocsFault.TheVariants.{NotJson, NotWhole, NotAnArray, OutOfMemory}
+use Rattle.mp_tree.specs.declared.fault.DocsFault.TheVariants.{NotJson, NotWhole}
 use Rattle.mp_pointer.specs.Part.{numeral}
 use Rattle.mp_pointer.specs.Spelling.{spell}
 use Rattle.mp_pointer.specs.declared.fault.PointerFault.{PointerFault}
-use Rattle.mp_pointer.specs.declared.fault.PointerFault.TheVariants.{NoSlash, BadTilde, OutOfMemory as NoMemory}
+use Rattle.mp_pointer.specs.declared.fault.PointerFault.TheVariants.{NoSlash, BadTilde}
 use Rattle.mp_patch.specs.Texts.{cause_text, form_text}
 use Rattle.mp_patch.specs.declared.fault.ApplyFault.{ApplyFault}
-use Rattle.mp_patch.specs.declared.fault.ApplyFault.TheVariants.{Refused, OutOfMemory as RunMemory}
+use Rattle.mp_patch.specs.declared.fault.ApplyFault.TheVariants.{Refused}
 use Rattle.mp_patch.specs.declared.fault.FormFault.{FormFault}
-use Rattle.mp_patch.specs.declared.fault.FormFault.TheVariants.{NotAnArray as NoList, Form, OutOfMemory as FormMemory}
+use Rattle.mp_patch.specs.declared.fault.FormFault.TheVariants.{Form}
 use Rattle.mp_cli.specs.declared.running.RunFault.{RunFault}
 use Rattle.mp_cli.specs.declared.running.RunFault.TheVariants as run_fails
 
@@ -63,17 +63,17 @@ wrong_shape = line (codes "input: wrong shape") status_refused
 abbrev pub input_fault : DocsFault → Option Answered
 input_fault NotJson = Some (line (codes "input: not JSON") status_refused)
 input_fault NotWhole = Some (line (codes "input: number not whole") status_refused)
-input_fault NotAnArray = Some wrong_shape
-input_fault OutOfMemory = None
+input_fault DocsFault.NotAnArray = Some wrong_shape
+input_fault DocsFault.OutOfMemory = None
 
--- what is wrong with the spelling of a pointer, a tilde with its place in plain decimals
+-- what is wrong with the spelling of a pointer, a tilde with its offset in plain decimals
 abbrev pub bad_tilde_line : ℕ → Answered
 bad_tilde_line offset = line (codes "pointer: bad tilde at " ++ numeral offset) status_refused
 
 abbrev pub spelling_fault : PointerFault → Option Answered
 spelling_fault NoSlash = Some (line (codes "pointer: no slash") status_refused)
 spelling_fault (BadTilde offset) = Some (bad_tilde_line offset)
-spelling_fault NoMemory = None
+spelling_fault PointerFault.OutOfMemory = None
 
 -- a part of a document, where there is one
 abbrev pub part_line : Option Document → Answered
@@ -86,14 +86,14 @@ operation_line number words status = line (codes "operation " ++ numeral number 
 
 -- what is wrong with the form of a patch
 abbrev pub form_fault : FormFault → Option Answered
-form_fault NoList = Some wrong_shape
+form_fault FormFault.NotAnArray = Some wrong_shape
 form_fault (Form number cause) = Some (operation_line number (form_text cause) status_refused)
-form_fault FormMemory = None
+form_fault FormFault.OutOfMemory = None
 
 -- why a patch has no result
-abbrev pub run_fault : ApplyFault → Option Answered
-run_fault (Refused number cause) = Some (operation_line number (cause_text cause) status_no_result)
-run_fault RunMemory = None
+abbrev pub apply_fault : ApplyFault → Option Answered
+apply_fault (Refused number cause) = Some (operation_line number (cause_text cause) status_no_result)
+apply_fault ApplyFault.OutOfMemory = None
 
 -- a pointer as a JSON string
 abbrev pub pointer_text : Path → List ℕ

@@ -9,7 +9,7 @@ use crate::answers::Answer;
 use crate::command::Command;
 use crate::inputs::{first_and_rest, pair, single};
 use crate::lines::{
-    fault_answer, fault_in_form, fault_in_list, fault_in_run, fault_in_spelling, part, result_line,
+    apply_fault, form_fault, input_fault, list_fault, part_line, result_line, spelling_fault,
     wrong_shape,
 };
 use mp_merge::{join_all, merge_owned, replay_owned, rewrite as rewriting};
@@ -45,7 +45,7 @@ pub fn answer(alloc: Global, command: &Command, input: &[u8]) -> Result<Answer, 
             Command::Replay => replay(alloc, docs),
             Command::Rewrite => rewrite(alloc, docs),
         },
-        Err(fault) => fault_answer(alloc, fault),
+        Err(fault) => input_fault(alloc, fault),
     }
 }
 
@@ -56,8 +56,8 @@ fn get(alloc: Global, pointer: &str, docs: Vec<Doc>) -> Result<Answer, AllocErro
         return wrong_shape(alloc);
     };
     match Pointer::parse(alloc, pointer) {
-        Ok(pointer) => part(alloc, part_at(&doc, &pointer)),
-        Err(fault) => fault_in_spelling(alloc, fault),
+        Ok(pointer) => part_line(alloc, part_at(&doc, &pointer)),
+        Err(fault) => spelling_fault(alloc, fault),
     }
 }
 
@@ -75,7 +75,7 @@ fn read_and_apply(alloc: Global, doc: Doc, patch: Doc) -> Result<Answer, AllocEr
 {
     match JsonPatch::from_doc_owned(alloc, patch) {
         Ok(patch) => apply_patch(alloc, doc, patch),
-        Err(fault) => fault_in_form(alloc, fault),
+        Err(fault) => form_fault(alloc, fault),
     }
 }
 
@@ -84,7 +84,7 @@ fn apply_patch(alloc: Global, doc: Doc, patch: JsonPatch) -> Result<Answer, Allo
 {
     match apply_once(alloc, doc, patch) {
         Ok(result) => result_line(write_doc(alloc, &result)?),
-        Err(fault) => fault_in_run(alloc, fault),
+        Err(fault) => apply_fault(alloc, fault),
     }
 }
 
@@ -105,7 +105,7 @@ fn join(alloc: Global, patches: &[Doc]) -> Result<Answer, AllocError>
 {
     match join_all(alloc, patches) {
         Ok(joined) => result_line(write_doc(alloc, &joined)?),
-        Err(fault) => fault_in_list(alloc, fault),
+        Err(fault) => list_fault(alloc, fault),
     }
 }
 
@@ -117,7 +117,7 @@ fn replay(alloc: Global, docs: Vec<Doc>) -> Result<Answer, AllocError>
     };
     match replay_owned(alloc, start, patches.as_slice()) {
         Ok(doc) => result_line(write_doc(alloc, &doc)?),
-        Err(fault) => fault_in_list(alloc, fault),
+        Err(fault) => list_fault(alloc, fault),
     }
 }
 

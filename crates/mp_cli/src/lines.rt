@@ -2,9 +2,10 @@
 ghost use Rattle.std.specs.Prelude.{◌≡◌, ◌++◌, IfOk, OnOk, option_map, string_bytes};
 ghost use Rattle.mp_tree.specs.View.{document};
 ghost use Rattle.mp_pointer.specs.Part.{numeral};
-ghost use Rattle.mp_cli.specs.Lines.{bad_tilde_line, conflict_line, form_fault, input_fault, line as line_with, operation_line, part_line, pointer_text, pointers_text, run_fault, spelling_fault, status_result, wrong_shape as shape_fault};
-ghost use Rattle.mp_cli.specs.Private.Answers.{Gives, GivesLine, list_fault};
-ghost use Rattle.mp_cli.specs.Lines.{line_of, status_of};
+ghost use Rattle.mp_cli.specs.Lines as lines;
+ghost use Rattle.mp_cli.specs.Lines.{line_of, pointers_text, status_of, status_result};
+ghost use Rattle.mp_cli.specs.Private.Answers as answers;
+ghost use Rattle.mp_cli.specs.Private.Answers.{Gives, GivesLine};
 
 use crate::answers::Answer;
 use crate::running::RunFault;
@@ -26,8 +27,8 @@ const REFUSED: u8 = 2;
 /// The status where the machine is.
 const FAILED: u8 = 3;
 
-pub(crate) fn fault_answer(alloc: Global, fault: DocsFault) -> Result<Answer, AllocError>
-    ensures { GivesLine result (input_fault fault) }
+pub(crate) fn input_fault(alloc: Global, fault: DocsFault) -> Result<Answer, AllocError>
+    ensures { GivesLine result (lines.input_fault fault) }
 {
     match fault {
         DocsFault::NotJson => line(alloc, "input: not JSON", REFUSED),
@@ -38,37 +39,37 @@ pub(crate) fn fault_answer(alloc: Global, fault: DocsFault) -> Result<Answer, Al
 }
 
 pub(crate) fn wrong_shape(alloc: Global) -> Result<Answer, AllocError>
-    ensures { Gives result shape_fault }
+    ensures { Gives result lines.wrong_shape }
 {
     line(alloc, "input: wrong shape", REFUSED)
 }
 
 fn line(alloc: Global, text: &str, status: u8) -> Result<Answer, AllocError>
-    ensures { Gives result (line_with text.now status) }
+    ensures { Gives result (lines.line text.now status) }
 {
     ended(String::from_str(alloc, text)?, status)
 }
 
 // The text is not copied: it may be as long as memory allows.
 fn ended(mut text: String, status: u8) -> Result<Answer, AllocError>
-    ensures { Gives result (line_with (string_bytes text) status) }
+    ensures { Gives result (lines.line (string_bytes text) status) }
 {
     text.push_str("\n")?;
     Ok(Answer { text, status })
 }
 
-pub(crate) fn fault_in_spelling(alloc: Global, fault: PointerFault) -> Result<Answer, AllocError>
-    ensures { GivesLine result (spelling_fault fault) }
+pub(crate) fn spelling_fault(alloc: Global, fault: PointerFault) -> Result<Answer, AllocError>
+    ensures { GivesLine result (lines.spelling_fault fault) }
 {
     match fault {
         PointerFault::NoSlash => line(alloc, "pointer: no slash", REFUSED),
-        PointerFault::BadTilde(offset) => bad_tilde(alloc, offset),
+        PointerFault::BadTilde(offset) => bad_tilde_line(alloc, offset),
         PointerFault::OutOfMemory => Err(AllocError),
     }
 }
 
-fn bad_tilde(alloc: Global, offset: usize) -> Result<Answer, AllocError>
-    ensures { Gives result (bad_tilde_line offset) }
+fn bad_tilde_line(alloc: Global, offset: usize) -> Result<Answer, AllocError>
+    ensures { Gives result (lines.bad_tilde_line offset) }
 {
     ended(
         with_number(alloc, "pointer: bad tilde at ", offset)?,
@@ -76,8 +77,8 @@ fn bad_tilde(alloc: Global, offset: usize) -> Result<Answer, AllocError>
     )
 }
 
-pub(crate) fn part(alloc: Global, found: Option<&Doc>) -> Result<Answer, AllocError>
-    ensures { Gives result (part_line (option_map (λ d. document d.now) found.entry)) }
+pub(crate) fn part_line(alloc: Global, found: Option<&Doc>) -> Result<Answer, AllocError>
+    ensures { Gives result (lines.part_line (option_map (λ d. document d.now) found.entry)) }
 {
     match found {
         Some(doc) => result_line(write_doc(alloc, doc)?),
@@ -85,27 +86,27 @@ pub(crate) fn part(alloc: Global, found: Option<&Doc>) -> Result<Answer, AllocEr
     }
 }
 
-pub(crate) fn fault_in_form(alloc: Global, fault: FormFault) -> Result<Answer, AllocError>
-    ensures { GivesLine result (form_fault fault) }
+pub(crate) fn form_fault(alloc: Global, fault: FormFault) -> Result<Answer, AllocError>
+    ensures { GivesLine result (lines.form_fault fault) }
 {
     match fault {
         FormFault::NotAnArray => wrong_shape(alloc),
-        FormFault::Form { op, cause } => operation(alloc, op, cause.as_str(), REFUSED),
+        FormFault::Form { op, cause } => operation_line(alloc, op, cause.as_str(), REFUSED),
         FormFault::OutOfMemory => Err(AllocError),
     }
 }
 
-pub(crate) fn fault_in_run(alloc: Global, fault: ApplyFault) -> Result<Answer, AllocError>
-    ensures { GivesLine result (run_fault fault) }
+pub(crate) fn apply_fault(alloc: Global, fault: ApplyFault) -> Result<Answer, AllocError>
+    ensures { GivesLine result (lines.apply_fault fault) }
 {
     match fault {
-        ApplyFault::Refused { op, cause } => operation(alloc, op, cause.as_str(), NO_RESULT),
+        ApplyFault::Refused { op, cause } => operation_line(alloc, op, cause.as_str(), NO_RESULT),
         ApplyFault::OutOfMemory => Err(AllocError),
     }
 }
 
-fn operation(alloc: Global, op: usize, words: &str, status: u8) -> Result<Answer, AllocError>
-    ensures { Gives result (operation_line op words.now status) }
+fn operation_line(alloc: Global, op: usize, words: &str, status: u8) -> Result<Answer, AllocError>
+    ensures { Gives result (lines.operation_line op words.now status) }
 {
     let mut text = with_number(alloc, "operation ", op)?;
     text.push_str(": ")?;
@@ -113,8 +114,8 @@ fn operation(alloc: Global, op: usize, words: &str, status: u8) -> Result<Answer
     ended(text, status)
 }
 
-pub(crate) fn fault_in_list(alloc: Global, fault: ListFault) -> Result<Answer, AllocError>
-    ensures { GivesLine result (list_fault fault) }
+pub(crate) fn list_fault(alloc: Global, fault: ListFault) -> Result<Answer, AllocError>
+    ensures { GivesLine result (answers.list_fault fault) }
 {
     match fault {
         ListFault::NoPatches => line(alloc, "no patches", NO_RESULT),
@@ -122,18 +123,18 @@ pub(crate) fn fault_in_list(alloc: Global, fault: ListFault) -> Result<Answer, A
             first,
             second,
             places,
-        } => conflict(alloc, first, second, places),
+        } => conflict_line(alloc, first, second, places),
         ListFault::OutOfMemory => Err(AllocError),
     }
 }
 
-fn conflict(
+fn conflict_line(
     alloc: Global,
     first: usize,
     second: usize,
     places: Vec<Pointer>,
 ) -> Result<Answer, AllocError>
-    ensures { Gives result (conflict_line first second places.items) }
+    ensures { Gives result (lines.conflict_line first second places.items) }
 {
     let mut text = with_number(alloc, "conflict: patches ", first)?;
     text.push_str(with_number(alloc, " and ", second)?.as_str())?;
@@ -150,17 +151,17 @@ fn push_pointers(text: &mut String, places: Vec<Pointer>, alloc: Global) -> Resu
 {
     let mut left = places.into_iter();
     if let Some(first) = left.next() {
-        text.push_str(pointer(alloc, &first)?.as_str())?;
+        text.push_str(pointer_text(alloc, &first)?.as_str())?;
     }
     for place in left {
         text.push_str(", ")?;
-        text.push_str(pointer(alloc, &place)?.as_str())?;
+        text.push_str(pointer_text(alloc, &place)?.as_str())?;
     }
     Ok(())
 }
 
-fn pointer(alloc: Global, place: &Pointer) -> Result<String, AllocError>
-    ensures { IfOk result (λ text. string_bytes text ≡ pointer_text place.now) }
+fn pointer_text(alloc: Global, place: &Pointer) -> Result<String, AllocError>
+    ensures { IfOk result (λ text. string_bytes text ≡ lines.pointer_text place.now) }
 {
     write_text(alloc, place.print(alloc)?.as_str())
 }
@@ -173,7 +174,7 @@ fn with_number(alloc: Global, before: &str, number: usize) -> Result<String, All
 }
 
 pub(crate) fn result_line(text: String) -> Result<Answer, AllocError>
-    ensures { Gives result (line_with (string_bytes text) status_result) }
+    ensures { Gives result (lines.line (string_bytes text) status_result) }
 {
     ended(text, RESULT)
 }

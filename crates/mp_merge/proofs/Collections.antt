@@ -1,4 +1,3 @@
 -- Elements of lists and members of maps, one by one.
-pub mod Elements
 pub mod Growth
 pub mod Members

@@ -16,11 +16,11 @@ use Rattle.mp_merge.specs.Rewriting.{IsRewriting}
 use Rattle.mp_merge.specs.declared.fault.ListFault.{ListFault}
 use Rattle.mp_merge.specs.declared.fault.ListFault.TheVariants.{NoPatches, ConflictOf, OutOfMemory}
 use Rattle.mp_merge.proofs.Application.ByName.{IsDocument-merge_patch}
-use Rattle.mp_merge.proofs.Collections.Elements.{Contains-nil, Contains-head}
+use Rattle.mp_tree.proofs.Facts.{Contains-nil, Contains-head}
 use Rattle.mp_merge.proofs.Application.InTurn.{IsDocument-in_turn, applied_in_turn}
 use Rattle.mp_merge.proofs.Joins.Laws.{join_exists, join_is_no_deeper, join_of_same, one_join}
 use Rattle.mp_merge.proofs.Outcome.{one_outcome, join_gives_outcome}
-use Rattle.mp_merge.proofs.Rewritings.Existence.{rewriting_exists, rewriting_has_documents}
+use Rattle.mp_merge.proofs.Rewritings.SomeRewriting.{rewriting_exists, rewriting_has_documents}
 use Rattle.mp_merge.proofs.Clashes.ToldPair.{compatible_have_none}
 
 -- the laws of runs that the proof rests on

@@ -3,15 +3,13 @@ use Rattle.std.proofs.Common.{◌≡◌, ◌≢◌, ◌⊎◌, inl, inr, List, [
 use Rattle.std.specs.List.{Contains}
 use Rattle.mp_tree.specs.Document.{Document}
 use Rattle.mp_tree.specs.Look.{Path, Look, nothing, an_object, plain, look}
-use Rattle.mp_tree.proofs.Facts.{equal_looks}
+use Rattle.mp_tree.proofs.Facts.{equal_looks, Contains-head, Contains-one, some_or_all, nothing_or}
 use Rattle.mp_merge.specs.Application.{merge_patch}
 use Rattle.mp_merge.specs.Join.{IsJoin}
 use Rattle.mp_merge.specs.Laws.{ApplicationIsOutcome, HasOneOutcome, ReplicasAgree, JoinGivesOutcome}
 use Rattle.mp_merge.specs.Lists.{HaveSameMembers}
 use Rattle.mp_merge.specs.Outcome.{left_by, LeavesAlone, IsOutcome}
-use Rattle.mp_merge.proofs.Collections.Elements.{Contains-head, Contains-one, some_or_all}
 use Rattle.mp_merge.proofs.Joins.Laws.{from_join}
-use Rattle.mp_tree.proofs.Facts.{nothing_or}
 use Rattle.mp_merge.proofs.Application.Looks.{says, or_else, left_of, look-merge_patch, says-has, says-below, IsBelowPlain, Reach, has, below, alone, reach}
 
 says-plain : (p : Document) (w : Path) (v : Document) → look p w ≡ plain v → says p w ≡ Some (left_by v w)

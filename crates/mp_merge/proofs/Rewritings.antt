@@ -3,8 +3,8 @@ pub mod AnyOrder
 pub mod ChangedPath
 pub mod Computed
 pub mod EditPlaces
-pub mod Existence
 pub mod Guards
+pub mod SomeRewriting
 pub mod Steps
 pub mod Unique
 pub mod Walk

@@ -15,7 +15,7 @@ use Rattle.mp_merge.specs.declared.converging.Converged.{Converged}
 use Rattle.mp_merge.specs.declared.fault.ConvergeFault.{ConvergeFault}
 use Rattle.mp_merge.specs.declared.fault.ConvergeFault.TheVariants.{Lists, Patch, OutOfMemory}
 use Rattle.mp_merge.specs.declared.fault.ListFault.TheVariants.{NoPatches, ConflictOf}
-use Rattle.mp_merge.specs.declared.fault.ListFault.TheVariants.{OutOfMemory as NoMemoryForList}
+use Rattle.mp_merge.specs.declared.fault.ListFault.{ListFault}
 
 -- each field is what its name says of the start and of the patches that the one and the other received
 pub record IsConverged (start : Document) (here there : List Document) (c : Converged) : Type 0 where
@@ -45,6 +45,6 @@ IsConvergeFault (Lists (ConflictOf first second places)) start here there =
     ⊎ (PairwiseCompatible here × IsToldPair there first second places.items)
 IsConvergeFault (Lists NoPatches) start here there =
     PairwiseCompatible here × PairwiseCompatible there × ((here ≡ []) ⊎ (there ≡ []))
-IsConvergeFault (Lists NoMemoryForList) start here there = ⊥
+IsConvergeFault (Lists ListFault.OutOfMemory) start here there = ⊥
 IsConvergeFault (Patch op cause) start here there = IsRewritingRefused start here there op cause
 IsConvergeFault OutOfMemory start here there = ⊤

@@ -23,6 +23,6 @@ RefusedAt d operations k cause =
     × (o : Operation) × (slice_get operations k ≡ Some o) × RefusedBy m o cause
 
 -- why there is no result; want of memory says nothing of the patch
-abbrev pub IsFaultOf : ApplyFault → Document → List Operation → Type 0
-IsFaultOf (Refused number cause) d operations = RefusedAt d operations number cause
-IsFaultOf OutOfMemory d operations = ⊤
+abbrev pub IsApplyFault : ApplyFault → Document → List Operation → Type 0
+IsApplyFault (Refused number cause) d operations = RefusedAt d operations number cause
+IsApplyFault OutOfMemory d operations = ⊤

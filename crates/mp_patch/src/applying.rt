@@ -2,7 +2,7 @@
 ghost use Rattle.std.specs.Prelude.{◌≤◌, MatchResult, IfOk};
 ghost use Rattle.mp_tree.specs.Document.{depth, depth_limit};
 ghost use Rattle.mp_tree.specs.View.{document};
-ghost use Rattle.mp_patch.specs.Run.{Runs, IsFaultOf};
+ghost use Rattle.mp_patch.specs.Run.{Runs, IsApplyFault};
 ghost use Rattle.mp_patch.specs.View.{operations_of};
 
 use crate::bound::DepthBound;
@@ -24,7 +24,7 @@ use std::alloc::Global;
 pub fn apply(alloc: Global, doc: &Doc, patch: &JsonPatch) -> Result<Doc, ApplyFault>
     ensures runs { MatchResult result
         (λ e. Runs (document doc.now) (operations_of patch.now) (document e))
-        (λ fault. IsFaultOf fault (document doc.now) (operations_of patch.now)) }
+        (λ fault. IsApplyFault fault (document doc.now) (operations_of patch.now)) }
     ensures depth { IfOk result (λ e. depth (document doc.now) ≤ depth_limit
         → depth (document e) ≤ depth_limit) }
 {
@@ -35,7 +35,7 @@ pub fn apply(alloc: Global, doc: &Doc, patch: &JsonPatch) -> Result<Doc, ApplyFa
 pub fn apply_owned(alloc: Global, doc: Doc, patch: &JsonPatch) -> Result<Doc, ApplyFault>
     ensures runs { MatchResult result
         (λ e. Runs (document doc) (operations_of patch.now) (document e))
-        (λ fault. IsFaultOf fault (document doc) (operations_of patch.now)) }
+        (λ fault. IsApplyFault fault (document doc) (operations_of patch.now)) }
     ensures depth { IfOk result (λ e. depth (document doc) ≤ depth_limit
         → depth (document e) ≤ depth_limit) }
 {
@@ -53,7 +53,7 @@ pub fn apply_owned(alloc: Global, doc: Doc, patch: &JsonPatch) -> Result<Doc, Ap
 pub fn apply_once(alloc: Global, doc: Doc, patch: JsonPatch) -> Result<Doc, ApplyFault>
     ensures runs { MatchResult result
         (λ e. Runs (document doc) (operations_of patch) (document e))
-        (λ fault. IsFaultOf fault (document doc) (operations_of patch)) }
+        (λ fault. IsApplyFault fault (document doc) (operations_of patch)) }
     ensures depth { IfOk result (λ e. depth (document doc) ≤ depth_limit
         → depth (document e) ≤ depth_limit) }
 {

@@ -8,7 +8,7 @@ use crate::measuring::depth_within;
 use mp_tree::Doc;
 
 /// The number of tokens of a place and the depth of a value that is put there are together at most this.
-const DEPTH_LIMIT: usize = mp_tree::DEPTH_LIMIT as usize;
+const LEVELS: usize = mp_tree::DEPTH_LIMIT as usize;
 
 /// So many parts are walked at least before a document is measured: to walk them takes next to no time.
 const LEAST_WALKED: usize = 65_536;
@@ -43,7 +43,7 @@ impl DepthBound {
         ensures kept { (d : Document) → Bounds self.old.most 0 d → Bounds self.new.most 0 d }
         ensures bounds { IsTrue result → Bounds self.new.most tokens (document value.now) }
     {
-        let Some(room) = DEPTH_LIMIT.checked_sub(tokens) else {
+        let Some(room) = LEVELS.checked_sub(tokens) else {
             return false;
         };
         let Some(depth) = depth_within(value, room, &mut self.walked) else {
@@ -84,7 +84,7 @@ impl DepthBound {
         ensures bounds { IsTrue result → (v : Document) → Bounds self.old.most origin v
             → Bounds self.new.most tokens v }
     {
-        let (Some(most), Some(room)) = (self.most, DEPTH_LIMIT.checked_sub(tokens)) else {
+        let (Some(most), Some(room)) = (self.most, LEVELS.checked_sub(tokens)) else {
             return false;
         };
         let depth = most.saturating_sub(origin);
@@ -99,7 +99,7 @@ impl DepthBound {
         ensures { Bounds self.new.most 0 (document doc.now) }
     {
         self.walked = 0;
-        self.most = depth_within(doc, DEPTH_LIMIT, &mut self.walked);
+        self.most = depth_within(doc, LEVELS, &mut self.walked);
         self.parts = self.walked;
         self.walked = 0;
     }

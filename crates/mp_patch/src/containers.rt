@@ -4,7 +4,7 @@ ghost use Rattle.mp_tree.specs.View.{document};
 ghost use Rattle.mp_tree.specs.declared.doc.Doc.TheVariants.{Items};
 ghost use Rattle.mp_pointer.specs.Part.{numeral};
 ghost use Rattle.mp_patch.specs.Operation.{dash};
-ghost use Rattle.mp_patch.specs.Private.Steps.{Inserts, Takes};
+ghost use Rattle.mp_patch.specs.Private.Steps.{Inserts, TakesOut};
 
 use crate::fault::{Cause, Refusal};
 use mp_pointer::index_of;
@@ -81,7 +81,7 @@ fn index_in(len: usize, token: &str) -> Option<usize>
 
 // Takes out what the token names.
 pub(crate) fn take(container: &mut Doc, token: &str) -> Option<Doc>
-    ensures { Takes result token.now (document container.old) (document container.new) }
+    ensures { TakesOut result token.now (document container.old) (document container.new) }
 {
     if let Some(elements) = items_mut(container) {
         take_element(elements, token)
@@ -93,7 +93,7 @@ pub(crate) fn take(container: &mut Doc, token: &str) -> Option<Doc>
 }
 
 fn take_element(elements: &mut Vec<Doc>, token: &str) -> Option<Doc>
-    ensures { Takes result token.now (document (Items elements.old))
+    ensures { TakesOut result token.now (document (Items elements.old))
         (document (Items elements.new)) }
 {
     let index = index_of(token)?;

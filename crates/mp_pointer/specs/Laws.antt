@@ -6,7 +6,7 @@ use Rattle.mp_tree.specs.Document.{Document, IsDocument, IsReadable, Items, list
 use Rattle.mp_pointer.specs.Difference.{DifferOnlyAt}
 use Rattle.mp_pointer.specs.Part.{numeral, child, part}
 use Rattle.mp_tree.specs.Elements.{count_of, nth}
-use Rattle.mp_pointer.specs.Spelling.{Tokens, spell, IsFaultOf, are_same_tokens}
+use Rattle.mp_pointer.specs.Spelling.{Tokens, spell, IsPointerFault, are_same_tokens}
 use Rattle.mp_pointer.specs.declared.fault.PointerFault.{PointerFault}
 use Rattle.mp_pointer.specs.declared.fault.PointerFault.TheVariants.{OutOfMemory}
 
@@ -21,16 +21,16 @@ HasOneSpelling = (s t : Tokens) → spell s ≡ spell t → s ≡ t
 -- a text spells a list of tokens, or has a fault (section 3)
 abbrev pub SpellsOrIsFaulty : Type 0
 SpellsOrIsFaulty = (text : List ℕ)
-    → ((t : Tokens) × (text ≡ spell t)) ⊎ ((fault : PointerFault) × (fault ≢ OutOfMemory) × IsFaultOf fault text)
+    → ((t : Tokens) × (text ≡ spell t)) ⊎ ((fault : PointerFault) × (fault ≢ OutOfMemory) × IsPointerFault fault text)
 
 -- and not both
 abbrev pub SpellingsHaveNoFault : Type 0
-SpellingsHaveNoFault = (t : Tokens) (fault : PointerFault) → IsFaultOf fault (spell t) → fault ≡ OutOfMemory
+SpellingsHaveNoFault = (t : Tokens) (fault : PointerFault) → IsPointerFault fault (spell t) → fault ≡ OutOfMemory
 
 -- and has one fault alone; want of memory is none of a text
 abbrev pub HasOneFault : Type 0
 HasOneFault = (text : List ℕ) (fault other : PointerFault) → fault ≢ OutOfMemory → other ≢ OutOfMemory
-    → IsFaultOf fault text → IsFaultOf other text → fault ≡ other
+    → IsPointerFault fault text → IsPointerFault other text → fault ≡ other
 
 -- a token spells one index (RFC 6901 section 4)
 abbrev pub SpellsOneIndex : Type 0

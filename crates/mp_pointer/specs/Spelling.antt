@@ -51,7 +51,7 @@ pub record IsFirstBadTilde (text : List ℕ) (offset : ℕ) : Type 0 where
   pub before : (k : ℕ) → k < offset → ¬ IsBadTilde text k
 
 -- why the text is no pointer; want of memory says nothing of it
-abbrev pub IsFaultOf : PointerFault → List ℕ → Type 0
-IsFaultOf NoSlash text = LacksSlash text
-IsFaultOf (BadTilde offset) text = (slice_index text 0 ≡ slash) × IsFirstBadTilde text offset
-IsFaultOf OutOfMemory text = ⊤
+abbrev pub IsPointerFault : PointerFault → List ℕ → Type 0
+IsPointerFault NoSlash text = LacksSlash text
+IsPointerFault (BadTilde offset) text = (slice_index text 0 ≡ slash) × IsFirstBadTilde text offset
+IsPointerFault OutOfMemory text = ⊤

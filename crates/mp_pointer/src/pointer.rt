@@ -2,7 +2,7 @@
 ghost use Rattle.std.specs.Prelude.{◌≡◌, ◌≤◌, ◌-◌, ◌↔◌, ◌++◌, ◌∷◌, [], length, take, get_or, slice_get, IsTrue, IfOk, IfErr, IfSome, OnOk, OnErr, string_bytes};
 ghost use Rattle.std.specs.Option.{option_copied};
 ghost use Rattle.mp_pointer.specs.Bytes.{slash};
-ghost use Rattle.mp_pointer.specs.Spelling.{BeginsWith, spell, IsFaultOf, IsProperPrefix};
+ghost use Rattle.mp_pointer.specs.Spelling.{BeginsWith, spell, IsPointerFault, IsProperPrefix};
 
 use crate::fault::PointerFault;
 use crate::spelling::{bad_tilde, is_plain, pointer_after, push_escaped};
@@ -55,7 +55,7 @@ impl Pointer {
     /// ```
     pub fn parse(alloc: Global, text: &str) -> Result<Pointer, PointerFault>
         ensures spelled { IfOk result (λ p. text.now ≡ spell p) }
-        ensures fault { IfErr result (λ fault. IsFaultOf fault text.now) }
+        ensures fault { IfErr result (λ fault. IsPointerFault fault text.now) }
     {
         if text.is_empty() {
             return Ok(Pointer::empty(alloc));

@@ -1,9 +1,9 @@
 -- The join texts of lists of texts.
 use Rattle.std.proofs.Common.{◌≢◌, ℕ, List, [], ◌∷◌, ◌++◌, refl, sym, ap, ◌∙◌, subst}
-use Rattle.std.proofs.lemmas.List.Elements.{All-weaker}
 use Rattle.std.specs.List.{All}
-use Rattle.mp_tree.specs.Document.{Document, IsDocument, IsReadable}
+use Rattle.mp_tree.specs.Document.{Document, IsDocument}
 use Rattle.mp_tree.specs.Text.{text as compact}
+use Rattle.mp_tree.proofs.Facts.{readable_documents}
 use Rattle.mp_merge.specs.Join.{IsJoin}
 use Rattle.mp_merge.specs.Lists.{PairwiseCompatible}
 use Rattle.mp_texts.specs.Answers.{IsJoinText}
@@ -48,7 +48,7 @@ join_of_two_joins ts us one other a first second =
 
 module _ (laws : JoinLaws) where
   pub documents_of : (ts : List (List ℕ)) (ds : List Document) → AreRead ts ds → All IsDocument ds
-  documents_of ts ds read = All-weaker IsReadable IsDocument (λ d is. is.is_document) ds (all_readable laws.readable ts ds read)
+  documents_of ts ds read = readable_documents ds (all_readable laws.readable ts ds read)
 
   pub good_join : (ts : List (List ℕ)) (a : List ℕ) → (is : IsJoinText ts a) → IsDocument is.join
   good_join ts a is = (laws.readable a is.join is.text.read_back).is_document

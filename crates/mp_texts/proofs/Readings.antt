@@ -1,44 +1,15 @@
 -- Texts that are read, and the documents that they are read as.
 use Rattle.std.proofs.Common.{◌≡◌, ◌≢◌, ◌≤◌, ◌⊎◌, inl, inr, List, [], ◌∷◌, ◌++◌, ℕ, None, Some, option_and_then, Ok, refl, sym, ap, ap₂, ◌∙◌, subst, arith}
-use Rattle.std.proofs.lemmas.Bool.{le-leb}
-use Rattle.std.proofs.lemmas.List.Elements.{All-cons, All-nil, Contains-append_cases, Contains-append_right, Contains-push_cases}
+use Rattle.std.proofs.lemmas.List.Elements.{All-cons, All-nil}
 use Rattle.std.specs.List.{All, Contains}
 use Rattle.mp_tree.specs.Document.{Document, IsReadable, depth, depth_limit}
 use Rattle.mp_tree.specs.Laws.{ReadsBack, ReadsReadable}
-use Rattle.mp_tree.specs.Text.{document_from, document_in, document_read, read, reading, shallow_document, whole_document, text as compact}
+use Rattle.mp_tree.specs.Text.{document_in, read, text as compact}
+use Rattle.mp_tree.proofs.Facts.{Contains-nil, Contains-head, Contains-tail, Contains-cases, document_in-read}
 use Rattle.mp_texts.specs.Answers.{IsTextOf}
 use Rattle.mp_texts.specs.Texts.{AreRead}
 
--- ---- membership
-
-module _ {X : Type 0} where
-  pub none_in : (x : X) → Contains [] x → ⊥
-  none_in x at = let below = at.1 in absurd (omega arith)
-
-  pub Contains-head : (x : X) (xs : List X) → Contains (x ∷ xs) x
-  Contains-head x xs = (0, omega arith, refl)
-
-  pub Contains-tail : (x y : X) (xs : List X) → Contains xs y → Contains (x ∷ xs) y
-  Contains-tail x y xs at = Contains-append_right (x ∷ []) xs y at
-
-  pub Contains-one : (x y : X) → Contains (x ∷ []) y → x ≡ y
-  Contains-one x y at = elim (Contains-push_cases [] x y at) [ inl none ↦ absurd (none_in y none) | inr same ↦ same ]
-
-  pub Contains-cases : (x y : X) (xs : List X) → Contains (x ∷ xs) y → (x ≡ y) ⊎ Contains xs y
-  Contains-cases x y xs at = elim (Contains-append_cases (x ∷ []) xs y at) [ inl one ↦ inl (Contains-one x y one) | inr later ↦ inr later ]
-
 -- ---- one text
-
-shallow : (d : Document) → depth d ≤ depth_limit → shallow_document d ≡ Ok d
-shallow d within = rw (le-leb (depth d) depth_limit within) refl
-
--- what is read within the depth rule is a document
-pub document_in-read : (bytes : List ℕ) (d : Document) → read bytes ≡ Some d → depth d ≤ depth_limit → document_in bytes ≡ Ok d
-document_in-read bytes d is within =
-    (elim (reading bytes) as (λ r. option_and_then document_from r ≡ Some d → document_read r ≡ Ok d) [
-      | None ↦ λ same. absurd (cc)
-      | Some v ↦ λ same. ap whole_document same ∙ shallow d within
-    ]) is
 
 pub text_written : (d : Document) (answer : List ℕ) → answer ≡ compact d → (depth d ≤ depth_limit → read answer ≡ Some d) → depth d ≤ depth_limit → IsTextOf d answer
 text_written d answer is back within = record { is = is; read_back = document_in-read answer d (back within) within }
@@ -48,9 +19,6 @@ text_of_readable back d answer good is = record {
   is = is;
   read_back = subst (λ (t : List ℕ). document_in t ≡ Ok d) (sym is) (document_in-read (compact d) d (back d good) good.within);
 }
-
-pub one_document : (bytes : List ℕ) (d e : Document) → document_in bytes ≡ Ok d → document_in bytes ≡ Ok e → d ≡ e
-one_document bytes d e one other = cc
 
 -- ---- many texts
 
@@ -123,7 +91,7 @@ pub record ReadAt (ds : List Document) (t : List ℕ) : Type 0 where
   pub at : Contains ds document
 
 read_at : (ts : List (List ℕ)) (ds : List Document) → AreRead ts ds → (t : List ℕ) → Contains ts t → ReadAt ds t
-read_at [] ds are t at = absurd (none_in t at)
+read_at [] ds are t at = absurd (Contains-nil t at)
 read_at (u ∷ ts) [] are t at = absurd (cc)
 read_at (u ∷ ts) (d ∷ ds) are t at =
     let first : document_in u ≡ Ok d = cc in
@@ -139,7 +107,7 @@ pub record ReadAmong (ds : List Document) (some : List (List ℕ)) : Type 0 wher
   pub among : (e : Document) → Contains documents e → Contains ds e
 
 pub some_read : (ts : List (List ℕ)) (ds : List Document) → AreRead ts ds → (some : List (List ℕ)) → ((t : List ℕ) → Contains some t → Contains ts t) → ReadAmong ds some
-some_read ts ds are [] sub = record { documents = []; read = refl; among = λ e at. absurd (none_in e at) }
+some_read ts ds are [] sub = record { documents = []; read = refl; among = λ e at. absurd (Contains-nil e at) }
 some_read ts ds are (t ∷ some) sub =
     let rest = some_read ts ds are some (λ u at. sub u (Contains-tail t u some at)) in
     let here = read_at ts ds are t (sub t (Contains-head t some)) in

@@ -2,6 +2,7 @@
 use Rattle.std.proofs.Common.{◌≡◌, ℕ, List, [], ◌∷◌, Some, refl, sym, ap, ◌∙◌, subst}
 use Rattle.mp_tree.specs.Document.{Document, IsDocument, IsReadable}
 use Rattle.mp_tree.specs.Text.{text as compact}
+use Rattle.mp_tree.proofs.Facts.{one_document}
 use Rattle.mp_patch.specs.Form.{AreForms, shapes}
 use Rattle.mp_patch.specs.Operation.{HaveDocuments, Operation}
 use Rattle.mp_patch.specs.Run.{Runs}
@@ -12,7 +13,7 @@ use Rattle.mp_texts.specs.Answers.{IsJoinText, IsReplayText, IsTextOf}
 use Rattle.mp_texts.specs.Laws.{OneReplayText, ReplayIsMerge, ReplayIsPatch}
 use Rattle.mp_texts.specs.Private.LawsBelow.{JoinLaws, ReplayLaws}
 use Rattle.mp_texts.proofs.Joins.{join_of_read}
-use Rattle.mp_texts.proofs.Readings.{AreRead-cons, one_document, one_reading}
+use Rattle.mp_texts.proofs.Readings.{AreRead-cons, one_reading}
 
 -- one text of one document
 same_text : {d e : Document} {a b : List ℕ} → IsTextOf d a → IsTextOf e b → d ≡ e → a ≡ b

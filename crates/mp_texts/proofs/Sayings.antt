@@ -4,10 +4,9 @@ use Rattle.std.proofs.lemmas.List.Elements.{Contains-append_cases, Contains-appe
 use Rattle.std.specs.List.{Contains}
 use Rattle.mp_tree.specs.Document.{Document}
 use Rattle.mp_tree.specs.Look.{Path, Look, nothing, look}
-use Rattle.mp_tree.proofs.Facts.{nothing_or}
+use Rattle.mp_tree.proofs.Facts.{Contains-head, Contains-one, Speaks, nothing_or, speaks_or_silent}
 use Rattle.mp_merge.specs.Join.{IsJoin}
 use Rattle.mp_merge.specs.Lists.{HaveSameMembers, PairwiseCompatible}
-use Rattle.mp_texts.proofs.Readings.{Contains-cases, Contains-head, Contains-one, Contains-tail, none_in}
 
 -- a member has this look there
 pub record Says (es : List Document) (w : Path) (l : Look) : Type 0 where
@@ -72,27 +71,8 @@ same_join ds es j same joined = record {
   ]);
 }
 
--- some member has something there, or none has
-Speaks : List Document → Path → Type 0
-Speaks ds w = (p : Document) × Contains ds p × (look p w ≢ nothing)
-
-speaks_or_silent : (ds : List Document) (w : Path) → Speaks ds w ⊎ ((p : Document) → Contains ds p → look p w ≡ nothing)
-unfolding Speaks
-speaks_or_silent [] w = inr (λ p at. absurd (none_in p at))
-speaks_or_silent (d ∷ ds) w = by (nothing_or (look d w)) (speaks_or_silent ds w)
-  where
-    both : look d w ≡ nothing → ((p : Document) → Contains ds p → look p w ≡ nothing) → (p : Document) → (d ≡ p) ⊎ Contains ds p → look p w ≡ nothing
-    both is rest p (inl same) = rw (← same) is
-    both is rest p (inr later) = rest p later
-
-    by : (look d w ≡ nothing) ⊎ (look d w ≢ nothing) → Speaks ds w ⊎ ((p : Document) → Contains ds p → look p w ≡ nothing) → Speaks (d ∷ ds) w ⊎ ((p : Document) → Contains (d ∷ ds) p → look p w ≡ nothing)
-    by (inr some) rest = inl (d, Contains-head d ds, some)
-    by (inl is) (inl found) = inl (found.0, Contains-tail d found.0 ds found.1, found.2)
-    by (inl is) (inr rest) = inr (λ p at. both is rest p (Contains-cases d p ds at))
-
 -- a join says what those say that were joined
 pub join_says : (ds : List Document) (j : Document) → IsJoin ds j → SaySame (j ∷ []) ds
-unfolding Speaks
 join_says ds j joined = record {
   there = λ p at w has. said p (Contains-one j p at) w has (speaks_or_silent ds w);
   back = λ p at w has. record { member = j; at = Contains-head j []; has = joined.said p at w has };

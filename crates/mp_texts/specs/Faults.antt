@@ -5,14 +5,14 @@ use Rattle.mp_tree.specs.Document.{Document}
 use Rattle.mp_tree.specs.Text.{document_in}
 use Rattle.mp_tree.specs.declared.fault.ReadFault.{ReadFault}
 use Rattle.mp_pointer.specs.Part.{part}
-use Rattle.mp_pointer.specs.Spelling.{Tokens, spell, IsFaultOf as IsSpellingFault}
+use Rattle.mp_pointer.specs.Spelling.{Tokens, spell, IsPointerFault}
 use Rattle.mp_pointer.specs.declared.fault.PointerFault.{PointerFault}
 use Rattle.mp_pointer.specs.declared.fault.PointerFault.TheVariants as pointer
 use Rattle.mp_patch.specs.Form.{AreForms, IsFormFault}
 use Rattle.mp_patch.specs.Operation.{Operation}
-use Rattle.mp_patch.specs.Run.{IsFaultOf as IsRunFault}
+use Rattle.mp_patch.specs.Run.{IsApplyFault}
 use Rattle.mp_patch.specs.declared.fault.ApplyFault.{ApplyFault}
-use Rattle.mp_patch.specs.declared.fault.ApplyFault.TheVariants as run
+use Rattle.mp_patch.specs.declared.fault.ApplyFault.TheVariants as apply
 use Rattle.mp_patch.specs.declared.fault.FormFault.{FormFault}
 use Rattle.mp_patch.specs.declared.fault.FormFault.TheVariants as form
 use Rattle.mp_merge.specs.Lists.{IsJoinAllFault, IsReplayFault}
@@ -33,9 +33,9 @@ abbrev pub told_of_form : FormFault → TextsFault
 told_of_form form.OutOfMemory = OutOfMemory
 told_of_form refusal = Form refusal
 
-abbrev pub told_of_run : ApplyFault → TextsFault
-told_of_run run.OutOfMemory = OutOfMemory
-told_of_run refusal = Refused refusal
+abbrev pub told_of_apply : ApplyFault → TextsFault
+told_of_apply apply.OutOfMemory = OutOfMemory
+told_of_apply refusal = Refused refusal
 
 abbrev pub told_of_pointer : PointerFault → TextsFault
 told_of_pointer pointer.OutOfMemory = OutOfMemory
@@ -90,14 +90,14 @@ IsFormTextFault fault patch =
     (fault ≢ form.OutOfMemory) × (p : Document) × (document_in patch ≡ Ok p) × IsFormFault fault p
 
 pub record IsRunTextFault (fault : ApplyFault) (document patch : List ℕ) : Type 0 where
-  pub is_refusal : fault ≢ run.OutOfMemory
+  pub is_refusal : fault ≢ apply.OutOfMemory
   pub from : Document
   pub document_read : document_in document ≡ Ok from
   pub form : Document
   pub patch_read : document_in patch ≡ Ok form
   pub operations : List Operation
   pub forms : AreForms form operations
-  pub refused : IsRunFault fault from operations
+  pub refused : IsApplyFault fault from operations
 
 -- why a JSON Patch has no result
 abbrev pub IsPatchTextFault : TextsFault → List ℕ → List ℕ → Type 0
@@ -120,7 +120,7 @@ pub record IsMissing (document pointer : List ℕ) : Type 0 where
 abbrev pub IsPartTextFault : TextsFault → List ℕ → List ℕ → Type 0
 IsPartTextFault (NoDocument fault) document text = document_in document ≡ Err fault
 IsPartTextFault (Pointer fault) document text =
-    IsRead document × (fault ≢ pointer.OutOfMemory) × IsSpellingFault fault text
+    IsRead document × (fault ≢ pointer.OutOfMemory) × IsPointerFault fault text
 IsPartTextFault Missing document text = IsMissing document text
 IsPartTextFault OutOfMemory document text = ⊤
 IsPartTextFault other document text = ⊥

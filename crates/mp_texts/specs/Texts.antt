@@ -10,7 +10,7 @@ use Rattle.mp_merge.specs.Lists.{HaveSameMembers, PairwiseCompatible}
 abbrev pub given : List (Bor (List ℕ)) → List (List ℕ)
 given texts = map (λ t. t.now) texts
 
--- each text is read, as the document in its place
+-- each text is read, as the document of its number
 abbrev pub AreRead : List (List ℕ) → List Document → Type 0
 AreRead texts documents = map document_in texts ≡ map Ok documents
 

@@ -65,9 +65,9 @@ impl From<FormFault> for TextsFault {
 }
 
 impl From<ApplyFault> for TextsFault {
-    ghost use Rattle.mp_texts.specs.Faults.{told_of_run};
+    ghost use Rattle.mp_texts.specs.Faults.{told_of_apply};
 
-    ghost from_gives = { λ cause fault. fault ≡ told_of_run cause };
+    ghost from_gives = { λ cause fault. fault ≡ told_of_apply cause };
 
     fn from(cause: ApplyFault) -> TextsFault {
         match cause {

@@ -3,6 +3,7 @@ pub mod Facts
 pub mod Lists
 pub mod Looks
 pub mod Maps
+pub mod Membership
 pub mod Options
 pub mod Passed
 pub mod Readings

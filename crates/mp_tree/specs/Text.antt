@@ -21,7 +21,7 @@ use Rattle.mp_tree.specs.declared.fault.ReadFault.TheVariants as fault
 abbrev pub whole_number : Num → Option ℤ
 whole_number n = option_or (option_map pos (as_u64 n)) (as_i64 n)
 
--- the document of a reading, none where a number is not whole
+-- the document of JSON data, none where a number is not whole
 abbrev mutual
   pub document_from : Data → Option Document
   document_from json.null = Some null
@@ -39,13 +39,13 @@ abbrev mutual
   members_from json.no_members = Some no_members
   members_from (json.member n d ms) = option_and_then (λ e. option_map (put n e) (members_from ms)) (document_from d)
 
--- what `serde_json` reads of the bytes: nothing where they are not UTF-8 or no JSON text of nesting at most 127
-abbrev pub reading : List ℕ → Option Data
-reading bytes = if is_utf8 bytes then serde_json.read bytes else None
+-- the data that `serde_json` reads in the bytes: none where they are not UTF-8 or no JSON text of nesting at most 127
+abbrev pub data_in : List ℕ → Option Data
+data_in bytes = if is_utf8 bytes then serde_json.read bytes else None
 
--- the document of what is read: none where there is no reading, or a number that is not whole
+-- the document that the bytes are, however deep: none where they have no data, or a number that is not whole
 abbrev pub read : List ℕ → Option Document
-read bytes = option_and_then document_from (reading bytes)
+read bytes = option_and_then document_from (data_in bytes)
 
 -- ---- the elements of the array that the bytes are, or the first fault: not JSON, a number that is not whole, no array
 
@@ -59,14 +59,14 @@ abbrev pub whole_or_fault : Option Document → Result Items DocsFault
 whole_or_fault None = Err NotWhole
 whole_or_fault (Some d) = elements d
 
--- of a reading, where there was one
-abbrev pub read_or_fault : Option Data → Result Items DocsFault
-read_or_fault None = Err NotJson
-read_or_fault (Some d) = whole_or_fault (document_from d)
+-- of data, where there was some
+abbrev pub json_or_fault : Option Data → Result Items DocsFault
+json_or_fault None = Err NotJson
+json_or_fault (Some d) = whole_or_fault (document_from d)
 
 -- the elements that the bytes give, or their first fault
 abbrev pub documents_in : List ℕ → Result Items DocsFault
-documents_in bytes = read_or_fault (reading bytes)
+documents_in bytes = json_or_fault (data_in bytes)
 
 -- ---- the document that the bytes are, or the first fault: not JSON, a number that is not whole, too deep
 
@@ -79,14 +79,14 @@ abbrev pub whole_document : Option Document → Result Document ReadFault
 whole_document None = Err fault.NotWhole
 whole_document (Some d) = shallow_document d
 
--- of a reading, where there was one
-abbrev pub document_read : Option Data → Result Document ReadFault
-document_read None = Err fault.NotJson
-document_read (Some d) = whole_document (document_from d)
+-- of data, where there was some
+abbrev pub json_document : Option Data → Result Document ReadFault
+json_document None = Err fault.NotJson
+json_document (Some d) = whole_document (document_from d)
 
 -- the document that the bytes give, or their first fault
 abbrev pub document_in : List ℕ → Result Document ReadFault
-document_in bytes = document_read (reading bytes)
+document_in bytes = json_document (data_in bytes)
 
 -- ---- writing
 

@@ -3,7 +3,7 @@ ghost use Rattle.std.specs.Prelude.{◌≡◌, ◌≢◌, ◌≤◌, All, None, 
 ghost use Rattle.serde_json.specs.Read.{max_depth};
 ghost use Rattle.mp_tree.specs.Document.{depth, depth_limit};
 ghost use Rattle.mp_tree.specs.View.{document, items};
-ghost use Rattle.mp_tree.specs.Text.{document_in, documents_in, read, reading};
+ghost use Rattle.mp_tree.specs.Text.{data_in, document_in, documents_in, read};
 
 use crate::converting::{Unread, doc_of};
 use crate::doc::Doc;
@@ -64,9 +64,9 @@ pub fn read_docs(alloc: Global, bytes: &[u8]) -> Result<Vec<Doc>, DocsFault>
 fn read_tree(alloc: Global, bytes: &[u8]) -> Result<Doc, Unread>
     ensures ok { IfOk result (λ d. read bytes.now ≡ Some (document d)) }
     ensures nests { IfOk result (λ d. depth (document d) ≤ max_depth) }
-    ensures not_json { result ≡ Err Unread.NotJson → reading bytes.now ≡ None }
+    ensures not_json { result ≡ Err Unread.NotJson → data_in bytes.now ≡ None }
     ensures not_whole { result ≡ Err Unread.NotWhole
-        → (IsSome (reading bytes.now) × (read bytes.now ≡ None)) }
+        → (IsSome (data_in bytes.now) × (read bytes.now ≡ None)) }
 {
     match Value::from_slice(alloc, bytes) {
         Ok(value) => doc_of(value, alloc),

@@ -2,7 +2,7 @@
 use Rattle.std.specs.Prelude.{◌≡◌, IfOk, Option, None, Some, Result}
 use Rattle.std.specs.declared.alloc.AllocError.{AllocError}
 use Rattle.mp_merge.specs.declared.fault.ListFault.{ListFault}
-use Rattle.mp_merge.specs.declared.fault.ListFault.TheVariants.{NoPatches, ConflictOf, OutOfMemory as ListMemory}
+use Rattle.mp_merge.specs.declared.fault.ListFault.TheVariants.{NoPatches, ConflictOf}
 use Rattle.mp_cli.specs.Answered.{answered_by}
 use Rattle.mp_cli.specs.Lines.{Answered, conflict_line, no_patches}
 use Rattle.mp_cli.specs.declared.answers.Answer.{Answer}
@@ -11,7 +11,7 @@ use Rattle.mp_cli.specs.declared.answers.Answer.{Answer}
 abbrev pub list_fault : ListFault → Option Answered
 list_fault NoPatches = Some no_patches
 list_fault (ConflictOf first second places) = Some (conflict_line first second places.items)
-list_fault ListMemory = None
+list_fault ListFault.OutOfMemory = None
 
 -- the call gives that answer
 abbrev pub Gives : Result Answer AllocError → Answered → Type 0

@@ -3,8 +3,7 @@ use Rattle.std.proofs.Common.{◌≡◌, ℕ, List, cond, Option, Some, None, If
 use Rattle.mp_tree.specs.Document.{Document, null, flag, whole, string, list, object, Members, no_members, member, is_name, find, put, IsDocument, IsMap}
 use Rattle.mp_merge.specs.Application.{target_members, set_or_remove, merge_patch, merge_patch_members, unless_null, after_patch}
 use Rattle.mp_merge.specs.Laws.{AppliesAtEachName, OthersReplace}
-use Rattle.mp_tree.proofs.Facts.{IsDocument-find, find-put, find-without, find-below, IsMap-put, IsMap-without, members_same}
-use Rattle.mp_tree.proofs.Facts.{cases_same, is_name-self}
+use Rattle.mp_tree.proofs.Facts.{IsDocument-find, find-put, find-without, find-below, IsMap-put, IsMap-without, members_same, cases_same, is_name-self}
 
 -- ---- the result is a document
 

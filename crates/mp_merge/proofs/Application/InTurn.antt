@@ -10,7 +10,7 @@ use Rattle.mp_merge.specs.Laws.{AppliedInTurn}
 use Rattle.mp_merge.specs.Lists.{PairwiseCompatible}
 use Rattle.mp_merge.specs.Outcome.{IsOutcome}
 use Rattle.mp_merge.proofs.Application.ByName.{IsDocument-merge_patch}
-use Rattle.mp_merge.proofs.Collections.Elements.{Contains-nil, Contains-head, Contains-one}
+use Rattle.mp_tree.proofs.Facts.{Contains-nil, Contains-head, Contains-one}
 use Rattle.mp_merge.proofs.Clashes.Exchange.{Agree, quiet_first, quiet_second, same, says-agree}
 use Rattle.mp_merge.proofs.Outcome.{follows_from_outcome, outcome_from_follows}
 use Rattle.mp_merge.proofs.Application.Looks.{says, or_else, look-merge_patch}

@@ -4,7 +4,7 @@ use Rattle.std.proofs.lemmas.List.Elements.{All-contains_itself, All-weaker}
 use Rattle.std.specs.List.{All, Contains}
 use Rattle.mp_tree.specs.Document.{Document, null, flag, whole, string, list, object, Members, member, is_name, find, put, IsDocument, IsMap, IsBelow}
 use Rattle.mp_tree.specs.Look.{Path, nothing, an_object, plain, look, look_of}
-use Rattle.mp_tree.proofs.Facts.{IsDocument-find, cases_same, find-below, find-put, is_name-self, members_same, find-here}
+use Rattle.mp_tree.proofs.Facts.{IsDocument-find, cases_same, find-below, find-put, is_name-self, members_same, find-here, Contains-twice, Contains-head, Contains-tail, Contains-cases, Contains-one}
 use Rattle.mp_merge.specs.Application.{after_patch, set_or_remove, in_turn, merge_patch, merge_patch_members, target_members, unless_null}
 use Rattle.mp_merge.specs.Laws.{AppliedOnce, MergesIntoNull, TriesResume}
 use Rattle.mp_merge.specs.Lists.{HaveSameMembers}
@@ -13,7 +13,6 @@ use Rattle.mp_merge.specs.Private.Merging.{NeedsNoneAt, NeedsNoneIn, ResumesAt}
 use Rattle.mp_merge.specs.Resumption.{NeedsNoMemory}
 use Rattle.mp_merge.proofs.Application.ByName.{IsDocument-merge_patch, IsMap-merge_patch_members, find-set_or_remove, find-merge_patch_members, merge_patch_members-step}
 use Rattle.mp_merge.proofs.Clashes.ByName.{compatible-self}
-use Rattle.mp_merge.proofs.Collections.Elements.{Contains-head, Contains-tail, Contains-cases, Contains-one}
 use Rattle.mp_merge.proofs.Application.InTurn.{applied_in_turn}
 use Rattle.mp_merge.proofs.Outcome.{application_is_outcome, replicas_agree}
 
@@ -27,17 +26,14 @@ merges_into_null (string s) = refl
 merges_into_null (list ds) = refl
 merges_into_null (object ps) = refl
 
-twice_once : (p q : Document) → Contains (p ∷ p ∷ []) q → p ≡ q
-twice_once p q at = elim (Contains-cases p q (p ∷ []) at) [ inl same ↦ same | inr there ↦ Contains-one p q there ]
-
 same_twice : (p : Document) → HaveSameMembers (p ∷ p ∷ []) (p ∷ [])
-same_twice p q = (λ at. subst (Contains (p ∷ [])) (twice_once p q at) (Contains-head p []), λ at. Contains-tail p q (p ∷ []) at)
+same_twice p q = (λ at. subst (Contains (p ∷ [])) (Contains-twice p q at) (Contains-head p []), λ at. Contains-tail p q (p ∷ []) at)
 
 pub applied_once : AppliedOnce
 applied_once d p good patch =
-    let all : (q r : Document) → Contains (p ∷ p ∷ []) q → Contains (p ∷ p ∷ []) r → q ≡ r = λ q r one two. sym (twice_once p q one) ∙ twice_once p r two in
+    let all : (q r : Document) → Contains (p ∷ p ∷ []) q → Contains (p ∷ p ∷ []) r → q ≡ r = λ q r one two. sym (Contains-twice p q one) ∙ Contains-twice p r two in
     let free : PairwiseCompatible (p ∷ p ∷ []) = λ q r one two. compatible-self q r (all q r one two) in
-    let documents : All IsDocument (p ∷ p ∷ []) = All-weaker (Contains (p ∷ p ∷ [])) IsDocument (λ q at. subst IsDocument (twice_once p q at) patch) (p ∷ p ∷ []) (All-contains_itself (p ∷ p ∷ [])) in
+    let documents : All IsDocument (p ∷ p ∷ []) = All-weaker (Contains (p ∷ p ∷ [])) IsDocument (λ q at. subst IsDocument (Contains-twice p q at) patch) (p ∷ p ∷ []) (All-contains_itself (p ∷ p ∷ [])) in
     replicas_agree d (p ∷ p ∷ []) (p ∷ []) (in_turn d (p ∷ p ∷ [])) (merge_patch (Some d) p) (same_twice p) (IsDocument-merge_patch (Some (merge_patch (Some d) p)) p (IsDocument-merge_patch (Some d) p good patch) patch) (IsDocument-merge_patch (Some d) p good patch)
     (applied_in_turn d (p ∷ p ∷ []) good documents free) (application_is_outcome d p good patch)
 

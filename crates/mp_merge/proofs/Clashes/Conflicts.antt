@@ -5,18 +5,15 @@ use Rattle.std.proofs.lemmas.List.{length-append, map-append}
 use Rattle.std.specs.List.{Contains}
 use Rattle.mp_tree.specs.Document.{Document, null, flag, whole, string, list, object, Members, no_members, member, is_name, find, IsBelow, IsDocument, IsMap}
 use Rattle.mp_tree.specs.Look.{Path, look, look_of}
-use Rattle.mp_tree.proofs.Facts.{is_here, find-below, cases_same, find-here, same_plain}
+use Rattle.mp_tree.proofs.Facts.{is_here, find-below, cases_same, find-here, same_plain, Contains-nil, no_member, decide_document, name_above}
 use Rattle.mp_merge.specs.Clash.{Clash, Compatible, AreAllClashes, AreConflictsOfPair}
 use Rattle.mp_merge.specs.Private.Edits.{NotBothMaps}
 use Rattle.mp_merge.specs.Private.Clashes.{IsOneClash, WalksClashes, WalksMembers}
 use Rattle.mp_merge.specs.Private.Growth.{Grew, behind}
 use Rattle.mp_merge.specs.Laws.{ClashesExist, EmptyIfCompatible, HaveOneList}
 use Rattle.mp_merge.proofs.Clashes.ByName.{ClashOf, clash_of, clash_from}
-use Rattle.mp_merge.proofs.Collections.Elements.{Contains-nil, no_member}
 use Rattle.mp_merge.proofs.Clashes.Exchange.{object_above}
 use Rattle.mp_merge.proofs.Collections.Growth.{IsRestOf, rest_after_one}
-use Rattle.mp_tree.proofs.Facts.{decide_document, find-here, same_plain}
-use Rattle.mp_tree.proofs.Facts.{name_above}
 use Rattle.mp_merge.proofs.Paths.Rising.{BeginsAbove, Lists, lists_none, lists_root, lists_both, same_rising, under_all}
 
 -- ---- one path alone
@@ -183,16 +180,6 @@ pub clashes_after_one : (before now later : List Path) (s : Path) (all left qs :
 clashes_after_one before now later s all left qs n p =
     rest_after_one behind append-nil append_assoc before now later (WalksClashes (s ++ n ∷ []) p (find n qs)) (WalksMembers s left qs) (WalksMembers s (member n p left) qs) (WalksMembers s all qs)
     (λ first rest here others. (first, rest, refl, here, others))
-
--- a path that gains a token and then loses its last one
-pub back_again : (s : Path) (n : List ℕ) (pushed walked popped : Path) → pushed ≡ s ++ n ∷ [] → walked ≡ pushed → popped ≡ take (length walked - 1) walked → popped ≡ s
-back_again s n pushed walked popped gained same lost = lost ∙ ap (λ w. take (length w - 1) w) (same ∙ gained) ∙ without_last s
-  where
-    less_one : (k : ℕ) → k + 1 - 1 ≡ k
-    less_one k = omega arith
-
-    without_last : (s : Path) → take (length (s ++ n ∷ []) - 1) (s ++ n ∷ []) ≡ s
-    without_last s = ap (λ k. take (k - 1) (s ++ n ∷ [])) (length-append s (n ∷ [])) ∙ ap (λ k. take k (s ++ n ∷ [])) (less_one (length s)) ∙ take-append_seam s (n ∷ [])
 
 -- ---- the laws
 

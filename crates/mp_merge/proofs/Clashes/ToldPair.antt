@@ -13,7 +13,7 @@ use Rattle.mp_merge.specs.Private.Clashes.{IsFreeBelow}
 use Rattle.mp_merge.specs.Outcome.{IsOutcome}
 use Rattle.mp_merge.proofs.Clashes.Conflicts.{compatible_or_conflicts, conflicts_clash, one_list}
 use Rattle.mp_merge.proofs.Clashes.ByName.{compatible-self, compatible-sym}
-use Rattle.mp_merge.proofs.Collections.Elements.{Contains-head, Contains-tail}
+use Rattle.mp_tree.proofs.Facts.{Contains-head, Contains-tail, some_none}
 use Rattle.mp_merge.proofs.Clashes.Exchange.{left_of-once}
 use Rattle.mp_merge.proofs.Application.InTurn.{IsDocument-in_turn, applied_in_turn}
 use Rattle.mp_merge.proofs.Joins.Numbered.{same_at}
@@ -100,9 +100,6 @@ below_suc zero (suc k) less = inl (omega arith)
 below_suc (suc i) zero less = absurd (omega arith)
 below_suc (suc i) (suc k) less = elim (below_suc i k (omega arith)) [ inl below ↦ inl (omega arith) | inr same ↦ inr (ap suc same) ]
 
-some_none : {X : Type 0} (o : Option X) (x : X) → o ≡ Some x → o ≡ None → ⊥
-some_none o x here none = cc
-
 module _ (patches : List Document) (good : All IsDocument patches) where
   good_at : (k : ℕ) (p : Document) → slice_get patches k ≡ Some p → IsDocument p
   good_at k p at = All-contains IsDocument patches p good (Contains-numbered patches k p at)
@@ -125,7 +122,7 @@ module _ (patches : List Document) (good : All IsDocument patches) where
       ]
 
       here : CompatibleBelow patches k q → (o : Option Document) → slice_get patches k ≡ o → CompatibleBelow patches (suc k) q ⊎ ClashesBelow (suc k) q
-      here free None is = inl (more free (λ p at. absurd (some_none (slice_get patches k) p at is)))
+      here free None is = inl (more free (λ p at. some_none (slice_get patches k) p at is))
       here free (Some p) is = elim (compatible_or_conflicts p q (good_at k p is)) [
         | inl agree ↦ inl (more free (λ r at. subst (λ (d : Document). Compatible d q) (same_at patches k p r is at) agree))
         | inr clash ↦ inr (k, p, clash.0, omega arith, is, clash.1, free)
@@ -148,7 +145,7 @@ module _ (patches : List Document) (good : All IsDocument patches) where
       ]
 
       here : ((j : ℕ) → j < k → IsFreeBelow patches j) → (o : Option Document) → slice_get patches k ≡ o → ((j : ℕ) → j < suc k → IsFreeBelow patches j) ⊎ ToldBelow (suc k)
-      here free None is = inl (more free (λ q at. absurd (some_none (slice_get patches k) q at is)))
+      here free None is = inl (more free (λ q at. some_none (slice_get patches k) q at is))
       here free (Some q) is = elim (free_or_clash q k) [
         | inl agree ↦ inl (more free (λ r at. subst (λ (d : Document). CompatibleBelow patches k d) (same_at patches k q r is at) agree))
         | inr clash ↦ inr (

@@ -3,14 +3,12 @@ use Rattle.std.proofs.Common.{◌≡◌, ◌≢◌, ◌↔◌, ◌⊎◌, inl, i
 use Rattle.std.specs.List.{Contains}
 use Rattle.mp_tree.specs.Document.{Document, object, Members, find, IsDocument, IsMap}
 use Rattle.mp_tree.specs.Look.{Path, nothing, an_object, plain, look_of, look}
-use Rattle.mp_tree.proofs.Facts.{equal_looks, is_here, IsDocument-find, same_plain}
+use Rattle.mp_tree.proofs.Facts.{equal_looks, is_here, IsDocument-find, same_plain, none_there, same_there, Contains-head, Contains-tail, Contains-cases, Contains-one, nothing_or, same_look}
 use Rattle.mp_merge.specs.Clash.{Compatible}
 use Rattle.mp_merge.specs.Join.{IsJoin, IsJoinAt}
 use Rattle.mp_merge.specs.Laws.{CompatibleByNames, CompatibleIfEqual, JoinByNames, JoinOfEqual}
 use Rattle.mp_merge.proofs.Clashes.ByName.{clash_at_root, compatible-self, compatible-sym}
-use Rattle.mp_merge.proofs.Collections.Elements.{Contains-head, Contains-tail, Contains-cases, Contains-one}
 use Rattle.mp_merge.proofs.Joins.Laws.{compatible_from_join, join_is_idempotent}
-use Rattle.mp_tree.proofs.Facts.{nothing_or, same_look}
 
 -- ---- compatibility
 
@@ -63,15 +61,6 @@ record JoinsLooks (a b c : Option Document) : Type 0 where
   pub first : (w : Path) → look_of a w ≢ nothing → look_of c w ≡ look_of a w
   pub second : (w : Path) → look_of b w ≢ nothing → look_of c w ≡ look_of b w
   pub silent : (w : Path) → look_of a w ≡ nothing → look_of b w ≡ nothing → look_of c w ≡ nothing
-
-none_there : (c : Option Document) → look_of c [] ≡ nothing → c ≡ None
-none_there None none = refl
-none_there (Some d) none = absurd (is_here d none)
-
--- one that looks as a document does is it
-same_there : (c : Option Document) (d : Document) → IfSome c IsDocument → IsDocument d → ((w : Path) → look_of c w ≡ look d w) → c ≡ Some d
-same_there None d good is alike = absurd (is_here d (sym (alike [])))
-same_there (Some e) d good is alike = ap Some ((equal_looks e d good is).1 alike)
 
 alone : (a b c : Option Document) → JoinsLooks a b c → b ≡ None → (w : Path) → look_of c w ≡ look_of a w
 alone a b c looks none w = elim (nothing_or (look_of a w)) [

@@ -4,23 +4,13 @@ use Rattle.std.proofs.lemmas.List.Elements.{All-contains, All-contains_itself, A
 use Rattle.std.specs.List.{All, Contains}
 use Rattle.mp_tree.specs.Document.{Document, IsDocument, depth}
 use Rattle.mp_tree.specs.Look.{Path, nothing, look}
-use Rattle.mp_tree.proofs.Facts.{equal_looks, is_here}
+use Rattle.mp_tree.proofs.Facts.{equal_looks, is_here, speaks_or_silent, Contains-nil, Contains-head, Contains-tail, Contains-cases, Contains-one, some_or_all, nothing_or}
 use Rattle.mp_merge.specs.Clash.{Clash, Compatible}
 use Rattle.mp_merge.specs.Join.{IsJoin}
 use Rattle.mp_merge.specs.Laws.{ClashWithAJoin, ClashesWithAMember, JoinIsIdempotent, JoinIsCommutative, IsJoinFromLeft, IsJoinFromRight, JoinIsAssociative, JoinGrows, HasOneJoin, EmptyHasNoJoin, JoinExists, PairHasJoin, JoinIsNoDeeper}
 use Rattle.mp_merge.specs.Lists.{PairwiseCompatible, AreWithin}
 use Rattle.mp_merge.specs.Private.Unions.{union}
-use Rattle.mp_merge.proofs.Collections.Elements.{Contains-nil, Contains-head, Contains-tail, Contains-cases, Contains-one, some_or_all}
-use Rattle.mp_tree.proofs.Facts.{nothing_or}
 use Rattle.mp_merge.proofs.Joins.Union.{IsDocument-union, depth-union, join-one, union_is_join, union_joins_first}
-
--- some patch has something at the path, or none has
-abbrev Speaks : List Document → Path → Type 0
-Speaks patches w = (p : Document) × Contains patches p × (look p w ≢ nothing)
-
-speaks_or_silent : (patches : List Document) (w : Path) → Speaks patches w ⊎ ((p : Document) → Contains patches p → look p w ≡ nothing)
-speaks_or_silent patches w =
-    some_or_all (λ p. look p w ≢ nothing) (λ p. look p w ≡ nothing) (λ p. elim (nothing_or (look p w)) [ inl none ↦ inr none | inr has ↦ inl has ]) patches
 
 -- what a join has, some patch has
 pub from_join : (patches : List Document) (j : Document) → IsJoin patches j → (w : Path) → look j w ≢ nothing → (p : Document) × Contains patches p × (look p w ≢ nothing) × (look j w ≡ look p w)

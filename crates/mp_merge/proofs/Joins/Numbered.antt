@@ -21,9 +21,6 @@ use Rattle.mp_merge.proofs.Joins.Union.{union_grows_join}
 pub at_number : (ds : List Doc) (i : ℕ) (d : Doc) → i < length ds → d ≡ get_or ds i d → slice_get (map document ds) i ≡ Some (document d)
 at_number ds i d below is = slice_get-map document ds i ∙ ap (option_map document) (slice_get_read ds (length ds) i d refl below is)
 
-pub are_documents : (ds : List Doc) → All IsDocument (map document ds)
-are_documents ds = All-map IsDocument document ds (All-weaker (Contains ds) (λ d. IsDocument (document d)) (λ d at. IsDocument-document d) ds (All-contains_itself ds))
-
 pub same_at : (patches : List Document) (k : ℕ) (p q : Document) → slice_get patches k ≡ Some p → slice_get patches k ≡ Some q → p ≡ q
 same_at patches k p q one other = let same = sym one ∙ other in cc
 

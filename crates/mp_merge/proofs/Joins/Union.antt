@@ -4,7 +4,7 @@ use Rattle.std.proofs.lemmas.List.Elements.{Contains-push, Contains-push_cases, 
 use Rattle.std.specs.List.{Contains}
 use Rattle.mp_tree.specs.Document.{Document, null, flag, whole, string, list, object, Members, no_members, member, find, put, IsDocument, IsMap, depth, members_depth}
 use Rattle.mp_tree.specs.Look.{Path, Look, nothing, an_object, plain, look_here, look_of, look}
-use Rattle.mp_tree.proofs.Facts.{find-put, find-below, IsMap-put, members_same, cases_same, is_name-self, is_here, IsDocument-find, members_depth-put}
+use Rattle.mp_tree.proofs.Facts.{find-put, find-below, IsMap-put, members_same, cases_same, is_name-self, is_here, IsDocument-find, members_depth-put, Contains-head, Contains-tail, Contains-cases, Contains-one, same_look}
 use Rattle.mp_merge.specs.Application.{target_members, depth_of}
 use Rattle.mp_merge.specs.Clash.{Compatible}
 use Rattle.mp_merge.specs.Join.{IsJoin}
@@ -12,8 +12,6 @@ use Rattle.mp_merge.specs.Private.Unions.{earlier_or, union_over, union_with, un
 use Rattle.mp_merge.proofs.Application.ByName.{IsMap-target_members}
 use Rattle.mp_merge.proofs.Application.Depth.{depth-find}
 use Rattle.mp_merge.proofs.Clashes.ByName.{clash_at_root, clash_of_others, compatible-self}
-use Rattle.mp_merge.proofs.Collections.Elements.{Contains-head, Contains-tail, Contains-cases, Contains-one}
-use Rattle.mp_tree.proofs.Facts.{same_look}
 
 -- ---- the union is a document
 

@@ -3,14 +3,13 @@ use Rattle.std.proofs.Common.{◌≡◌, ◌≢◌, ◌⊎◌, inl, inr, ℕ, Li
 use Rattle.std.specs.Prelude.{⊤}
 use Rattle.mp_tree.specs.Document.{Document, null, flag, whole, string, list, object, find, IsDocument}
 use Rattle.mp_tree.specs.Look.{Path, nothing, an_object, look_of}
-use Rattle.mp_tree.proofs.Facts.{IsDocument-find}
+use Rattle.mp_tree.proofs.Facts.{IsDocument-find, nothing_or}
 use Rattle.mp_pointer.specs.Part.{part}
 use Rattle.mp_pointer.proofs.Facts.{child-object}
 use Rattle.mp_merge.specs.Application.{target_members, merge_patch, after_patch}
 use Rattle.mp_merge.proofs.Application.Looks.{look-target_members}
 use Rattle.mp_merge.proofs.Application.ByName.{find-merge_patch_members, IsMap-target_members}
 use Rattle.mp_merge.proofs.Clashes.Exchange.{object_above}
-use Rattle.mp_tree.proofs.Facts.{nothing_or}
 
 -- a map stands at each proper prefix of the path
 abbrev pub MapsAbove : Option Document → Path → Type 0

@@ -8,9 +8,8 @@ use Rattle.std.specs.List.Sorted.{IsStrictlySortedBy}
 use Rattle.std.specs.Ordering.{ordering_then}
 use Rattle.mp_tree.specs.Document.{name_cmp}
 use Rattle.mp_tree.specs.Look.{Path}
-use Rattle.mp_tree.proofs.Facts.{name_cmp-self}
+use Rattle.mp_tree.proofs.Facts.{name_cmp-self, Contains-nil, Contains-head, Contains-tail, Contains-cases, Contains-one}
 use Rattle.mp_merge.specs.Clash.{path_cmp}
-use Rattle.mp_merge.proofs.Collections.Elements.{Contains-nil, Contains-head, Contains-tail, Contains-cases, Contains-one}
 
 path_cmp_total : IsTotalOrder path_cmp
 path_cmp_total = lists_total nat_list_cmp_total

@@ -3,7 +3,7 @@ use Rattle.std.proofs.Common.{◌↔◌, ◌≡◌, ◌≢◌, ◌≤◌, ◌+�
 use Rattle.std.specs.List.{Contains}
 use Rattle.mp_tree.specs.Document.{Document, null, flag, whole, string, list, object, find, IsDocument, depth, depth_limit}
 use Rattle.mp_tree.specs.Look.{Path, nothing, an_object, look, look_of}
-use Rattle.mp_tree.proofs.Facts.{equal_looks}
+use Rattle.mp_tree.proofs.Facts.{equal_looks, Contains-nil, Contains-head, Contains-tail, Contains-cases, same_look}
 use Rattle.mp_pointer.specs.Part.{part}
 use Rattle.mp_pointer.specs.Spelling.{BeginsWith}
 use Rattle.mp_patch.specs.Laws.{OperationsAreTaken}
@@ -18,9 +18,7 @@ use Rattle.mp_merge.proofs.Application.Depth.{depth-find, depth-merge_patch}
 use Rattle.mp_merge.proofs.Rewritings.ChangedPath.{with_at, IsDocument-with_at, look-with_at, look-elsewhere, made}
 use Rattle.mp_merge.proofs.Rewritings.EditPlaces.{Differs, differs_at_edit, edit_places_apart, stays_without_edit, look-left}
 use Rattle.mp_merge.proofs.Rewritings.Steps.{Fits, leaves}
-use Rattle.mp_merge.proofs.Collections.Elements.{Contains-nil, Contains-head, Contains-tail, Contains-cases}
 use Rattle.mp_merge.proofs.Rewritings.Guards.{guards_run}
-use Rattle.mp_tree.proofs.Facts.{same_look}
 use Rattle.mp_merge.proofs.Paths.Maps.{MapsAbove, at_path, look-at_path, look-end, to_maps_above, IsDocument-at_path, part-at_path, at_path-merge_patch, Compared, same, longer, shorter, compared}
 use Rattle.mp_merge.proofs.Rewritings.Unique.{no_repeats}
 use Rattle.mp_merge.proofs.Application.Looks.{left_of}

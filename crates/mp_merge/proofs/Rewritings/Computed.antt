@@ -5,16 +5,14 @@ use Rattle.std.specs.List.{Contains, flat_map}
 use Rattle.std.specs.List.Sorted.{IsStrictlySortedBy}
 use Rattle.mp_tree.specs.Document.{Document, null, flag, whole, string, list, object, Members, no_members, member, name_cmp, is_name, find, IsBelow, IsDocument, IsMap}
 use Rattle.mp_tree.specs.Look.{Path, Look, nothing, an_object, plain, look, look_of}
-use Rattle.mp_tree.proofs.Facts.{is_here, find-below, cases_same, is_name-self, same_plain}
+use Rattle.mp_tree.proofs.Facts.{is_here, find-below, cases_same, is_name-self, same_plain, Contains-nil, Contains-head, Contains-tail, Contains-one, name_above}
 use Rattle.mp_pointer.specs.Part.{part}
 use Rattle.mp_patch.specs.Operation.{Operation}
 use Rattle.mp_merge.specs.Clash.{path_cmp}
 use Rattle.mp_merge.specs.Private.Edits.{GuardedEdit, IsOneEdit, NotBothMaps, AreEdits, AreMemberEdits}
 use Rattle.mp_merge.specs.Rewriting.{guard_of, guards, part_left, edit_to, edit, IsRewriting}
 use Rattle.mp_merge.proofs.Rewritings.EditPlaces.{differs_at_edit, edit_where_differs, left_by-no_map}
-use Rattle.mp_merge.proofs.Collections.Elements.{Contains-nil, Contains-head, Contains-tail, Contains-one}
 use Rattle.mp_merge.proofs.Paths.Maps.{MapsAbove, at_path, part-at_path}
-use Rattle.mp_tree.proofs.Facts.{name_above}
 use Rattle.mp_merge.proofs.Paths.Rising.{BeginsAbove, Lists, lists_both, under_all}
 use Rattle.mp_merge.proofs.Application.Looks.{left_of}
 

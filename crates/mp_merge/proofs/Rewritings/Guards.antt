@@ -10,7 +10,7 @@ use Rattle.mp_patch.specs.Run.{Runs}
 use Rattle.mp_patch.specs.Laws.{OperationsAreTaken}
 use Rattle.mp_merge.specs.Laws.{GuardedList, RefusedGuardTells}
 use Rattle.mp_merge.specs.Rewriting.{edit, guard_of, guards, edit_to, part_left}
-use Rattle.mp_merge.proofs.Collections.Elements.{Contains-nil, Contains-cases}
+use Rattle.mp_tree.proofs.Facts.{Contains-nil, Contains-cases}
 
 -- ---- on the document itself
 

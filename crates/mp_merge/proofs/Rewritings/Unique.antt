@@ -3,7 +3,7 @@ use Rattle.std.proofs.Common.{◌≡◌, List, [], ◌∷◌, ◌++◌, map, Som
 use Rattle.std.specs.List.{Contains}
 use Rattle.std.specs.List.Sorted.{IsStrictlySortedBy}
 use Rattle.mp_tree.specs.Look.{Path}
-use Rattle.mp_tree.proofs.Facts.{equal_looks}
+use Rattle.mp_tree.proofs.Facts.{equal_looks, Contains-nil, no_member}
 use Rattle.mp_merge.specs.Application.{merge_patch}
 use Rattle.mp_merge.specs.Clash.{path_cmp}
 use Rattle.mp_merge.specs.EditPlace.{IsEditPlace}
@@ -11,7 +11,6 @@ use Rattle.mp_merge.specs.Laws.{HasOneRewriting, EmptyRewriting}
 use Rattle.mp_merge.specs.Rewriting.{edit, guards, HasNoRepeats}
 use Rattle.mp_merge.proofs.Application.ByName.{IsDocument-merge_patch}
 use Rattle.mp_merge.proofs.Rewritings.EditPlaces.{stays_without_edit, no_edit_if_same}
-use Rattle.mp_merge.proofs.Collections.Elements.{Contains-nil, no_member}
 use Rattle.mp_merge.proofs.Paths.Rising.{not_among_above, same_rising}
 
 pub no_repeats : (ws : List Path) → IsStrictlySortedBy path_cmp ws → HasNoRepeats ws

@@ -4,7 +4,7 @@ use Rattle.std.proofs.lemmas.List.{take_more, take-append-drop, drop_more, lengt
 use Rattle.mp_tree.specs.Document.{Document, object, list, Members}
 use Rattle.mp_tree.specs.View.{document, items}
 use Rattle.mp_tree.specs.declared.doc.Doc.{Doc}
-use Rattle.mp_pointer.specs.Spelling.{Tokens, spell, IsFaultOf}
+use Rattle.mp_pointer.specs.Spelling.{Tokens, spell, IsPointerFault}
 use Rattle.mp_pointer.specs.declared.fault.PointerFault.{PointerFault}
 use Rattle.mp_pointer.proofs.Facts.{spellings_have_no_fault}
 use Rattle.mp_patch.specs.Form.{NamesOp, Need, path_alone, a_value, an_origin, HasOp, HasNoPointer, Carries, EachForm, IsForm, IsFormFault, IsNoPointer, needed_members, op_member, path_member, text_at, text_of}
@@ -22,8 +22,8 @@ use Rattle.mp_tree.proofs.Facts.{count_of-items, items-append, same_some, some_n
 
 -- ---- reading
 
-pub no_pointer : (text : List ℕ) (fault : PointerFault) → fault ≢ PointerFault.OutOfMemory → IsFaultOf fault text → IsNoPointer text
-no_pointer text fault known holds t is = known (spellings_have_no_fault t fault (subst (IsFaultOf fault) is holds))
+pub no_pointer : (text : List ℕ) (fault : PointerFault) → fault ≢ PointerFault.OutOfMemory → IsPointerFault fault text → IsNoPointer text
+no_pointer text fault known holds t is = known (spellings_have_no_fault t fault (subst (IsPointerFault fault) is holds))
 
 -- what the reading found in a map is the first that is wrong with it
 module _ (ms : Members) where

@@ -5,7 +5,7 @@ use Rattle.std.proofs.lemmas.Option.{slice_get-map, slice_get_read, slice_get_wi
 use Rattle.std.specs.List.{slice_get}
 use Rattle.mp_tree.specs.Document.{Document}
 use Rattle.mp_patch.specs.Operation.{Operation, Step}
-use Rattle.mp_patch.specs.Run.{IsRefused, Runs, IsFaultOf}
+use Rattle.mp_patch.specs.Run.{IsRefused, Runs, IsApplyFault}
 use Rattle.mp_patch.specs.View.{operation_of, operations_of}
 use Rattle.mp_patch.specs.declared.op.Op.{Op}
 use Rattle.mp_patch.specs.Private.Faults.{fault_of_operation}
@@ -18,7 +18,7 @@ pub Runs-more : (operations : List Operation) (d m e : Document) (o : Operation)
 Runs-more [] d m e o run free step = (subst (λ x. ¬ IsRefused x o) run free, e, subst (λ x. Step x o e) run step, refl)
 Runs-more (p ∷ operations) d m e o run free step = (run.0, run.1, run.2, Runs-more operations run.1 m e o run.3 free step)
 
-pub fault_there : (fault : Refusal Cause) (k : ℕ) (d m e : Document) (operations : List Operation) (o : Operation) → Runs d (take k operations) m → slice_get operations k ≡ Some o → Answers (Err fault) m o e → IsFaultOf (fault_of_operation k fault) d operations
+pub fault_there : (fault : Refusal Cause) (k : ℕ) (d m e : Document) (operations : List Operation) (o : Operation) → Runs d (take k operations) m → slice_get operations k ≡ Some o → Answers (Err fault) m o e → IsApplyFault (fault_of_operation k fault) d operations
 fault_there (By cause) k d m e operations o run there refused = (m, run, o, there, refused)
 fault_there OutOfMemory k d m e operations o run there refused = tt
 
@@ -71,7 +71,7 @@ module _ (d : Document) (ops left : List Op) (done : ℕ) (m : Document) (r : Ha
     pub few_done : done < length ops
     few_done = omega (arith, r.numbered, ap length (r.all ∙ ap (λ os. r.passed ++ os) next), length-append r.passed (op ∷ more))
 
-    pub fault_next : (fault : Refusal Cause) (e : Document) → Answers (Err fault) m (operation_of op) e → IsFaultOf (fault_of_operation done fault) d (operations_of ops)
+    pub fault_next : (fault : Refusal Cause) (e : Document) → Answers (Err fault) m (operation_of op) e → IsApplyFault (fault_of_operation done fault) d (operations_of ops)
     fault_next (By cause) e refused = (
       m,
       subst (λ os. Runs d os m) (sym (ap₂ take long split ∙ take_front (operations_of r.passed) (operation_of op ∷ operations_of more))) r.run,

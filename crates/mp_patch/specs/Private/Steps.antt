@@ -28,7 +28,7 @@ Inserts (Err (By cause)) fits token v before after = ⊥
 Inserts (Err OutOfMemory) fits token v before after = ⊤
 
 -- the part that the token named was taken out of the container, or there was none
-pub record Takes (taken : Option Doc) (token : List ℕ) (before after : Document) : Type 0 where
+pub record TakesOut (taken : Option Doc) (token : List ℕ) (before after : Document) : Type 0 where
   pub says :
       MatchOption taken (child token before ≡ None)
       (λ x. (child token before ≡ Some (document x)) × RemovesFrom token before after)

@@ -1,8 +1,9 @@
 -- The elements of a list: as many, at an index, one of them set, one list after another.
 use Rattle.std.proofs.Common.{◌≡◌, ◌≤◌, ◌<◌, ◌++◌, ℕ, zero, suc, max, List, [], ◌∷◌, length, map, get_or, set, take, None, Some, option_map, refl, sym, ap, ap₂, ◌∙◌, arith}
 use Rattle.std.proofs.lemmas.List.{length-take-le}
-use Rattle.std.specs.List.{slice_get}
-use Rattle.mp_tree.specs.Document.{Document, Items, no_items, item, AreDocuments, items_depth}
+use Rattle.std.proofs.lemmas.List.Elements.{All-head, All-tail, All-weaker}
+use Rattle.std.specs.List.{All, slice_get}
+use Rattle.mp_tree.specs.Document.{Document, Items, no_items, item, IsDocument, IsReadable, AreDocuments, items_depth}
 use Rattle.mp_tree.specs.Elements.{append, count_of, list_of, nth}
 use Rattle.mp_tree.specs.View.{document, items}
 use Rattle.mp_tree.specs.declared.doc.Doc.{Doc}
@@ -108,3 +109,12 @@ append-documents (item d front) back f b = (f.0, append-documents front back f.1
 pub documents-append : (front back : Items) → AreDocuments (append front back) → AreDocuments front × AreDocuments back
 documents-append no_items back good = (tt, good)
 documents-append (item d front) back good = let rest = documents-append front back good.1 in ((good.0, rest.0), rest.1)
+
+-- ---- what can be read is documents
+
+pub readable_documents : (ds : List Document) → All IsReadable ds → All IsDocument ds
+readable_documents ds can = All-weaker IsReadable IsDocument (λ d is. is.is_document) ds can
+
+pub readable_items : (ds : Items) → All IsReadable (list_of ds) → AreDocuments ds
+readable_items no_items can = tt
+readable_items (item d ds) can = ((All-head IsReadable d (list_of ds) can).is_document, readable_items ds (All-tail IsReadable d (list_of ds) can))

@@ -7,7 +7,9 @@ use Rattle.mp_tree.specs.Private.Entries.{members}
 use Rattle.mp_tree.specs.declared.whole.Whole.{Whole}
 use Rattle.mp_tree.specs.declared.doc.Doc.{Doc, Null, Flag, Text, Items, Members as Map, map-Doc, fold-roll-Doc, ind-Doc, the_lemmas}
 use Rattle.mp_tree.specs.declared.doc.Doc.TheOpen.{Doc-F}
+use Rattle.std.proofs.lemmas.List.Elements.{All-contains_itself, All-map, All-weaker}
 use Rattle.std.proofs.lemmas.Str.{IsUtf8-string_bytes}
+use Rattle.std.specs.List.{All, Contains}
 use Rattle.mp_tree.proofs.Maps.Finite.{IsMap-put}
 use Rattle.mp_tree.proofs.Documents.Throughout.{Throughout-put}
 
@@ -34,6 +36,9 @@ pub document-Members : (m : BTreeMap (String Global) Doc) → document (Map m) �
 document-Members m =
     let opened : document (Map m) ≡ object (members_of (byte_entries (map (λ e. (e.0, document e.1)) m.entries))) = search (rules, the_lemmas) in
     opened ∙ ap (λ es. object (members_of es)) (byte_entries-map document m.entries)
+
+pub document_of_map : {d : Doc} (m : BTreeMap (String Global) Doc) → d ≡ Map m → document d ≡ object (members m.entries)
+document_of_map m is = ap document is ∙ document-Members m
 
 -- ---- each `Doc` means a finite map at every level
 
@@ -67,6 +72,9 @@ IsDocument-opened scalar = tt
 
 pub IsDocument-document : (d : Doc) → IsDocument (document d)
 IsDocument-document = by_parts IsDocument IsDocument-opened
+
+pub documents_of_docs : (ds : List Doc) → All IsDocument (map document ds)
+documents_of_docs ds = All-map IsDocument document ds (All-weaker (Contains ds) (λ d. IsDocument (document d)) (λ d at. IsDocument-document d) ds (All-contains_itself ds))
 
 -- ---- what holds of each `Whole` and of each `String` holds throughout the document
 

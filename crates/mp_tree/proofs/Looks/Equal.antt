@@ -59,3 +59,13 @@ mutual
 
 pub equal_looks : EqualLooks
 equal_looks d e good other = (λ same w. ap (λ x. look x w) same, λ looks. same_from_looks d e good other looks)
+
+-- ---- what looks as nothing does, and as a document does
+
+pub none_there : (o : Option Document) → look_of o [] ≡ nothing → o ≡ None
+none_there None none = refl
+none_there (Some d) none = absurd (is_here d none)
+
+pub same_there : (o : Option Document) (d : Document) → IfSome o IsDocument → IsDocument d → ((w : Path) → look_of o w ≡ look d w) → o ≡ Some d
+same_there None d good is alike = absurd (is_here d (sym (alike [])))
+same_there (Some e) d good is alike = ap Some ((equal_looks e d good is).1 alike)

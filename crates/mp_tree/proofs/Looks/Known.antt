@@ -1,10 +1,12 @@
 -- Whether two looks are the same, and what follows where a look is not nothing.
 use Rattle.std.proofs.Common.{◌≡◌, ◌≢◌, ◌⊎◌, inl, inr, ℕ, List, Less, cond, Option, Some, None, refl, ap, ◌∙◌, []}
 use Rattle.std.proofs.Math.Decide.{map_dec}
+use Rattle.std.specs.List.{Contains}
 use Rattle.mp_tree.specs.Document.{Document, Members, no_members, member, name_cmp, find, IsBelow}
-use Rattle.mp_tree.specs.Look.{Path, Look, nothing, an_object, plain, look_of}
+use Rattle.mp_tree.specs.Look.{Path, Look, nothing, an_object, plain, look, look_of}
 use Rattle.mp_tree.proofs.Documents.Decisions.{decide_document}
 use Rattle.mp_tree.proofs.Maps.Names.{cases_same}
+use Rattle.mp_tree.proofs.Membership.{some_or_all}
 
 decide_look : (l m : Look) → Dec (l ≡ m)
 decide_look nothing nothing = yes refl
@@ -22,6 +24,14 @@ pub nothing_or : (l : Look) → (l ≡ nothing) ⊎ (l ≢ nothing)
 nothing_or nothing = inl refl
 nothing_or an_object = inr (λ same. cc)
 nothing_or (plain v) = inr (λ same. cc)
+
+-- some of the documents has something at the path, or none has
+abbrev pub Speaks : List Document → Path → Type 0
+Speaks ds w = (d : Document) × Contains ds d × (look d w ≢ nothing)
+
+pub speaks_or_silent : (ds : List Document) (w : Path) → Speaks ds w ⊎ ((d : Document) → Contains ds d → look d w ≡ nothing)
+speaks_or_silent ds w =
+    some_or_all (λ d. look d w ≢ nothing) (λ d. look d w ≡ nothing) (λ d. elim (nothing_or (look d w)) [ inl none ↦ inr none | inr has ↦ inl has ]) ds
 
 -- what has a look is there
 pub some_part : (o : Option Document) → look_of o [] ≢ nothing → (z : Document) × (o ≡ Some z)

@@ -57,3 +57,13 @@ pub members-removed : (k : List ℕ) (m n : BTreeMap (String Global) Doc) → Up
 members-removed k m n updates =
     members_same (members n.entries) (without k (members m.entries)) (IsMap-members n.entries) (IsMap-without k (members m.entries) (IsMap-members m.entries))
     (λ q. find-updated k m n None updates q ∙ sym (find-without q k (members m.entries) (IsMap-members m.entries)))
+
+-- ---- by the bytes of a name
+
+pub looked_up : {k n : List ℕ} {o : Option Doc} (es : List (String Global × Doc)) → k ≡ n → o ≡ lookup (is_at (λ l. name_cmp k (string_bytes l))) es → find n (members es) ≡ option_map document o
+looked_up {k = k} es named value = ap (λ l. find l (members es)) (sym named) ∙ find-members k es ∙ ap (option_map document) (sym value)
+
+-- a value that is put at a name, into a map as it was before
+pub members-put : {k n : List ℕ} {x : Document} {kept : BTreeMap (String Global) Doc} (old now : BTreeMap (String Global) Doc) (d : Doc) → kept ≡ old → k ≡ n → document d ≡ x
+    → UpdatesBy string_cmp (λ l. name_cmp k (string_bytes l)) kept now (Some d) → members now.entries ≡ put n x (members old.entries)
+members-put {k = k} {kept = kept} old now d same named is updates = rw (← same, ← named, ← is) (members-inserted k kept now d updates)

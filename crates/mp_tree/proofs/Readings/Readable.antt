@@ -20,7 +20,7 @@ use Rattle.serde_json.proofs.Nesting.{depth-read}
 use Rattle.mp_tree.specs.Document.{Document, null, flag, whole, string, list, object, Items, no_items, item, AreDocuments, IsDocument, IsWhole, IsReadable, depth, items_depth, depth_limit, IsInRange, HasTexts, Throughout, ThroughoutItems, ThroughoutMembers, put}
 use Rattle.mp_tree.specs.Elements.{list_of}
 use Rattle.mp_tree.specs.Laws.{ReadsReadable, ReadsReadables}
-use Rattle.mp_tree.specs.Text.{document_from, items_from, members_from, whole_number, reading, elements, whole_or_fault, read_or_fault, shallow_document, whole_document, document_read}
+use Rattle.mp_tree.specs.Text.{document_from, items_from, members_from, whole_number, data_in, elements, whole_or_fault, json_or_fault, shallow_document, whole_document, json_document}
 use Rattle.mp_tree.specs.declared.fault.ReadFault.TheVariants.{TooDeep}
 use Rattle.mp_tree.proofs.Options.{if_both, if_either, if_mapped, if_then}
 use Rattle.mp_tree.proofs.Readings.Documents.{from_data}
@@ -252,8 +252,8 @@ pub record IsReadFrom (bytes : List ℕ) (x : Data) : Type 0 where
   pub throughout : IfSome (document_from x) (Throughout IsWhole IsUtf8)
   pub nests : json.depth x ≤ 127
 
-pub reading-is : (bytes : List ℕ) (x : Data) → reading bytes ≡ Some x → IsReadFrom bytes x
-reading-is bytes x is = by (is_utf8 bytes) refl is
+pub data_in-is : (bytes : List ℕ) (x : Data) → data_in bytes ≡ Some x → IsReadFrom bytes x
+data_in-is bytes x is = by (is_utf8 bytes) refl is
   where
     by : (b : Bool) → is_utf8 bytes ≡ b → cond b (serde_json.read bytes) None ≡ Some x → IsReadFrom bytes x
     by false utf8 is = absurd (cc)
@@ -270,8 +270,8 @@ record IsFrom (d : Document) : Type 0 where
   throughout : Throughout IsWhole IsUtf8 d
   nests : depth d ≤ 127
 
-from_reading : (bytes : List ℕ) (x : Data) (d : Document) → reading bytes ≡ Some x → document_from x ≡ Some d → IsFrom d
-from_reading bytes x d read is = let from = reading-is bytes x read in record {
+from_reading : (bytes : List ℕ) (x : Data) (d : Document) → data_in bytes ≡ Some x → document_from x ≡ Some d → IsFrom d
+from_reading bytes x d read is = let from = data_in-is bytes x read in record {
   is_document = subst (λ (o : Option Document). IfSome o IsDocument) is (from_data x);
   throughout = subst (λ (o : Option Document). IfSome o (Throughout IsWhole IsUtf8)) is from.throughout;
   nests = omega (arith, from.nests, subst (λ (o : Option Document). IfSome o (λ e. depth e ≤ json.depth x)) is (depth-document_from x));
@@ -292,13 +292,13 @@ of_shallow d e from is = by (nat_le (depth e) depth_limit) refl is
     by true shallow is = let same : e ≡ d = cc in subst IsReadable same (readable e from.is_document from.throughout (leb-true _ _ shallow))
 
 pub reads_readable : ReadsReadable
-reads_readable bytes d is = by_reading (reading bytes) refl is
+reads_readable bytes d is = by_reading (data_in bytes) refl is
   where
-    by_document : (x : Data) (o : Option Document) → reading bytes ≡ Some x → document_from x ≡ o → whole_document o ≡ Ok d → IsReadable d
+    by_document : (x : Data) (o : Option Document) → data_in bytes ≡ Some x → document_from x ≡ o → whole_document o ≡ Ok d → IsReadable d
     by_document x None read none is = absurd (cc)
     by_document x (Some e) read whole_ones is = of_shallow d e (from_reading bytes x e read whole_ones) is
 
-    by_reading : (o : Option Data) → reading bytes ≡ o → document_read o ≡ Ok d → IsReadable d
+    by_reading : (o : Option Data) → data_in bytes ≡ o → json_document o ≡ Ok d → IsReadable d
     by_reading None none is = absurd (cc)
     by_reading (Some x) read is = by_document x (document_from x) read refl is
 
@@ -311,12 +311,12 @@ of_elements (string s) ds from is = absurd (cc)
 of_elements (object ms) ds from is = absurd (cc)
 
 pub reads_readables : ReadsReadables
-reads_readables bytes ds is = by_reading (reading bytes) refl is
+reads_readables bytes ds is = by_reading (data_in bytes) refl is
   where
-    by_document : (x : Data) (o : Option Document) → reading bytes ≡ Some x → document_from x ≡ o → whole_or_fault o ≡ Ok ds → All IsReadable (list_of ds)
+    by_document : (x : Data) (o : Option Document) → data_in bytes ≡ Some x → document_from x ≡ o → whole_or_fault o ≡ Ok ds → All IsReadable (list_of ds)
     by_document x None read none is = absurd (cc)
     by_document x (Some e) read whole_ones is = of_elements e ds (from_reading bytes x e read whole_ones) is
 
-    by_reading : (o : Option Data) → reading bytes ≡ o → read_or_fault o ≡ Ok ds → All IsReadable (list_of ds)
+    by_reading : (o : Option Data) → data_in bytes ≡ o → json_or_fault o ≡ Ok ds → All IsReadable (list_of ds)
     by_reading None none is = absurd (cc)
     by_reading (Some x) read is = by_document x (document_from x) read refl is

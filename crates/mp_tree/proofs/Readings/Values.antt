@@ -1,28 +1,43 @@
--- What is known of a reading.
-use Rattle.std.proofs.Common.{◌≡◌, ◌≤◌, ◌<◌, ℕ, zero, suc, List, [], ◌∷◌, length, get_or, Bool, true, false, Some, None, IfSome, IsUtf8, refl, subst, arith}
+-- What the data that bytes have say of the document that is read.
+use Rattle.std.proofs.Common.{◌≡◌, ◌≤◌, ◌<◌, ℕ, zero, suc, List, [], ◌∷◌, length, get_or, Bool, true, false, Some, None, IfSome, option_and_then, Ok, IsUtf8, refl, ap, ◌∙◌, subst, arith}
+use Rattle.std.proofs.lemmas.Bool.{le-leb}
 use Rattle.std.proofs.lemmas.Str.{is_utf8-from_IsUtf8, IsUtf8-from_is_utf8}
 use Rattle.std.specs.Str.{is_utf8}
 use Rattle.serde_json.specs.Data as json
 use Rattle.serde_json.specs.Data.{Data}
 use Rattle.serde_json.specs.Read as serde_json
-use Rattle.mp_tree.specs.Document.{Document, depth, items_depth}
-use Rattle.mp_tree.specs.Text.{document_from, reading}
+use Rattle.mp_tree.specs.Document.{Document, depth, depth_limit, items_depth}
+use Rattle.mp_tree.specs.Text.{data_in, document_from, document_in, json_document, read, shallow_document, whole_document}
 use Rattle.mp_tree.specs.View.{document, items}
 use Rattle.mp_tree.specs.declared.doc.Doc.{Doc}
 use Rattle.mp_tree.proofs.Texts.Written.{depth-document_from}
 
-pub reading-some : (b : List ℕ) (x : Data) → IsUtf8 b → serde_json.read b ≡ Some x → reading b ≡ Some x
-reading-some b x utf8 e = rw (is_utf8-from_IsUtf8 b utf8) e
+pub data_in-some : (b : List ℕ) (x : Data) → IsUtf8 b → serde_json.read b ≡ Some x → data_in b ≡ Some x
+data_in-some b x utf8 e = rw (is_utf8-from_IsUtf8 b utf8) e
 
-pub reading-none : (b : List ℕ) → (IsUtf8 b → serde_json.read b ≡ None) → reading b ≡ None
-reading-none b h = split (is_utf8 b) refl
+pub data_in-none : (b : List ℕ) → (IsUtf8 b → serde_json.read b ≡ None) → data_in b ≡ None
+data_in-none b h = split (is_utf8 b) refl
   where
-    split : (r : Bool) → is_utf8 b ≡ r → reading b ≡ None
+    split : (r : Bool) → is_utf8 b ≡ r → data_in b ≡ None
     split true e = rw e (h (IsUtf8-from_is_utf8 b e))
     split false e = rw e
 
 pub depth-from : (x : Data) (d : Document) → document_from x ≡ Some d → depth d ≤ json.depth x
 depth-from x d e = subst (λ o. IfSome o (λ d. depth d ≤ json.depth x)) e (depth-document_from x)
+
+within_limit : (d : Document) → depth d ≤ depth_limit → shallow_document d ≡ Ok d
+within_limit d within = rw (le-leb (depth d) depth_limit within) refl
+
+-- what is read within the depth rule is a document
+pub document_in-read : (bytes : List ℕ) (d : Document) → read bytes ≡ Some d → depth d ≤ depth_limit → document_in bytes ≡ Ok d
+document_in-read bytes d is within =
+    (elim (data_in bytes) as (λ r. option_and_then document_from r ≡ Some d → json_document r ≡ Ok d) [
+      | None ↦ λ same. absurd (cc)
+      | Some v ↦ λ same. ap whole_document same ∙ within_limit d within
+    ]) is
+
+pub one_document : (bytes : List ℕ) (d e : Document) → document_in bytes ≡ Ok d → document_in bytes ≡ Ok e → d ≡ e
+one_document bytes d e one other = cc
 
 pub item_depth : (ds : List Doc) (k : ℕ) (d : Doc) → k < length ds → depth (document (get_or ds k d)) ≤ items_depth (items ds)
 item_depth [] k d h = absurd (omega arith)

@@ -16,7 +16,7 @@ use Rattle.mp_tree.specs.Arrays.{IsSpace, IsSpaced, in_brackets}
 use Rattle.mp_tree.specs.Document.{Document, null as no_value, flag, whole, string as text_value, list, object, Items, no_items, item, Members, no_members, member, IsWhole, IsInRange, IsReadable, AreDocuments, ThroughoutItems, ThroughoutMembers, items_depth, depth_limit}
 use Rattle.mp_tree.specs.Elements.{items_of}
 use Rattle.mp_tree.specs.Laws.{ArraysReadBack}
-use Rattle.mp_tree.specs.Text.{text, data_of, items_data, members_data, reading}
+use Rattle.mp_tree.specs.Text.{text, data_of, items_data, members_data, data_in}
 use Rattle.mp_tree.proofs.Texts.RoundTrip.{IsUtf8-text, has_number, reads_same_tokens}
 use Rattle.mp_tree.proofs.Texts.Written.{document_from-data_of}
 
@@ -229,6 +229,6 @@ arrays_read_back ds bytes readable array =
     let lexemes : lex between bytes ≡ lex between (text d) =
     ap (lex between) array.is.is ∙ lex-spaces array.is.before _ array.is.space_before ∙ lex-in_brackets ds array.spaced array.is.after readable array.are array.is.space_after in
     let utf8 = IsUtf8-spaced inside bytes (IsUtf8-in_brackets ds array.spaced readable array.are) array.is in
-    let is : reading bytes ≡ Some (data_of d) =
+    let is : data_in bytes ≡ Some (data_of d) =
     reads_same_tokens bytes d utf8 (ap (punctuate fresh) lexemes) (all_in_range ds readable) (all_documents ds readable) (omega (arith, all_within ds readable)) in
     rw (is, document_from-data_of d (all_documents ds readable)) refl

@@ -25,7 +25,7 @@ use Rattle.serde_json.proofs.Numbers.{number_of-decimal, number_of-negative}
 use Rattle.serde_json.proofs.Texts.{print-outline}
 use Rattle.mp_tree.specs.Document.{Document, null, flag, whole, string, list, object, Items, no_items, item, Members, no_members, member, name_cmp, IsWhole, IsInRange, IsDocument, AreDocuments, IsMap, IsBelow, HasTexts, ThroughoutItems, ThroughoutMembers, depth}
 use Rattle.mp_tree.specs.Laws.{ReadsBack, ReadsUtf8Back, EqualTexts}
-use Rattle.mp_tree.specs.Text.{document_from, data_of, items_data, members_data, text, read, reading}
+use Rattle.mp_tree.specs.Text.{document_from, data_of, items_data, members_data, text, read, data_in}
 use Rattle.mp_tree.proofs.Maps.Names.{below_is_above}
 use Rattle.mp_tree.proofs.Texts.Written.{depth-data_of, document_from-data_of}
 use Rattle.mp_tree.proofs.Options.{some_same}
@@ -185,7 +185,7 @@ mutual
 -- ---- the round trip
 
 -- the tokens are all that is read of bytes that are UTF-8
-pub reads_same_tokens : (bytes : List ℕ) (d : Document) → IsUtf8 bytes → tokens bytes ≡ tokens (text d) → IsInRange d → IsDocument d → depth d ≤ max_depth → reading bytes ≡ Some (data_of d)
+pub reads_same_tokens : (bytes : List ℕ) (d : Document) → IsUtf8 bytes → tokens bytes ≡ tokens (text d) → IsInRange d → IsDocument d → depth d ≤ max_depth → data_in bytes ≡ Some (data_of d)
 reads_same_tokens bytes d utf8 same range good within =
     let j = outline (data_of d) in
     let printed : tokens (text d) ≡ json_tokens j = ap tokens (sym (print-outline (data_of d))) ∙ tokens-print (json_tokens j) (ArePrintable-json_tokens j (has_numbers d range)) in

@@ -14,4 +14,4 @@ returns-in_ok-write_doc-in-Ok c =
 
 pub returns-in-Err : goal.returns-in-Err
 returns-in-Err c =
-    IfOk-weaker c.fault_in_run.result _ _ (λ a is. halted c.in-Err.fault c.in-Err.ensures.runs is) c.fault_in_run.ensures
+    IfOk-weaker c.apply_fault.result _ _ (λ a is. halted c.in-Err.fault c.in-Err.ensures.runs is) c.apply_fault.ensures

@@ -10,10 +10,10 @@ returns-in_default c = IfOk-weaker c.wrong_shape.result _ _ (λ a is. no_single 
 
 pub returns-in-Ok : goal.returns-in-Ok
 returns-in-Ok c =
-    IfOk-weaker c.part.result _ _ (λ a is. single_part c.args.pointer.now c.args.docs.items c.in-Some.doc _ c.in-Some.ensures
-    (spelled c.in-Ok.pointer c.in-Ok.ensures.spelled (is ∙ ap part_line c.get.ensures))) c.part.ensures
+    IfOk-weaker c.part_line.result _ _ (λ a is. single_part c.args.pointer.now c.args.docs.items c.in-Some.doc _ c.in-Some.ensures
+    (spelled c.in-Ok.pointer c.in-Ok.ensures.spelled (is ∙ ap part_line c.get.ensures))) c.part_line.ensures
 
 pub returns : goal.returns
 returns c =
-    IfOk-weaker c.fault_in_spelling.result _ _ (λ a is. single_part c.args.pointer.now c.args.docs.items c.in-Some.doc _ c.in-Some.ensures (misspelled c.in-Err.fault c.in-Err.ensures.fault is))
-    c.fault_in_spelling.ensures
+    IfOk-weaker c.spelling_fault.result _ _ (λ a is. single_part c.args.pointer.now c.args.docs.items c.in-Some.doc _ c.in-Some.ensures (misspelled c.in-Err.fault c.in-Err.ensures.fault is))
+    c.spelling_fault.ensures

@@ -16,4 +16,4 @@ returns-in_ok-write_doc-in-Ok c =
 pub returns-in-Err : goal.returns-in-Err
 returns-in-Err c =
     let patches = map document c.args.patches.now in
-    IfOk-weaker c.fault_in_list.result _ _ (λ a is. no_join c.in-Err.fault patches _ c.in-Err.ensures.joined is) c.fault_in_list.ensures
+    IfOk-weaker c.list_fault.result _ _ (λ a is. no_join c.in-Err.fault patches _ c.in-Err.ensures.joined is) c.list_fault.ensures

@@ -8,4 +8,4 @@ returns-in-Ok c = IfOk-weaker c.apply_patch.result _ _ (λ a is. formed (operati
 
 pub returns-in-Err : goal.returns-in-Err
 returns-in-Err c =
-    IfOk-weaker c.fault_in_form.result _ _ (λ a is. malformed c.in-Err.fault c.in-Err.ensures is) c.fault_in_form.ensures
+    IfOk-weaker c.form_fault.result _ _ (λ a is. malformed c.in-Err.fault c.in-Err.ensures is) c.form_fault.ensures

@@ -23,4 +23,4 @@ returns c =
     let d = c.in-Some.start in
     let ps = c.as_slice.result.now in
     let split : docs ≡ d ∷ ps = c.in-Some.ensures ∙ ap (λ rest. d ∷ rest) (sym c.as_slice.ensures.value) in
-    IfOk-weaker c.fault_in_list.result _ _ (λ a is. replay_answer docs ps d _ split (no_replay c.in-Err.fault (document d) (map document ps) _ c.in-Err.ensures.outcome is)) c.fault_in_list.ensures
+    IfOk-weaker c.list_fault.result _ _ (λ a is. replay_answer docs ps d _ split (no_replay c.in-Err.fault (document d) (map document ps) _ c.in-Err.ensures.outcome is)) c.list_fault.ensures

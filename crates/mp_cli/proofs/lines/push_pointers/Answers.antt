@@ -6,7 +6,7 @@ use Rattle.mp_tree.specs.Look.{Path}
 use Rattle.mp_tree.proofs.Passed.{over-into_iter}
 use Rattle.mp_cli.specs.Lines.{pointer_text, pointers_text}
 use Rattle.mp_cli.proofs.lines.push_pointers.Goals as goal
-use Rattle.mp_cli.proofs.lines.push_pointers.Goals.{in-Some+in_ok-pointer+in_ok-push_str, in_default}
+use Rattle.mp_cli.proofs.lines.push_pointers.Goals.{in-Some+in_ok-pointer_text+in_ok-push_str, in_default}
 
 -- pointers that are printed behind others
 abbrev behind : List Path → List ℕ
@@ -33,8 +33,8 @@ returns c =
     let whole : string_bytes c.match-next.text ++ behind left ≡ string_bytes c.loop-place.text = ap (λ it. string_bytes c.match-next.text ++ behind (into_iter_items it)) (sym c.into_iter-place-iterator.ensures.into_iter_gives) ∙ c.loop-place.invariant.whole ∙ ap (λ l. string_bytes c.loop-place.text ++ behind l) none ∙ append-nil (string_bytes c.loop-place.text) in
     let items : c.args.places.items ≡ option_to_list c.next.result ++ left = sym c.into_iter-left.ensures.rest ∙ c.next.ensures.items in
     elim c.match-next.branch [
-      | in-Some+in_ok-pointer+in_ok-push_str w ↦
-          let first : string_bytes c.match-next.text ≡ string_bytes c.args.text.now ++ pointer_text w.in-Some.first = ap string_bytes w.text-is ∙ w.in_ok-push_str.ensures.bytes ∙ ap (λ t. string_bytes c.args.text.now ++ t) (w.as_str.ensures.value ∙ w.in_ok-pointer.ensures) in
+      | in-Some+in_ok-pointer_text+in_ok-push_str w ↦
+          let first : string_bytes c.match-next.text ≡ string_bytes c.args.text.now ++ pointer_text w.in-Some.first = ap string_bytes w.text-is ∙ w.in_ok-push_str.ensures.bytes ∙ ap (λ t. string_bytes c.args.text.now ++ t) (w.as_str.ensures.value ∙ w.in_ok-pointer_text.ensures) in
           sym whole ∙ ap (λ t. t ++ behind left) first ∙ append_assoc (string_bytes c.args.text.now) (pointer_text w.in-Some.first) (behind left) ∙ ap (λ ws. string_bytes c.args.text.now ++ pointers_text ws) (sym (items ∙ ap (λ o. option_to_list o ++ left) w.in-Some.is))
       | in_default w ↦
           let empty : left ≡ [] = sym w.in_default.ensures.items ∙ over-into_iter c.into_iter-left.result w.in_default.ensures.cases.0 in

@@ -1,9 +1,10 @@
 use Rattle.std.proofs.Common.{◌≢◌, ◌∷◌, [], string_bytes, sym, ◌∙◌, true≢false}
 use Rattle.mp_tree.specs.View.{document}
 use Rattle.mp_tree.specs.Private.Entries.{members}
+use Rattle.mp_tree.proofs.Facts.{document_of_map, looked_up}
 use Rattle.mp_merge.specs.Clash.{Clash}
 use Rattle.mp_merge.proofs.Clashes.ByName.{decided, no_map, clash_of_others, clash-sym, compatible-self, absent_under, compatible_under, clash_under, same_behind}
-use Rattle.mp_merge.proofs.Collections.Members.{document_of_map, looked_up, next_change, pass_change}
+use Rattle.mp_merge.proofs.Collections.Members.{next_change, pass_change}
 use Rattle.mp_merge.proofs.comparing.+compatible.Goals as goal
 use Rattle.mp_merge.proofs.comparing.+compatible.Goals.{compatible-in_default-via-in-Members+in_default, compatible-in_default-via-in_default}
 

@@ -3,15 +3,17 @@ use Rattle.std.proofs.lemmas.Result.{on_ok_weaker}
 use Rattle.mp_tree.specs.Document.{find}
 use Rattle.mp_tree.specs.View.{document}
 use Rattle.mp_tree.specs.Private.Entries.{members}
+use Rattle.mp_tree.proofs.Facts.{document_of_map, looked_up}
 use Rattle.mp_merge.specs.Private.Clashes.{WalksClashes}
 use Rattle.mp_merge.specs.Private.Edits.{NotBothMaps}
 use Rattle.mp_merge.specs.Private.Growth.{Grew, behind}
-use Rattle.mp_merge.proofs.Clashes.Conflicts.{clashes_after_one, back_again, walks_one}
+use Rattle.mp_merge.proofs.Clashes.Conflicts.{clashes_after_one, walks_one}
 use Rattle.mp_merge.proofs.Clashes.ByName.{no_map, not_both_first, not_both_second}
 use Rattle.mp_merge.proofs.Collections.Growth.{grew_by_all, grew_by_none}
-use Rattle.mp_merge.proofs.Collections.Members.{document_of_map, looked_up, pass_change, no_changes}
+use Rattle.mp_merge.proofs.Collections.Members.{pass_change, no_changes}
 use Rattle.mp_merge.proofs.comparing.+push_clashes.Goals as goal
 use Rattle.mp_merge.proofs.comparing.+push_clashes.Goals.{push_clashes-in_default-via-in-Members+in_default, push_clashes-in_default-via-in_default}
+use Rattle.mp_pointer.proofs.Facts.{back_again}
 
 pub push_clashes-returns-in-Members-Members-clause-places : goal.push_clashes-returns-in-Members-Members-clause-places
 push_clashes-returns-in-Members-Members-clause-places t c =

@@ -8,10 +8,9 @@ use Rattle.mp_tree.specs.Laws.{DocsAreDocuments}
 use Rattle.mp_tree.specs.View.{document}
 use Rattle.mp_tree.specs.declared.doc.Doc.{Doc}
 use Rattle.mp_patch.specs.Operation.{Operation}
-use Rattle.mp_patch.specs.Run.{IsFaultOf}
+use Rattle.mp_patch.specs.Run.{IsApplyFault}
 use Rattle.mp_patch.specs.declared.fault.ApplyFault.{ApplyFault}
 use Rattle.mp_patch.specs.declared.fault.ApplyFault.TheVariants.{Refused}
-use Rattle.mp_patch.specs.declared.fault.ApplyFault.TheVariants.{OutOfMemory as NoMemoryToApply}
 use Rattle.mp_merge.specs.Application.{merge_patch}
 use Rattle.mp_merge.specs.Converged.{IsConvergeFault}
 use Rattle.mp_merge.specs.Convergence.{Converge, LeadsTo, ReachesEnd, ReplicasConverge}
@@ -27,7 +26,6 @@ use Rattle.mp_merge.specs.declared.fault.ConvergeFault.{ConvergeFault}
 use Rattle.mp_merge.specs.declared.fault.ConvergeFault.TheVariants.{OutOfMemory}
 use Rattle.mp_merge.specs.declared.fault.ListFault.{ListFault}
 use Rattle.mp_merge.specs.declared.fault.ListFault.TheVariants.{NoPatches, ConflictOf}
-use Rattle.mp_merge.specs.declared.fault.ListFault.TheVariants.{OutOfMemory as NoMemoryForList}
 use Rattle.mp_merge.proofs.converging.converge.Goals as goal
 
 -- ---- what the calls answer of the patches that a replica received
@@ -42,9 +40,9 @@ module _ {start joined end : Document} {received : List Document} (reached : Rea
   join_is {d = d} docs is says = reached.one_join (document d) (docs d).0 (MatchResult-at_ok _ _ d is says)
 
 -- where a JSON Patch leads to an end, the only fault is want of memory
-patch_fault : {start end : Document} {operations : List Operation} → LeadsTo start end operations → (fault : ApplyFault) → IsFaultOf fault start operations → told_of_patch fault ≡ OutOfMemory
+patch_fault : {start end : Document} {operations : List Operation} → LeadsTo start end operations → (fault : ApplyFault) → IsApplyFault fault start operations → told_of_patch fault ≡ OutOfMemory
 patch_fault leads (Refused op cause) refused = absurd (leads.unrefused op cause refused)
-patch_fault leads NoMemoryToApply refused = refl
+patch_fault leads ApplyFault.OutOfMemory refused = refl
 
 -- what a `?` hands on
 handed_on : {told : ConvergeFault} (P : ConvergeFault → Type 0) (r : Result Converged ConvergeFault) → IsErrAnd r (λ fault. fault ≡ told) → P told → IfErr r P
@@ -98,25 +96,25 @@ module _ (start : Document) (here there : List Document) where
   here_refused : (fault : ListFault) → IsReplayFault fault here → IsConvergeFault (told_of_list fault) start here there
   here_refused NoPatches never = absurd never
   here_refused (ConflictOf first second places) told = inl told
-  here_refused NoMemoryForList memory = tt
+  here_refused ListFault.OutOfMemory memory = tt
 
   there_refused : (fault : ListFault) → PairwiseCompatible here → IsReplayFault fault there → IsConvergeFault (told_of_list fault) start here there
   there_refused NoPatches fine never = absurd never
   there_refused (ConflictOf first second places) fine told = inr (fine, told)
-  there_refused NoMemoryForList fine memory = tt
+  there_refused ListFault.OutOfMemory fine memory = tt
 
   join_refused : (fault : ListFault) → PairwiseCompatible here → PairwiseCompatible there → IsJoinAllFault fault here → IsConvergeFault (told_of_list fault) start here there
   join_refused NoPatches fine good none = (fine, good, inl none)
   join_refused (ConflictOf first second places) fine good told = inl told
-  join_refused NoMemoryForList fine good memory = tt
+  join_refused ListFault.OutOfMemory fine good memory = tt
 
   other_refused : (fault : ListFault) → PairwiseCompatible here → PairwiseCompatible there → IsJoinAllFault fault there → IsConvergeFault (told_of_list fault) start here there
   other_refused NoPatches fine good none = (fine, good, inr none)
   other_refused (ConflictOf first second places) fine good told = inr (fine, told)
-  other_refused NoMemoryForList fine good memory = tt
+  other_refused ListFault.OutOfMemory fine good memory = tt
 
   patch_refused : (fault : ApplyFault) (joined other : Document) (operations : List Operation) → IsJoin here joined → IsJoin there other → IsRewriting start joined operations
-      → IsFaultOf fault start operations → IsConvergeFault (told_of_patch fault) start here there
+      → IsApplyFault fault start operations → IsConvergeFault (told_of_patch fault) start here there
   patch_refused (Refused op cause) joined other operations is was edits refused = record {
     joined = joined;
     joined_here = is;
@@ -126,7 +124,7 @@ module _ (start : Document) (here there : List Document) where
     edits = edits;
     refused = refused;
   }
-  patch_refused NoMemoryToApply joined other operations is was edits memory = tt
+  patch_refused ApplyFault.OutOfMemory joined other operations is was edits memory = tt
 
 -- ---- the calls of `converge`
 

@@ -5,13 +5,13 @@ use Rattle.mp_tree.specs.Document.{Document, object, find, put}
 use Rattle.mp_tree.specs.View.{document}
 use Rattle.mp_tree.specs.Private.Entries.{members}
 use Rattle.mp_tree.specs.declared.doc.Doc.{Doc, Members as Map}
-use Rattle.mp_tree.proofs.Facts.{IsMap-members, members-inserted, members-removed, document-Members, document-Null}
+use Rattle.mp_tree.proofs.Facts.{IsMap-members, members-inserted, members-removed, document-Members, document-Null, document_of_map, looked_up, members-put}
 use Rattle.mp_merge.specs.Application.{set_or_remove, merge_patch, merge_patch_members, target_members}
 use Rattle.mp_merge.specs.Private.Merging.{NeedsNoneAt, ResumesAt}
 use Rattle.mp_merge.specs.Resumption.{NeedsNoMemory}
 use Rattle.mp_merge.proofs.Application.ByName.{set_or_remove-other}
 use Rattle.mp_merge.proofs.Application.Resumption.{absent_needs, merges_again, merges_into_null, merges_on, needs_in, needs_none_next, present_needs, set_resumes}
-use Rattle.mp_merge.proofs.Collections.Members.{document_of_map, looked_up, members-put, next_change, pass_change}
+use Rattle.mp_merge.proofs.Collections.Members.{next_change, pass_change}
 use Rattle.mp_merge.proofs.in_place.+merge_at.Goals as goal
 
 -- ---- an object into a target

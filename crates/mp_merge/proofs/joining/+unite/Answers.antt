@@ -3,11 +3,11 @@ use Rattle.std.proofs.lemmas.Result.{IfOk-weaker}
 use Rattle.mp_tree.specs.Document.{object, put}
 use Rattle.mp_tree.specs.View.{document}
 use Rattle.mp_tree.specs.Private.Entries.{members}
-use Rattle.mp_tree.proofs.Facts.{document-Members, IsMap-members, members-inserted}
+use Rattle.mp_tree.proofs.Facts.{document-Members, IsMap-members, members-inserted, document_of_map, looked_up, members-put}
 use Rattle.mp_merge.specs.Private.Unions.{UnitesTo, UnitesAt, union_members}
 use Rattle.mp_merge.proofs.Clashes.ByName.{compatible_all, compatible_first, no_map, same_set}
 use Rattle.mp_merge.proofs.Joins.Union.{union_members-step, union_with-absent, clash_with_other, unites_plain}
-use Rattle.mp_merge.proofs.Collections.Members.{document_of_map, looked_up, members-put, next_change, no_changes, pass_change}
+use Rattle.mp_merge.proofs.Collections.Members.{next_change, no_changes, pass_change}
 use Rattle.mp_merge.proofs.joining.+unite.Goals as goal
 
 -- ---- two patches

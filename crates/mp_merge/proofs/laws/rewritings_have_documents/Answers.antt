@@ -1,4 +1,4 @@
-use Rattle.mp_merge.proofs.Rewritings.Existence.{rewriting_has_documents}
+use Rattle.mp_merge.proofs.Rewritings.SomeRewriting.{rewriting_has_documents}
 use Rattle.mp_merge.proofs.laws.rewritings_have_documents.Goals as goal
 
 pub returns : goal.returns

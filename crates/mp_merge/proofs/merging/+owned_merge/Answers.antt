@@ -3,10 +3,10 @@ use Rattle.std.proofs.lemmas.Bool.{iff_false}
 use Rattle.mp_tree.specs.Document.{object, find, without}
 use Rattle.mp_tree.specs.View.{document}
 use Rattle.mp_tree.specs.Private.Entries.{members}
-use Rattle.mp_tree.proofs.Facts.{document-Members, IsMap-members, members-removed}
+use Rattle.mp_tree.proofs.Facts.{document-Members, IsMap-members, members-removed, document_of_map, looked_up, members-put}
 use Rattle.mp_merge.specs.Application.{set_or_remove, merge_patch, merge_patch_members}
 use Rattle.mp_merge.proofs.Application.ByName.{merge_patch_members-step, set_or_remove-other}
-use Rattle.mp_merge.proofs.Collections.Members.{document_of_map, looked_up, members-put, pass_change}
+use Rattle.mp_merge.proofs.Collections.Members.{pass_change}
 use Rattle.mp_merge.proofs.merging.+owned_merge.Goals as goal
 
 pub change_entry-returns-then-is_null : goal.change_entry-returns-then-is_null

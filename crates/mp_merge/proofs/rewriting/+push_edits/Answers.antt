@@ -3,10 +3,11 @@ use Rattle.mp_tree.specs.Document.{find}
 use Rattle.mp_tree.specs.View.{document}
 use Rattle.mp_tree.specs.Private.Entries.{members}
 use Rattle.mp_tree.specs.declared.doc.Doc.{Doc}
+use Rattle.mp_tree.proofs.Facts.{document_of_map, looked_up}
 use Rattle.mp_merge.specs.Private.Edits.{lists_of}
 use Rattle.mp_pointer.proofs.Facts.{lent_part}
 use Rattle.mp_merge.proofs.Rewritings.Walk.{all_edits, both_maps, edits_after_one, renamed}
-use Rattle.mp_merge.proofs.Collections.Members.{document_of_map, looked_up, pass_change, no_changes}
+use Rattle.mp_merge.proofs.Collections.Members.{pass_change, no_changes}
 use Rattle.mp_merge.proofs.rewriting.+push_edits.Goals as goal
 
 pub push_edits-returns-in-Members-Members-clause-edits : goal.push_edits-returns-in-Members-Members-clause-edits

@@ -1,9 +1,9 @@
 use Rattle.std.proofs.Common.{[], Some, ap}
 use Rattle.std.proofs.lemmas.Result.{on_ok_weaker}
 use Rattle.mp_tree.specs.View.{document}
+use Rattle.mp_tree.proofs.Facts.{document_of_map}
 use Rattle.mp_merge.specs.Private.Edits.{NotBothMaps}
 use Rattle.mp_merge.proofs.Clashes.ByName.{no_map, not_both_first, not_both_second}
-use Rattle.mp_merge.proofs.Collections.Members.{document_of_map}
 use Rattle.mp_merge.proofs.Rewritings.Walk.{both_maps, edits_one}
 use Rattle.mp_merge.proofs.rewriting.push_all.Goals as goal
 use Rattle.mp_merge.proofs.rewriting.push_all.Goals.{in_default-via-in-Members+in_default, in_default-via-in_default}

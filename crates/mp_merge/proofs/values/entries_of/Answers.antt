@@ -1,7 +1,7 @@
 use Rattle.std.proofs.Common.{Some, option_map, ap, sym, ◌∙◌}
 use Rattle.mp_tree.specs.View.{document}
+use Rattle.mp_tree.proofs.Facts.{document_of_map}
 use Rattle.mp_merge.specs.Application.{target_members}
-use Rattle.mp_merge.proofs.Collections.Members.{document_of_map}
 use Rattle.mp_merge.proofs.values.entries_of.Goals as goal
 
 pub returns-in-Members : goal.returns-in-Members

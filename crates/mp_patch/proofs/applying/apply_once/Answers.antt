@@ -2,7 +2,7 @@ use Rattle.std.proofs.Common.{◌≡◌, ◌<◌, length, [], refl, ap, sym, ◌
 use Rattle.std.specs.Vec.Iter.{into_iter_items}
 use Rattle.mp_tree.specs.View.{document}
 use Rattle.mp_tree.proofs.Facts.{IsDocument-document}
-use Rattle.mp_patch.specs.Run.{IsFaultOf}
+use Rattle.mp_patch.specs.Run.{IsApplyFault}
 use Rattle.mp_patch.specs.View.{operation_of, operations_of}
 use Rattle.mp_patch.specs.declared.fault.ApplyFault.{ApplyFault}
 use Rattle.mp_patch.proofs.Operations.Depth.{Step-depth}
@@ -42,7 +42,7 @@ loop-op-preserved c =
 pub returns-in-Err-clause-runs : goal.returns-in-Err-clause-runs
 returns-in-Err-clause-runs c =
     let l = c.loop-op in
-    subst (λ (fault : ApplyFault). IsFaultOf fault (document c.args.doc) (operations_of c.args.patch)) (sym c.of_operation.ensures)
+    subst (λ (fault : ApplyFault). IsApplyFault fault (document c.args.doc) (operations_of c.args.patch)) (sym c.of_operation.ensures)
     (fault_next (document c.args.doc) c.args.patch (into_iter_items l.op-iterator) l.done (document l.result) l.invariant.ran c.in-Some.op (into_iter_items c.next.new.self) c.in-Some.ensures.steps.0 c.in-Err.refusal (document c.step_owned.new.doc) c.in-Err.ensures.answer)
 
 pub returns-clause-runs : goal.returns-clause-runs

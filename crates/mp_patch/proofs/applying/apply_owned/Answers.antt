@@ -2,7 +2,7 @@ use Rattle.std.proofs.Common.{List, take, sym, subst}
 use Rattle.mp_tree.specs.View.{document}
 use Rattle.mp_tree.proofs.Facts.{IsDocument-document}
 use Rattle.mp_patch.specs.Operation.{Operation}
-use Rattle.mp_patch.specs.Run.{Runs, IsFaultOf}
+use Rattle.mp_patch.specs.Run.{Runs, IsApplyFault}
 use Rattle.mp_patch.specs.View.{operation_of, operations_of}
 use Rattle.mp_patch.specs.declared.fault.ApplyFault.{ApplyFault}
 use Rattle.mp_patch.proofs.Operations.Depth.{Step-depth}
@@ -31,5 +31,5 @@ returns-in-Err-clause-runs c =
     let operations = operations_of c.args.patch.now in
     let o = operation_of c.op-item.result in
     let there = operation_there c.args.patch.now c.ops-op-items.result.now l.number c.op-item.result c.ops-op-items.ensures c.loop-number-test.true c.op-item.is in
-    subst (λ (fault : ApplyFault). IsFaultOf fault (document c.args.doc) operations) (sym c.of_operation.ensures)
+    subst (λ (fault : ApplyFault). IsApplyFault fault (document c.args.doc) operations) (sym c.of_operation.ensures)
     (fault_there c.in-Err.refusal l.number (document c.args.doc) (document l.result) (document c.step.new.doc) operations o l.invariant.run there c.in-Err.ensures.answer)

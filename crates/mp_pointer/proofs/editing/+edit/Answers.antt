@@ -3,8 +3,8 @@ use Rattle.std.proofs.lemmas.Option.{slice_get-get_or}
 use Rattle.std.specs.Vec.{with_item}
 use Rattle.mp_tree.specs.View.{document}
 use Rattle.mp_tree.specs.declared.doc.Doc.TheVariants.{Items, Members}
-use Rattle.mp_pointer.proofs.EditedParts.{slice_range-none, slice_range-more, edits_here, edited_child, part-none}
-use Rattle.mp_pointer.proofs.LentParts.{element_lent, element_there, value_lent, value_there, no_child, no_index_here, past_end}
+use Rattle.mp_pointer.proofs.Changes.Edited.{slice_range-none, slice_range-more, edits_here, edited_child, part-none}
+use Rattle.mp_pointer.proofs.Parts.Lent.{element_lent, element_there, value_lent, value_there, no_child, no_index_here, past_end}
 use Rattle.mp_pointer.proofs.editing.+edit.Goals as goal
 
 pub edit_between-returns-then-number-end : goal.edit_between-returns-then-number-end

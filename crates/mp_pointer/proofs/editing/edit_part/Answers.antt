@@ -1,4 +1,4 @@
-use Rattle.mp_pointer.proofs.EditedParts.{from_first}
+use Rattle.mp_pointer.proofs.Changes.Edited.{from_first}
 use Rattle.mp_pointer.proofs.editing.edit_part.Goals as goal
 
 pub returns : goal.returns

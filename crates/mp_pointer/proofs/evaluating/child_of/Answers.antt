@@ -7,7 +7,7 @@ use Rattle.mp_tree.specs.Private.Entries.{members}
 use Rattle.mp_tree.proofs.Facts.{find-members, nth-items, count_of-items}
 use Rattle.mp_tree.proofs.Facts.{document-Null, document-Flag, document-Whole, document-Text, document-Items, document-Members}
 use Rattle.mp_pointer.specs.Part.{child}
-use Rattle.mp_pointer.proofs.Indices.{child-numeral, child-no_index, item_at, lent_part}
+use Rattle.mp_pointer.proofs.Tokens.Indices.{child-numeral, child-no_index, item_at, lent_part}
 use Rattle.mp_pointer.proofs.evaluating.child_of.Goals as goal
 
 pub returns-in_err-index_of-in-Items : goal.returns-in_err-index_of-in-Items

@@ -3,7 +3,7 @@ use Rattle.std.specs.List.{slice_get}
 use Rattle.std.specs.Option.{option_copied}
 use Rattle.mp_tree.specs.View.{document}
 use Rattle.mp_pointer.specs.Part.{child, part}
-use Rattle.mp_pointer.proofs.TokenLists.{drop_token}
+use Rattle.mp_pointer.proofs.Tokens.Lists.{drop_token}
 use Rattle.mp_pointer.proofs.evaluating.get.Goals as goal
 
 pub returns-in_err-target : goal.returns-in_err-target

@@ -52,8 +52,8 @@ use Rattle.mp_pointer.specs.Part.{part}
 use Rattle.mp_tree.specs.Rows.{doc_row}
 use Rattle.mp_pointer.specs.contracts.pointer.Pointer as pointer
 use Rattle.mp_pointer.proofs.pointer.Pointer.TheLaws as pointer_laws
-use Rattle.mp_pointer.proofs.FollowedBorrows.{follows_self, arm_of, cases, spelled, place_of, some_apart, none_apart, so_opened, so_made, then_so}
-use Rattle.mp_pointer.proofs.Evaluation.{Reached, becomes_root, next_stood, next_made, nothing_further, nothing_changed, all_taken}
+use Rattle.mp_pointer.proofs.Changes.FollowedBorrows.{follows_self, arm_of, cases, spelled, place_of, some_apart, none_apart, so_opened, so_made, then_so}
+use Rattle.mp_pointer.proofs.Changes.Written.{Reached, becomes_root, next_stood, next_made, nothing_further, nothing_changed, all_taken}
 use Rattle.mp_pointer.specs.contracts.evaluating.get_mut as f
 use Rattle.mp_pointer.proofs.evaluating.get_mut.Statement.{statement}
 use Rattle.mp_pointer.proofs.evaluating.get_mut.Code as code

@@ -2,7 +2,7 @@ use Rattle.std.proofs.Common.{[], ◌∷◌, sym, ◌∙◌, true≢false}
 use Rattle.std.proofs.lemmas.Slice.Eq.{bytes_eq-Decides}
 use Rattle.mp_pointer.specs.Bytes.{digit_zero}
 use Rattle.mp_pointer.specs.Part.{numeral}
-use Rattle.mp_pointer.proofs.Indices.{index_parsed, no_index, bytes_differ}
+use Rattle.mp_pointer.proofs.Tokens.Indices.{index_parsed, no_index, bytes_differ}
 use Rattle.mp_pointer.proofs.evaluating.index_of.Goals as goal
 
 pub returns-then-eq : goal.returns-then-eq

@@ -1,4 +1,4 @@
-use Rattle.mp_pointer.proofs.Indices.{numeral-decimal}
+use Rattle.mp_pointer.proofs.Tokens.Indices.{numeral-decimal}
 use Rattle.mp_pointer.proofs.laws.numerals_are_printed.Goals as goal
 
 pub returns : goal.returns

@@ -1,4 +1,4 @@
-use Rattle.mp_pointer.proofs.Indices.{same_numeral}
+use Rattle.mp_pointer.proofs.Tokens.Indices.{same_numeral}
 use Rattle.mp_pointer.proofs.laws.one_index.Goals as goal
 
 pub returns : goal.returns

@@ -1,4 +1,4 @@
-use Rattle.mp_pointer.proofs.Spellings.{has_one_spelling}
+use Rattle.mp_pointer.proofs.Spellings.ReadBack.{has_one_spelling}
 use Rattle.mp_pointer.proofs.laws.one_spelling.Goals as goal
 
 pub returns : goal.returns

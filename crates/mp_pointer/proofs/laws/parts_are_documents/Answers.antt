@@ -1,4 +1,4 @@
-use Rattle.mp_pointer.proofs.PartDocuments.{part-document}
+use Rattle.mp_pointer.proofs.Parts.Documents.{part-document}
 use Rattle.mp_pointer.proofs.laws.parts_are_documents.Goals as goal
 
 pub returns : goal.returns

@@ -1,4 +1,4 @@
-use Rattle.mp_pointer.proofs.PartDepths.{part-depth}
+use Rattle.mp_pointer.proofs.Parts.Depths.{part-depth}
 use Rattle.mp_pointer.proofs.laws.parts_are_shallower.Goals as goal
 
 pub returns : goal.returns

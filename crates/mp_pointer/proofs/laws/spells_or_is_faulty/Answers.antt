@@ -1,4 +1,4 @@
-use Rattle.mp_pointer.proofs.Spellings.{spells_or_is_faulty}
+use Rattle.mp_pointer.proofs.Spellings.ReadBack.{spells_or_is_faulty}
 use Rattle.mp_pointer.proofs.laws.spells_or_is_faulty.Goals as goal
 
 pub returns : goal.returns

@@ -50,8 +50,8 @@ use Rattle.mp_pointer.specs.contracts.pointer.Pointer as pointer
 use Rattle.mp_pointer.specs.Lending.{LendsPart, LendsPartOf, PartBecomes}
 use Rattle.mp_pointer.specs.Private.Child.{IsList, one_token}
 use Rattle.mp_tree.specs.Rows.{doc_row, items_row, members_row}
-use Rattle.mp_pointer.proofs.LentParts.{scalar_part}
-use Rattle.mp_pointer.proofs.FollowedBorrows.{arm_of, when_true, when_false, cases, spelled, spelled_typed, option_spelled, some_apart, none_apart, none_so, then_so, shares_again, shared_back, Kept}
+use Rattle.mp_pointer.proofs.Parts.Lent.{scalar_part}
+use Rattle.mp_pointer.proofs.Changes.FollowedBorrows.{arm_of, when_true, when_false, cases, spelled, spelled_typed, option_spelled, some_apart, none_apart, none_so, then_so, shares_again, shared_back, Kept}
 use Rattle.mp_pointer.specs.contracts.lending.child_mut as f
 use Rattle.mp_pointer.proofs.lending.child_mut.Statement.{statement}
 use Rattle.mp_pointer.proofs.lending.child_mut.Code as code

@@ -4,7 +4,7 @@ use Rattle.std.specs.Vec.{with_item}
 use Rattle.mp_tree.specs.View.{document}
 use Rattle.mp_tree.specs.declared.doc.Doc.TheVariants.{Items}
 use Rattle.mp_pointer.specs.Lending.{PartBecomes}
-use Rattle.mp_pointer.proofs.LentParts.{one_token-is, part-at, element_lent, element_there, no_index_here}
+use Rattle.mp_pointer.proofs.Parts.Lent.{one_token-is, part-at, element_lent, element_there, no_index_here}
 use Rattle.mp_pointer.proofs.lending.element_mut.Goals as goal
 
 pub returns-in_err-index : goal.returns-in_err-index

@@ -3,7 +3,7 @@ use Rattle.std.specs.Option.{OnSome}
 use Rattle.mp_tree.specs.View.{document}
 use Rattle.mp_tree.specs.declared.doc.Doc.TheVariants.{Members}
 use Rattle.mp_pointer.specs.Lending.{PartBecomes}
-use Rattle.mp_pointer.proofs.LentParts.{one_token-is, part-at, value_lent, value_there}
+use Rattle.mp_pointer.proofs.Parts.Lent.{one_token-is, part-at, value_lent, value_there}
 use Rattle.mp_pointer.proofs.lending.value_mut.Goals as goal
 
 pub returns : goal.returns

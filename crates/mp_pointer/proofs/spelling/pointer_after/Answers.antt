@@ -3,7 +3,7 @@ use Rattle.std.proofs.lemmas.Str.Pattern.{split_parts}
 use Rattle.mp_pointer.specs.Bytes.{slash}
 use Rattle.mp_pointer.specs.Spelling.{spell}
 use Rattle.mp_pointer.specs.Private.BadTilde.{first_bad_tilde}
-use Rattle.mp_pointer.proofs.Spellings.{first_bad-front, first_bad-after}
+use Rattle.mp_pointer.proofs.Spellings.ReadBack.{first_bad-front, first_bad-after}
 use Rattle.mp_pointer.proofs.spelling.pointer_after.Goals as goal
 
 pub push_unescaped-requires-clause-between : goal.push_unescaped-requires-clause-between

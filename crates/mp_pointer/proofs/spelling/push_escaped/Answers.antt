@@ -2,7 +2,7 @@ use Rattle.std.proofs.Common.{◌++◌, string_bytes, sym, ap, ◌∙◌, arith,
 use Rattle.std.proofs.lemmas.Str.Pattern.{split_parts}
 use Rattle.mp_pointer.specs.Bytes.{tilde}
 use Rattle.mp_pointer.specs.Spelling.{escaped_byte}
-use Rattle.mp_pointer.proofs.Spellings.{escape-plain, escape_step}
+use Rattle.mp_pointer.proofs.Spellings.ReadBack.{escape-plain, escape_step}
 use Rattle.mp_pointer.proofs.spelling.push_escaped.Goals as goal
 
 pub push_without_tildes-requires : goal.push_without_tildes-requires

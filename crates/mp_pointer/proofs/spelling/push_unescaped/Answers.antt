@@ -1,7 +1,7 @@
 use Rattle.std.proofs.Common.{◌∙◌, ap}
 use Rattle.std.proofs.lemmas.Result.{on_ok_weaker}
 use Rattle.mp_pointer.specs.Spelling.{spell}
-use Rattle.mp_pointer.proofs.Spellings.{escape-plain, spell-push}
+use Rattle.mp_pointer.proofs.Spellings.ReadBack.{escape-plain, spell-push}
 use Rattle.mp_pointer.proofs.spelling.push_unescaped.Goals as goal
 
 pub returns-then-is_plain : goal.returns-then-is_plain

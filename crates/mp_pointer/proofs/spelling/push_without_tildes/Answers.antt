@@ -2,7 +2,7 @@ use Rattle.std.proofs.Common.{◌≡◌, ◌∷◌, ◌++◌, string_bytes, sym,
 use Rattle.std.proofs.lemmas.Str.Pattern.{split_parts}
 use Rattle.mp_pointer.specs.Bytes.{slash, tilde}
 use Rattle.mp_pointer.specs.Spelling.{escape, escaped_byte}
-use Rattle.mp_pointer.proofs.Spellings.{Lacks, Lacks-front, Lacks-after, escape-plain, escape_step}
+use Rattle.mp_pointer.proofs.Spellings.ReadBack.{Lacks, Lacks-front, Lacks-after, escape-plain, escape_step}
 use Rattle.mp_pointer.proofs.spelling.push_without_tildes.Goals as goal
 
 pub slashes-preserved : goal.slashes-preserved

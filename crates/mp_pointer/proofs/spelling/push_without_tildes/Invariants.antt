@@ -1,7 +1,7 @@
 use Rattle.std.proofs.Common.{◌≡◌, ◌++◌, length, IsUtf8, string_bytes}
 use Rattle.mp_pointer.specs.Bytes.{tilde}
 use Rattle.mp_pointer.specs.Spelling.{escape}
-use Rattle.mp_pointer.proofs.Spellings.{Lacks}
+use Rattle.mp_pointer.proofs.Spellings.ReadBack.{Lacks}
 use Rattle.mp_pointer.proofs.spelling.push_without_tildes.Given as goal
 
 abbrev pub invariant-slashes : goal.invariant-slashes

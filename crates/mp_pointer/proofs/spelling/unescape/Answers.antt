@@ -5,7 +5,7 @@ use Rattle.mp_pointer.specs.Bytes.{slash, tilde, digit_zero, digit_one}
 use Rattle.mp_pointer.specs.Spelling.{escape, escaped_byte}
 use Rattle.mp_pointer.specs.Private.BadTilde.{first_bad_tilde}
 use lib.Utf8.{encode}
-use Rattle.mp_pointer.proofs.Spellings.{Lacks, Lacks-front, Lacks-after, escape-plain, unescape_step, first_bad-after, escape_follows}
+use Rattle.mp_pointer.proofs.Spellings.ReadBack.{Lacks, Lacks-front, Lacks-after, escape-plain, unescape_step, first_bad-after, escape_follows}
 use Rattle.mp_pointer.proofs.spelling.unescape.Goals as goal
 
 pub escapes-preserved-in-Some-strip_prefix : goal.escapes-preserved-in-Some-strip_prefix

@@ -2,7 +2,7 @@ use Rattle.std.proofs.Common.{◌≡◌, ◌++◌, length, None, IsUtf8, string_
 use Rattle.mp_pointer.specs.Bytes.{slash}
 use Rattle.mp_pointer.specs.Spelling.{escape}
 use Rattle.mp_pointer.specs.Private.BadTilde.{first_bad_tilde}
-use Rattle.mp_pointer.proofs.Spellings.{Lacks}
+use Rattle.mp_pointer.proofs.Spellings.ReadBack.{Lacks}
 use Rattle.mp_pointer.proofs.spelling.unescape.Given as goal
 
 abbrev pub invariant-escapes : goal.invariant-escapes

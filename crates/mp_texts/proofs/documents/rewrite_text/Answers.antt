@@ -1,8 +1,8 @@
 use Rattle.std.proofs.Common.{string_bytes}
 use Rattle.mp_tree.specs.View.{document}
+use Rattle.mp_tree.proofs.Facts.{document_in-read}
 use Rattle.mp_patch.specs.Form.{shapes}
 use Rattle.mp_patch.specs.View.{operations_of}
-use Rattle.mp_texts.proofs.Readings.{document_in-read}
 use Rattle.mp_texts.proofs.documents.rewrite_text.Goals as goal
 
 -- its operations can be written, since the document and the patch can be read

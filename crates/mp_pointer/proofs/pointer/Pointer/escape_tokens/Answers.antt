@@ -4,8 +4,8 @@ use Rattle.std.specs.Option.{option_copied}
 use lib.Utf8.{encode}
 use Rattle.mp_pointer.specs.Bytes.{slash}
 use Rattle.mp_pointer.specs.Spelling.{escape, spell}
-use Rattle.mp_pointer.proofs.Spellings.{spell-push}
-use Rattle.mp_pointer.proofs.TokenLists.{take_token}
+use Rattle.mp_pointer.proofs.Spellings.ReadBack.{spell-push}
+use Rattle.mp_pointer.proofs.Tokens.Lists.{take_token}
 use Rattle.mp_pointer.proofs.pointer.Pointer.escape_tokens.Goals as goal
 
 pub loop-number-preserved : goal.loop-number-preserved

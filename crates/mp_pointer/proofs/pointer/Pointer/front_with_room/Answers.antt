@@ -1,7 +1,7 @@
 use Rattle.std.proofs.Common.{◌≡◌, ◌≤◌, ◌-◌, ◌∷◌, length, take, get_or, string_bytes, refl, sym, ap, ◌∙◌, subst, arith}
 use Rattle.std.proofs.lemmas.List.{length-take-le}
 use Rattle.mp_pointer.specs.Private.Cuts.{EachPlain, cut}
-use Rattle.mp_pointer.proofs.KeptTokens.{length-cut, cut_is_boundary, cut-take, AreCuts-take, EachPlain-take}
+use Rattle.mp_pointer.proofs.Spellings.Kept.{length-cut, cut_is_boundary, cut-take, AreCuts-take, EachPlain-take}
 use Rattle.mp_pointer.proofs.pointer.Pointer.front_with_room.Goals as goal
 
 pub end_of-end-requires : goal.end_of-end-requires

@@ -1,7 +1,7 @@
 use Rattle.std.proofs.Common.{◌≡◌, Some, length, take, refl, sym, ap, ◌∙◌, arith, true≢false}
 use Rattle.std.specs.List.{slice_get}
 use Rattle.std.specs.Option.{option_copied}
-use Rattle.mp_pointer.proofs.TokenLists.{take_step, begins_with, no_front_of_other, texts_differ}
+use Rattle.mp_pointer.proofs.Tokens.Lists.{take_step, begins_with, no_front_of_other, texts_differ}
 use Rattle.mp_pointer.proofs.pointer.Pointer.is_front_of.Goals as goal
 
 pub returns-then-ne : goal.returns-then-ne

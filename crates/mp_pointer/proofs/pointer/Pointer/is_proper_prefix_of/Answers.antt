@@ -1,5 +1,5 @@
 use Rattle.std.proofs.Common.{arith}
-use Rattle.mp_pointer.proofs.TokenLists.{proper_prefix, prefix_begins}
+use Rattle.mp_pointer.proofs.Tokens.Lists.{proper_prefix, prefix_begins}
 use Rattle.mp_pointer.proofs.pointer.Pointer.is_proper_prefix_of.Goals as goal
 
 pub returns-then-len : goal.returns-then-len

@@ -1,5 +1,5 @@
 use Rattle.std.proofs.Common.{length, string_bytes, ap, arith}
-use Rattle.mp_pointer.proofs.KeptTokens.{length-cut}
+use Rattle.mp_pointer.proofs.Spellings.Kept.{length-cut}
 use Rattle.mp_pointer.proofs.pointer.Pointer.len.Goals as goal
 
 pub returns : goal.returns

@@ -3,7 +3,7 @@ use Rattle.std.proofs.lemmas.Str.Pattern.{strip_prefix_char}
 use Rattle.mp_pointer.specs.Bytes.{slash}
 use Rattle.mp_pointer.specs.Private.BadTilde.{first_bad_tilde}
 use Rattle.mp_pointer.specs.Spelling.{IsFirstBadTilde}
-use Rattle.mp_pointer.proofs.Spellings.{first_bad-none, first_bad-back, lacks_slash}
+use Rattle.mp_pointer.proofs.Spellings.ReadBack.{first_bad-none, first_bad-back, lacks_slash}
 use Rattle.mp_pointer.proofs.pointer.Pointer.parse.Goals as goal
 
 pub returns-in_default-clause-fault : goal.returns-in_default-clause-fault

@@ -1,6 +1,6 @@
 use Rattle.std.proofs.Common.{◌≡◌, ◌-◌, length, take, string_bytes, sym, ap, ◌∙◌, subst, arith}
 use Rattle.mp_pointer.specs.Private.Cuts.{EachPlain, cut}
-use Rattle.mp_pointer.proofs.KeptTokens.{length-cut, cut_is_boundary, cut-take, AreCuts-take, EachPlain-take}
+use Rattle.mp_pointer.proofs.Spellings.Kept.{length-cut, cut_is_boundary, cut-take, AreCuts-take, EachPlain-take}
 use Rattle.mp_pointer.proofs.pointer.Pointer.pop.Goals as goal
 
 pub truncate-requires : goal.truncate-requires

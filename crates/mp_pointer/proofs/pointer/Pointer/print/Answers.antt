@@ -1,7 +1,7 @@
 use Rattle.std.proofs.Common.{string_bytes, ap, ◌∙◌}
 use Rattle.std.proofs.lemmas.Result.{IfOk-weaker}
 use Rattle.mp_pointer.specs.Spelling.{spell}
-use Rattle.mp_pointer.proofs.KeptTokens.{text_is_spelling}
+use Rattle.mp_pointer.proofs.Spellings.Kept.{text_is_spelling}
 use Rattle.mp_pointer.proofs.pointer.Pointer.print.Goals as goal
 
 pub returns-then-self : goal.returns-then-self

@@ -1,7 +1,7 @@
 use Rattle.std.proofs.Common.{◌≡◌, [], ◌∷◌, ◌++◌, length, string_bytes, refl, sym, ap, ◌∙◌, subst, append_assoc, true≢false}
 use Rattle.mp_pointer.specs.Bytes.{slash}
 use Rattle.mp_pointer.specs.Private.Cuts.{EachPlain, cut}
-use Rattle.mp_pointer.proofs.KeptTokens.{cut-push, AreCuts-push, EachPlain-push}
+use Rattle.mp_pointer.proofs.Spellings.Kept.{cut-push, AreCuts-push, EachPlain-push}
 use Rattle.mp_pointer.proofs.pointer.Pointer.push.Goals as goal
 use Rattle.mp_pointer.proofs.pointer.Pointer.push.Goals.{then-self, else-self}
 

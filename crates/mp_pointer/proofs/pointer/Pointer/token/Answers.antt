@@ -1,6 +1,6 @@
 use Rattle.std.proofs.Common.{◌≡◌, ◌<◌, ◌+◌, ◌∷◌, length, get_or, string_bytes, sym, ap, ◌∙◌, suc, arith}
 use Rattle.std.specs.List.{slice_get}
-use Rattle.mp_pointer.proofs.KeptTokens.{cut_rises, cut_is_boundary, token_is_boundary, cut_at, cut-none}
+use Rattle.mp_pointer.proofs.Spellings.Kept.{cut_rises, cut_is_boundary, token_is_boundary, cut_at, cut-none}
 use Rattle.mp_pointer.proofs.pointer.Pointer.token.Goals as goal
 
 pub overflow_add-slash : goal.overflow_add-slash

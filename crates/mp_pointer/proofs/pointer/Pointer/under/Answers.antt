@@ -1,7 +1,7 @@
 use Rattle.std.proofs.Common.{◌≡◌, [], ◌∷◌, ◌++◌, Some, sym, ap, ◌∙◌}
 use Rattle.std.specs.List.{slice_get}
 use Rattle.std.specs.Option.{option_copied}
-use Rattle.mp_pointer.proofs.TokenLists.{take_token}
+use Rattle.mp_pointer.proofs.Tokens.Lists.{take_token}
 use Rattle.mp_pointer.proofs.pointer.Pointer.under.Goals as goal
 
 pub loop-number-preserved : goal.loop-number-preserved

@@ -1,7 +1,7 @@
 use Rattle.std.proofs.Common.{◌≡◌, ◌<◌, length, get_or, refl, sym, ap, ◌∙◌, arith, rules}
 use Rattle.mp_pointer.specs.Bytes.{tilde}
-use Rattle.mp_pointer.proofs.PlainSpellings.{ends_in-slash, ends_in-other, ends_in-end, kept_plain, spelled_plain}
-use Rattle.mp_pointer.proofs.Spellings.{Lacks}
+use Rattle.mp_pointer.proofs.Spellings.Plain.{ends_in-slash, ends_in-other, ends_in-end, kept_plain, spelled_plain}
+use Rattle.mp_pointer.proofs.Spellings.ReadBack.{Lacks}
 use Rattle.mp_pointer.proofs.pointer.Pointer.without_tildes.Goals as goal
 use Rattle.mp_pointer.proofs.pointer.Pointer.without_tildes.Goals.{then-byte-eq47+in_ok-push, else-byte-eq47}
 

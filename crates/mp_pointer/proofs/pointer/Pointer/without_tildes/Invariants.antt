@@ -1,6 +1,6 @@
 use Rattle.std.proofs.Common.{◌≡◌, ◌≢◌, ◌<◌, ◌++◌, ℕ, suc, drop, get_or}
 use Rattle.mp_pointer.specs.Bytes.{tilde}
-use Rattle.mp_pointer.proofs.PlainSpellings.{ends_in}
+use Rattle.mp_pointer.proofs.Spellings.Plain.{ends_in}
 use Rattle.mp_pointer.proofs.pointer.Pointer.without_tildes.Given as goal
 
 abbrev pub invariant-loop-offset : goal.invariant-loop-offset

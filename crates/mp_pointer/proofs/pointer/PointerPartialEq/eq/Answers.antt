@@ -1,7 +1,7 @@
 use Rattle.std.proofs.Common.{◌≡◌, length, arith}
 use Rattle.std.specs.Bool.{one_answer}
 use Rattle.mp_pointer.specs.Spelling.{are_same_tokens}
-use Rattle.mp_pointer.proofs.TokenLists.{same_from_front, front_of_same, are_same_tokens-Decides}
+use Rattle.mp_pointer.proofs.Tokens.Lists.{same_from_front, front_of_same, are_same_tokens-Decides}
 use Rattle.mp_pointer.proofs.pointer.PointerPartialEq.eq.Goals as goal
 
 pub returns-then-len : goal.returns-then-len

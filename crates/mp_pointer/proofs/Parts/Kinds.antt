@@ -7,8 +7,8 @@ use Rattle.mp_pointer.specs.Difference.{Kind, scalar, kind, kind_of, names_of}
 use Rattle.mp_pointer.specs.Part.{numeral, part}
 use Rattle.mp_tree.specs.Elements.{count_of, nth}
 use Rattle.mp_pointer.specs.Spelling.{Tokens, BeginsWith}
-use Rattle.mp_pointer.proofs.Indices.{child-numeral}
-use Rattle.mp_pointer.proofs.Parts.{child-object, kind-append}
+use Rattle.mp_pointer.proofs.Tokens.Indices.{child-numeral}
+use Rattle.mp_pointer.proofs.Parts.Along.{child-object, kind-append}
 
 -- the kind at further tokens from what one token names
 abbrev kind_from : Option Document → Tokens → Kind

@@ -7,8 +7,8 @@ use Rattle.mp_tree.proofs.Facts.{same_from_cmp, find-below, IsBelow-trans, set_i
 use Rattle.mp_pointer.specs.Difference.{kind_of, names, elements, names_of}
 use Rattle.mp_pointer.specs.Part.{child, element_from, numeral}
 use Rattle.mp_tree.specs.Elements.{nth}
-use Rattle.mp_pointer.proofs.Indices.{elsewhere, child-numeral}
-use Rattle.mp_pointer.proofs.Parts.{child-object, child-list}
+use Rattle.mp_pointer.proofs.Tokens.Indices.{elsewhere, child-numeral}
+use Rattle.mp_pointer.proofs.Parts.Along.{child-object, child-list}
 
 -- d has x where the token names a child, e has y there, and nothing else differs
 pub record ChildChanges (token : List ℕ) (d e x y : Document) : Type 0 where

@@ -1,5 +1,6 @@
 -- Lists of tokens: where one begins with another, what the last of them is, and equality.
-use Rattle.std.proofs.Common.{◌≡◌, ◌≢◌, ◌<◌, ◌+◌, ℕ, List, [], ◌∷◌, ◌++◌, length, get_or, take, drop, Some, refl, sym, ap, ap₂, ◌∙◌, arith, Bool, true, false, not, true≢false, append-nil, length-append}
+use Rattle.std.proofs.Common.{◌≡◌, ◌≢◌, ◌<◌, ◌+◌, ◌-◌, ℕ, List, [], ◌∷◌, ◌++◌, length, get_or, take, drop, Some, refl, sym, ap, ap₂, ◌∙◌, arith, Bool, true, false, not, true≢false, append-nil, length-append}
+use Rattle.std.proofs.Math.Seq.{take-append_seam}
 use Rattle.std.proofs.lemmas.List.{take_all, take-append-drop, take_more, take_more_same, drop_more, get_or_append_left}
 use Rattle.std.proofs.lemmas.Option.{slice_get_within, get_or_from_slice_get}
 use Rattle.std.proofs.lemmas.Slice.Eq.{bytes_eq-Decides}
@@ -38,6 +39,16 @@ proper_prefix t u less (next ∷ rest, is) = (next, rest, is)
 
 pub prefix_begins : (t u : Tokens) → IsProperPrefix t u → (length t < length u) × BeginsWith u t
 prefix_begins t u (next, rest, is) = (omega (arith, ap length is, length-append t (next ∷ rest)), (next ∷ rest, is))
+
+-- tokens that gain one and then lose their last one
+pub back_again : (t : Tokens) (n : List ℕ) (pushed walked popped : Tokens) → pushed ≡ t ++ n ∷ [] → walked ≡ pushed → popped ≡ take (length walked - 1) walked → popped ≡ t
+back_again t n pushed walked popped gained same lost = lost ∙ ap (λ w. take (length w - 1) w) (same ∙ gained) ∙ without_last t
+  where
+    less_one : (k : ℕ) → k + 1 - 1 ≡ k
+    less_one k = omega arith
+
+    without_last : (t : Tokens) → take (length (t ++ n ∷ []) - 1) (t ++ n ∷ []) ≡ t
+    without_last t = ap (λ k. take (k - 1) (t ++ n ∷ [])) (length-append t (n ∷ [])) ∙ ap (λ k. take k (t ++ n ∷ [])) (less_one (length t)) ∙ take-append_seam t (n ∷ [])
 
 pub same_from_front : (t u : Tokens) → length t ≡ length u → BeginsWith u t → t ≡ u
 same_from_front t u long ([], is) = sym (is ∙ append-nil t)

@@ -9,9 +9,9 @@ use Rattle.mp_pointer.specs.Difference.{DifferOnlyAt, Kind, absent, scalar, name
 use Rattle.mp_pointer.specs.Part.{part, child, element_from, numeral}
 use Rattle.mp_pointer.specs.Laws.{PartsAreDocuments}
 use Rattle.mp_pointer.specs.Spelling.{Tokens}
-use Rattle.mp_pointer.proofs.Indices.{child-numeral}
-use Rattle.mp_pointer.proofs.PartKinds.{cases_begins}
-use Rattle.mp_pointer.proofs.Parts.{child-object, kind-append}
+use Rattle.mp_pointer.proofs.Tokens.Indices.{child-numeral}
+use Rattle.mp_pointer.proofs.Parts.Kinds.{cases_begins}
+use Rattle.mp_pointer.proofs.Parts.Along.{child-object, kind-append}
 
 -- ---- a part of a document is one
 

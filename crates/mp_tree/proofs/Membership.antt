@@ -22,6 +22,9 @@ module _ {X : Type 0} where
   pub Contains-one : (x y : X) → Contains (x ∷ []) y → x ≡ y
   Contains-one x y at = elim (Contains-cases x y [] at) [ inl same ↦ same | inr none ↦ absurd (Contains-nil y none) ]
 
+  pub Contains-twice : (x y : X) → Contains (x ∷ x ∷ []) y → x ≡ y
+  Contains-twice x y at = elim (Contains-cases x y (x ∷ []) at) [ inl same ↦ same | inr there ↦ Contains-one x y there ]
+
   pub no_member : (xs : List X) → ((x : X) → ¬ Contains xs x) → xs ≡ []
   no_member [] none = refl
   no_member (x ∷ xs) none = absurd (none x (Contains-head x xs))

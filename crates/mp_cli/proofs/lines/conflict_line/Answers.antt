@@ -2,7 +2,7 @@ use Rattle.std.proofs.Common.{◌≡◌, ◌∙◌, ◌++◌, ℕ, List, ap, app
 use Rattle.mp_pointer.specs.Part.{numeral}
 use Rattle.mp_cli.specs.Lines.{line, pointers_text}
 use Rattle.mp_cli.specs.Private.Answers.{Gives}
-use Rattle.mp_cli.proofs.lines.conflict.Goals as goal
+use Rattle.mp_cli.proofs.lines.conflict_line.Goals as goal
 
 -- texts that were joined in another order
 regroup : (a b c d e f : List ℕ) → (((a ++ b) ++ (c ++ d)) ++ e) ++ f ≡ a ++ b ++ c ++ d ++ e ++ f

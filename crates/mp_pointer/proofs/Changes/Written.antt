@@ -10,8 +10,8 @@ use Rattle.mp_pointer.specs.Private.Child.{one_token}
 use Rattle.mp_pointer.specs.Difference.{kind}
 use Rattle.mp_pointer.specs.Part.{part}
 use Rattle.mp_pointer.specs.Spelling.{Tokens, BeginsWith}
-use Rattle.mp_pointer.proofs.PartKinds.{cases_begins, equals_by_part}
-use Rattle.mp_pointer.proofs.Parts.{part-append, kind-append, DifferOnlyAt-root}
+use Rattle.mp_pointer.proofs.Parts.Kinds.{cases_begins, equals_by_part}
+use Rattle.mp_pointer.proofs.Parts.Along.{part-append, kind-append, DifferOnlyAt-root}
 
 pub becomes_root : (v d : Document) → PartBecomes [] v d v
 becomes_root v d = record { stands = refl; only = DifferOnlyAt-root d v }

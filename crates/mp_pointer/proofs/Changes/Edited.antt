@@ -9,9 +9,9 @@ use Rattle.mp_pointer.specs.Lending.{PartBecomes}
 use Rattle.mp_pointer.specs.Difference.{DifferOnlyAt}
 use Rattle.mp_pointer.specs.Part.{part, child}
 use Rattle.mp_pointer.specs.Spelling.{Tokens}
-use Rattle.mp_pointer.proofs.Parts.{part-push, DifferOnlyAt-root}
-use Rattle.mp_pointer.proofs.TokenLists.{drop_token}
-use Rattle.mp_pointer.proofs.Evaluation.{becomes_deeper, nothing_changed}
+use Rattle.mp_pointer.proofs.Parts.Along.{part-push, DifferOnlyAt-root}
+use Rattle.mp_pointer.proofs.Tokens.Lists.{drop_token}
+use Rattle.mp_pointer.proofs.Changes.Written.{becomes_deeper, nothing_changed}
 
 -- ---- the tokens from a place on
 

@@ -4,10 +4,10 @@ use Rattle.mp_tree.specs.Document.{Document, null, flag, whole, string, list, ob
 use Rattle.mp_pointer.specs.Difference.{DifferOnlyAt}
 use Rattle.mp_pointer.specs.Part.{part, child, numeral}
 use Rattle.mp_pointer.specs.Spelling.{Tokens}
-use Rattle.mp_pointer.proofs.ChangedChild.{ChildChanges, element_changes, value_changes}
-use Rattle.mp_pointer.proofs.Indices.{element_found}
-use Rattle.mp_pointer.proofs.PartDocuments.{part-document}
-use Rattle.mp_pointer.proofs.Parts.{DifferOnlyAt-root, DifferOnlyAt-child}
+use Rattle.mp_pointer.proofs.Changes.Child.{ChildChanges, element_changes, value_changes}
+use Rattle.mp_pointer.proofs.Tokens.Indices.{element_found}
+use Rattle.mp_pointer.proofs.Parts.Documents.{part-document}
+use Rattle.mp_pointer.proofs.Parts.Along.{DifferOnlyAt-root, DifferOnlyAt-child}
 use Rattle.mp_tree.proofs.Facts.{set_item}
 
 abbrev Changed : List ℕ → Document → Document → Document → Type 0

@@ -9,8 +9,8 @@ use Rattle.std.specs.Str.{IsUtf8, IsCharBoundary}
 use Rattle.mp_pointer.specs.Bytes.{slash, tilde}
 use Rattle.mp_pointer.specs.Private.Cuts.{cut, AreCuts, EachPlain, IsKept, IsPlain}
 use Rattle.mp_pointer.specs.Spelling.{spell}
-use Rattle.mp_pointer.proofs.KeptTokens.{text_is_spelling, slash_is_text}
-use Rattle.mp_pointer.proofs.Spellings.{Lacks}
+use Rattle.mp_pointer.proofs.Spellings.Kept.{text_is_spelling, slash_is_text}
+use Rattle.mp_pointer.proofs.Spellings.ReadBack.{Lacks}
 
 -- where the tokens end in what is left of a text, whose first byte stands at `next`
 abbrev pub ends_in : ℕ → List ℕ → List ℕ

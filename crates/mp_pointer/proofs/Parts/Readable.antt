@@ -4,15 +4,15 @@ use Rattle.std.proofs.lemmas.Bool.{and_parts, cases_lt, ne_eqb}
 use Rattle.std.proofs.lemmas.List.Elements.{All-head, All-tail}
 use Rattle.std.proofs.lemmas.Str.{IsUtf8-append, IsUtf8-nil, IsUtf8-encode, encode_ascii, inside_one}
 use Rattle.std.specs.Str.{bytes_eq}
-use lib.Utf8.{encode, encodes, low_scalar, scalar, scalars}
+use lib.Utf8.{encode, encodes, scalar, scalars}
 use Rattle.mp_tree.specs.Document.{Document, null, flag, whole, string, list, object, Items, no_items, item, IsWhole, IsInRange, HasTexts, Throughout, ThroughoutItems}
-use Rattle.mp_tree.proofs.Facts.{Throughout-find}
+use Rattle.mp_tree.proofs.Facts.{IsUtf8-ascii, Throughout-find}
 use Rattle.mp_pointer.specs.Bytes.{slash, tilde}
 use Rattle.mp_pointer.specs.Laws.{PartsAreReadable, SpellingsAreTexts}
 use Rattle.mp_pointer.specs.Part.{part, child, element_from, numeral}
 use Rattle.mp_pointer.specs.Spelling.{Tokens, escaped_byte, escape, spell}
-use Rattle.mp_pointer.proofs.PartDepths.{part-depth}
-use Rattle.mp_pointer.proofs.PartDocuments.{part-document}
+use Rattle.mp_pointer.proofs.Parts.Depths.{part-depth}
+use Rattle.mp_pointer.proofs.Parts.Documents.{part-document}
 
 -- ---- what holds of each number and text of a document holds of those of its parts
 
@@ -52,11 +52,8 @@ parts_are_readable t d x can is = record {
 
 -- ---- spellings
 
-one_byte : (x : ℕ) → x < 128 → IsUtf8 (x ∷ [])
-one_byte x small = subst IsUtf8 (encode_ascii x small) (IsUtf8-encode x (low_scalar x (omega arith)))
-
 two_bytes : (x y : ℕ) → x < 128 → y < 128 → IsUtf8 (x ∷ y ∷ [])
-two_bytes x y first second = IsUtf8-append (x ∷ []) (y ∷ []) (one_byte x first) (one_byte y second)
+two_bytes x y first second = IsUtf8-append (x ∷ []) (y ∷ []) (IsUtf8-ascii x first) (IsUtf8-ascii y second)
 
 either-text : (b : Bool) (x y : List ℕ) → IsUtf8 x → IsUtf8 y → IsUtf8 (cond b x y)
 either-text true x y first second = first
@@ -65,7 +62,7 @@ either-text false x y first second = second
 escaped_byte-text : (c : ℕ) → c < 128 → IsUtf8 (escaped_byte c)
 escaped_byte-text c small =
     either-text (c == tilde) _ _ (two_bytes tilde 48 (omega arith) (omega arith))
-    (either-text (c == slash) _ _ (two_bytes tilde 49 (omega arith) (omega arith)) (one_byte c small))
+    (either-text (c == slash) _ _ (two_bytes tilde 49 (omega arith) (omega arith)) (IsUtf8-ascii c small))
 
 escape-append : (xs ys : List ℕ) → escape (xs ++ ys) ≡ escape xs ++ escape ys
 escape-append [] ys = refl
@@ -101,5 +98,5 @@ escape-text token utf8 = subst (λ l. IsUtf8 (escape l)) utf8.1.1 (escaped_chars
 pub spellings_are_texts : SpellingsAreTexts
 spellings_are_texts [] all = IsUtf8-nil
 spellings_are_texts (token ∷ t) all =
-    IsUtf8-append (slash ∷ escape token) (spell t) (IsUtf8-append (slash ∷ []) (escape token) (one_byte slash (omega arith)) (escape-text token (All-head IsUtf8 token t all)))
+    IsUtf8-append (slash ∷ escape token) (spell t) (IsUtf8-append (slash ∷ []) (escape token) (IsUtf8-ascii slash (omega arith)) (escape-text token (All-head IsUtf8 token t all)))
     (spellings_are_texts t (All-tail IsUtf8 token t all))

@@ -16,9 +16,9 @@ use Rattle.mp_pointer.specs.Lending.{PartBecomes}
 use Rattle.mp_pointer.specs.Private.Child.{IsList, one_token}
 use Rattle.mp_pointer.specs.Part.{part, child, numeral}
 use Rattle.mp_pointer.specs.Spelling.{Tokens}
-use Rattle.mp_pointer.proofs.ChangedChild.{ChildChanges, element_changes, value_changes}
-use Rattle.mp_pointer.proofs.Indices.{child-numeral, child-no_index}
-use Rattle.mp_pointer.proofs.Parts.{child-object, part-push, DifferOnlyAt-child, DifferOnlyAt-root}
+use Rattle.mp_pointer.proofs.Changes.Child.{ChildChanges, element_changes, value_changes}
+use Rattle.mp_pointer.proofs.Tokens.Indices.{child-numeral, child-no_index}
+use Rattle.mp_pointer.proofs.Parts.Along.{child-object, part-push, DifferOnlyAt-child, DifferOnlyAt-root}
 
 -- ---- the part at one token
 

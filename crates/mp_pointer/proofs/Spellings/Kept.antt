@@ -10,7 +10,7 @@ use Rattle.std.specs.Str.{IsUtf8, IsCharBoundary}
 use Rattle.mp_pointer.specs.Bytes.{slash}
 use Rattle.mp_pointer.specs.Private.Cuts.{cut, AreCuts, EachPlain, IsPlain}
 use Rattle.mp_pointer.specs.Spelling.{spell}
-use Rattle.mp_pointer.proofs.Spellings.{escape-plain}
+use Rattle.mp_pointer.proofs.Spellings.ReadBack.{escape-plain}
 
 -- ---- a part of what a text begins with
 
