@@ -1,9 +1,8 @@
 -- What the laws of the crates below say of a list of patches.
 use Rattle.std.proofs.Common.{◌≢◌, ℕ, List, [], sym, subst}
-use Rattle.std.proofs.lemmas.List.Elements.{All-contains, All-head, All-nil, All-tail, All-weaker}
+use Rattle.std.proofs.lemmas.List.Elements.{All-contains, All-nil}
 use Rattle.std.specs.List.{All}
-use Rattle.mp_tree.specs.Document.{Document, Items, no_items, item, IsDocument, IsReadable, AreDocuments}
-use Rattle.mp_tree.specs.Elements.{list_of}
+use Rattle.mp_tree.specs.Document.{Document, IsDocument}
 use Rattle.mp_tree.specs.Look.{Path}
 use Rattle.mp_merge.specs.Join.{IsJoin}
 use Rattle.mp_merge.specs.Lists.{IsToldPair, PairwiseCompatible}

@@ -3,7 +3,7 @@ use crate::seen::{Seen, tell};
 use mp_cli::{Answer, Command, CommandFault, Counted, RunFault};
 use std::alloc::{AllocError, Global};
 use std::io;
-use std::io::{Read, Write};
+use std::io::Read;
 use std::test::Fail;
 
 /// Two patches with three clashes.
@@ -128,40 +128,6 @@ fn answer_to_rewrite(rt: HostRuntime) -> Result<(), Fail> {
     )
 }
 
-/// A writer with room for what a row writes, so that it takes no memory.
-#[derive(Drop)]
-struct Page {
-    room: [u8; 64],
-    taken: usize,
-}
-
-impl Write for Page {
-    fn write(&mut self, buf: &[u8]) -> io::Result<usize> {
-        let count = buf.len().min(self.room.len().saturating_sub(self.taken));
-        let end = self.taken.saturating_add(count).min(self.room.len());
-        let start = end.saturating_sub(count);
-        self.room[start..end].copy_from_slice(&buf[..count]);
-        self.taken = end;
-        Ok(count)
-    }
-
-    fn flush(&mut self) -> io::Result<()> {
-        Ok(())
-    }
-}
-
-impl Page {
-    fn text(&self) -> &[u8] {
-        let end = self.taken.min(self.room.len());
-        &self.room[..end]
-    }
-}
-
-const BLANK: Page = Page {
-    room: [0; 64],
-    taken: 0,
-};
-
 /// A reader of `[5`, spaces and `]`, of 1,048,576 bytes in all, that takes no memory.
 #[derive(Drop)]
 struct Padded {
@@ -171,8 +137,8 @@ struct Padded {
 impl Read for Padded {
     fn read(&mut self, buf: &mut [u8]) -> io::Result<usize> {
         let count = buf.len().min(1_048_576usize.saturating_sub(self.given));
-        for place in 0..count {
-            buf[place] = match self.given.saturating_add(place) {
+        for offset in 0..count {
+            buf[offset] = match self.given.saturating_add(offset) {
                 0 => b'[',
                 1 => b'5',
                 1_048_575 => b']',
@@ -184,8 +150,8 @@ impl Read for Padded {
     }
 }
 
-/// A run: where it gives a status, the line whole on that writer and nothing on the other; where memory is wanted,
-/// nothing on either.
+/// A run into two rooms, which take no memory: where it gives a status, the line whole in that room and nothing in
+/// the other; where memory is wanted, nothing in either.
 fn watch_run<R: Read + Drop>(
     alloc: Global,
     command: &Command,
@@ -193,18 +159,25 @@ fn watch_run<R: Read + Drop>(
     line: &str,
     wanted: u8,
 ) -> Seen {
+    let (mut out_room, mut err_room) = ([0; 64], [0; 64]);
     let mut input = Counted::new(reader);
-    let mut out = Counted::new(BLANK);
-    let mut err = Counted::new(BLANK);
+    let mut out = Counted::new(out_room.as_mut_slice());
+    let mut err = Counted::new(err_room.as_mut_slice());
     let given = mp_cli::run(alloc, command, &mut input, &mut out, &mut err);
-    let [out, err] = [out.into_device(), err.into_device()];
-    let (told, other) = if wanted == 0 { (out, err) } else { (err, out) };
+    let (out, err) = (out.bytes(), err.bytes());
+    let (told, taken, other) = if wanted == 0 {
+        (out_room.as_slice(), out, err)
+    } else {
+        (err_room.as_slice(), err, out)
+    };
     match given {
-        Ok(status) => Seen::answer_if(status == wanted && told.text() == line.as_bytes()),
-        Err(RunFault::OutOfMemory) => Seen::NoMemory.with(told.taken == 0),
+        Ok(status) => Seen::answer_if(
+            status == wanted && told.get(..taken as usize) == Some(line.as_bytes()),
+        ),
+        Err(RunFault::OutOfMemory) => Seen::NoMemory.with(taken == 0),
         Err(_) => Seen::Wrong,
     }
-    .with(other.taken == 0)
+    .with(other == 0)
 }
 
 #[test]

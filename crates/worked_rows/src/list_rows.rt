@@ -1,7 +1,6 @@
 //! `join` and `replay`: lists of merge patches, and the conflicts of a list.
-use crate::rows::{Row, check, check_rows};
+use crate::rows::{Row, check_rows};
 use mp_cli::Command;
-use std::process::Abort;
 use std::test::Fail;
 
 const JOINS: &[Row] = &[
@@ -80,14 +79,6 @@ const REPLAYS: &[Row] = &[
     ("[]", "input: wrong shape", 2),
 ];
 
-/// Compatible patches: names beside one another, names that are prefixes of one another, and a removal.
-const COMPATIBLE: &[&str] = &[
-    r#"{"a":{"x":1}}"#,
-    r#"{"a":{"y":null}}"#,
-    r#"{"ab":[null],"k":null}"#,
-    r#"{"a":{"xy":{"z":null}}}"#,
-];
-
 #[test]
 fn lists_are_joined(rt: HostRuntime) -> Result<(), Fail> {
     check_rows(&rt, &Command::Join, JOINS);
@@ -97,53 +88,5 @@ fn lists_are_joined(rt: HostRuntime) -> Result<(), Fail> {
 #[test]
 fn lists_are_replayed(rt: HostRuntime) -> Result<(), Fail> {
     check_rows(&rt, &Command::Replay, REPLAYS);
-    Ok(())
-}
-
-/// All orders of four patches, with each of them repeated once.
-#[test]
-fn all_orders_give_one_document(rt: HostRuntime) -> Result<(), Fail> {
-    let count = COMPATIBLE.len();
-    for code in 0..count * count * count * count {
-        let order = [
-            code % count,
-            code / count % count,
-            code / (count * count) % count,
-            code / (count * count * count) % count,
-        ];
-        if has_repeats(&order) {
-            continue;
-        }
-        for repeated in 0..count {
-            replay_in(&rt, &order, repeated)?;
-        }
-    }
-    Ok(())
-}
-
-fn has_repeats(order: &[usize]) -> bool {
-    for (place, number) in order.iter().enumerate() {
-        if order[..place].contains(number) {
-            return true;
-        }
-    }
-    false
-}
-
-/// The patches in this order, and then one of them again.
-fn replay_in<R: Abort + AllocGlobal>(rt: &R, order: &[usize], repeated: usize) -> Result<(), Fail> {
-    let mut input = String::from_str(rt.alloc(), r#"[{"k":0}"#)?;
-    for number in order.iter().chain([repeated].iter()) {
-        input.push_str(",")?;
-        input.push_str(COMPATIBLE.get(*number).copied().unwrap_or_default())?;
-    }
-    input.push_str("]")?;
-    check(
-        rt,
-        &Command::Replay,
-        input.as_bytes(),
-        r#"{"a":{"x":1,"xy":{}},"ab":[null]}"#,
-        0,
-    );
     Ok(())
 }

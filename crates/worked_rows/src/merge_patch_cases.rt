@@ -52,18 +52,6 @@ fn merging_in_place_gives_the_result(rt: HostRuntime) -> Result<(), Fail> {
     Ok(())
 }
 
-/// A patch that is received twice leaves what it leaves once.
-#[test]
-fn a_repeated_patch_changes_nothing_more(rt: HostRuntime) -> Result<(), Fail> {
-    for (original, patch, result) in CASES {
-        let once = format!(in rt.alloc(); "[{original},{patch}]")?;
-        check(&rt, &Command::Replay, once.as_bytes(), result, 0);
-        let twice = format!(in rt.alloc(); "[{original},{patch},{patch}]")?;
-        check(&rt, &Command::Replay, twice.as_bytes(), result, 0);
-    }
-    Ok(())
-}
-
 #[test]
 fn rewriting_gives_the_result(rt: HostRuntime) -> Result<(), Fail> {
     for (original, patch, result) in CASES {

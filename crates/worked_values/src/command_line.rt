@@ -1,6 +1,6 @@
 //! What no clause says: printed texts, and which of help and usage words are answered with.
 
-use mp_cli::{Command, CommandFault, RunFault, command_of, fault_line};
+use mp_cli::{Command, CommandFault, RunFault, command_of};
 use std::alloc::{AllocError, Global};
 use std::process::Abort;
 use std::test::Fail;
@@ -100,49 +100,20 @@ fn words_that_ask_for_nothing(rt: HostRuntime) -> Result<(), Fail> {
     Ok(())
 }
 
-fn expect_help(rt: &(impl Abort + AllocGlobal), line: &str, parts: &[&str]) {
-    let found = command_asked_for(rt.alloc(), line).expect(rt, "memory for a line");
-    match &found {
-        Err(CommandFault::Help(text)) => {
-            for part in parts {
-                assert!(rt;
-                    text.as_str().contains(*part),
-                    "{part} in the help of {line}"
-                );
-            }
-        }
-        _ => assert!(rt; false, "{line}"),
-    }
-}
-
+/// What the help says is compared by `checks/help`.
 #[test]
-fn help_names_the_subcommands(rt: HostRuntime) {
-    let lines = [
-        "get      Print the part of a document that a JSON Pointer names",
-        "patch    Apply a JSON Patch to a document",
-        "merge    Apply merge patches to a document, one after another",
-        "join     Make one merge patch with the effect of several compatible ones",
-        "replay   Apply compatible merge patches to a document",
-        "rewrite  Make a JSON Patch that does to a document what a merge patch does",
-    ];
-    for line in ["mergejoin --help", "mergejoin -h"] {
-        expect_help(&rt, line, &lines);
-    }
-    for line in ["mergejoin get --help", "mergejoin get -h"] {
-        expect_help(&rt, line, &["<POINTER>", "A JSON Pointer (RFC 6901)"]);
-    }
-}
-
-#[test]
-fn lines_of_faults(rt: HostRuntime) -> Result<(), Fail> {
-    let lines = [
-        (RunFault::ReadFailed, "read failed", 3),
-        (RunFault::WriteFailed, "write failed", 3),
-        (RunFault::TooLong, "input: too long", 2),
-        (RunFault::OutOfMemory, "out of memory", 3),
-    ];
-    for (fault, line, status) in lines {
-        assert_eq!(rt; fault_line(&fault), (line, status));
+fn help_is_asked_for(rt: HostRuntime) -> Result<(), Fail> {
+    let alloc = rt.alloc();
+    for line in [
+        "mergejoin --help",
+        "mergejoin -h",
+        "mergejoin get --help",
+        "mergejoin get -h",
+    ] {
+        assert!(rt;
+            matches!(command_asked_for(alloc, line)?, Err(CommandFault::Help(_))),
+            "{line}"
+        );
     }
     Ok(())
 }

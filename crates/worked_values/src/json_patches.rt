@@ -124,18 +124,6 @@ const FORM_CAUSES: &[(FormCause, &str)] = &[
     (FormCause::NoValue, "no value"),
 ];
 
-/// Operations that put something at `/b/c`, and how many moves are made before.
-const BEFORE_THE_LIMIT: &[(&str, u8)] = &[
-    ("add", 0),
-    ("add", 40),
-    ("replace", 0),
-    ("replace", 40),
-    ("move", 0),
-    ("move", 40),
-    ("copy", 0),
-    ("copy", 40),
-];
-
 fn check_text<R: Abort + AllocGlobal>(rt: &R, doc: &Doc, text: &str) {
     let written = write_doc(rt.alloc(), doc).expect(rt, "memory for a text");
     assert_eq!(rt; written.as_str(), text);
@@ -150,53 +138,6 @@ fn nested_doc(alloc: Global, count: u8) -> Result<Doc, AllocError> {
         doc = Doc::Items(outer);
     }
     Ok(doc)
-}
-
-// The text of so many lists, one in another.
-fn nested_text(alloc: Global, count: u8) -> Result<String, AllocError> {
-    let mut text = String::new(alloc);
-    for _ in 0..count {
-        text.push('[')?;
-    }
-    for _ in 0..count {
-        text.push(']')?;
-    }
-    Ok(text)
-}
-
-// A document that has so many lists in one another at `/deep`, and at `/a` a list of so many elements that it is
-// measured after some moves of them.
-fn wide_doc<R: Abort + AllocGlobal>(rt: &R, levels: u8) -> Doc {
-    let mut elements = String::new(rt.alloc());
-    for _ in 0..5000 {
-        elements.push_str("0,").expect(rt, "memory for an element");
-    }
-    let deep = nested_text(rt.alloc(), levels).expect(rt, "memory for lists");
-    let text = format!(in rt.alloc();
-        r#"{{"a":[{elements}0],"b":{{"c":0}},"d":{{}},"deep":{deep}}}"#
-    );
-    let text = text.expect(rt, "memory for a text");
-    read_doc(rt.alloc(), text.as_bytes()).expect(rt, "a document")
-}
-
-// So many moves of the long list; then `op` puts the lists in one another at `/b/c`, and `/b` goes one level down.
-fn descending_patch<R: Abort + AllocGlobal>(rt: &R, op: &str, moves: u8, levels: u8) -> JsonPatch {
-    let mut text = String::new(rt.alloc());
-    for number in 0..moves {
-        let next = if number % 2 == 0 {
-            r#"{"op":"move","from":"/a","path":"/x"},"#
-        } else {
-            r#"{"op":"move","from":"/x","path":"/a"},"#
-        };
-        text.push_str(next).expect(rt, "memory for a move");
-    }
-    let deep = nested_text(rt.alloc(), levels).expect(rt, "memory for lists");
-    let whole = format!(in rt.alloc();
-        r#"[{text}{{"op":"{op}","from":"/deep","path":"/b/c","value":{deep}}},{{"op":"move","from":"/b","path":"/d/e"}}]"#
-    );
-    let whole = whole.expect(rt, "memory for a text");
-    let form = read_doc(rt.alloc(), whole.as_bytes()).expect(rt, "a document");
-    JsonPatch::from_doc(rt.alloc(), &form).expect(rt, "a patch")
 }
 
 #[test]
@@ -242,19 +183,6 @@ fn what_is_no_patch_has_a_first_fault(rt: HostRuntime) -> Result<(), Fail> {
         let of_an_owned_one = JsonPatch::from_doc_owned(rt.alloc(), doc).err();
         assert_eq!(rt; of_an_owned_one, Some(*wanted), "{form}");
     }
-    Ok(())
-}
-
-#[test]
-fn a_removal_there_and_back(rt: HostRuntime) -> Result<(), Fail> {
-    let mut patch = JsonPatch::new(rt.alloc());
-    patch.push(Op::Remove(Pointer::parse(rt.alloc(), "/a")?))?;
-    let form = patch.to_doc(rt.alloc())?;
-    check_text(&rt, &form, r#"[{"op":"remove","path":"/a"}]"#);
-    let read = JsonPatch::from_doc(rt.alloc(), &form)?;
-    assert_eq!(rt; read.ops().len(), 1);
-    let doc = read_doc(rt.alloc(), b"{\"a\":1}")?;
-    check_text(&rt, &apply(rt.alloc(), &doc, &read)?, "{}");
     Ok(())
 }
 
@@ -312,25 +240,6 @@ fn depths_have_a_limit(rt: HostRuntime) -> Result<(), Fail> {
     whole.push(Op::Replace(Pointer::empty(rt.alloc()), nested_doc(rt.alloc(), 126)?))?;
     let replaced = apply(rt.alloc(), &start, &whole)?;
     assert!(rt; replaced.same(&nested_doc(rt.alloc(), 126)?), "the value");
-    Ok(())
-}
-
-#[test]
-fn many_moves_are_judged_as_few(rt: HostRuntime) -> Result<(), Fail> {
-    for (op, moves) in BEFORE_THE_LIMIT {
-        let at_the_limit = descending_patch(&rt, op, *moves, 123);
-        let deepest = apply_owned(rt.alloc(), wide_doc(&rt, 123), &at_the_limit)?;
-        assert!(rt; deepest.fits(126), "{op}: at most 126");
-        assert!(rt; !deepest.fits(125), "{op}: 126");
-
-        let over_it = descending_patch(&rt, op, *moves, 124);
-        let fault = apply_owned(rt.alloc(), wide_doc(&rt, 124), &over_it).err();
-        let too_deep = ApplyFault::Refused {
-            op: *moves as usize + 1,
-            cause: Cause::TooDeep,
-        };
-        assert_eq!(rt; fault, Some(too_deep), "{op} after {moves} moves");
-    }
     Ok(())
 }
 

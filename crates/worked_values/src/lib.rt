@@ -4,6 +4,8 @@
 #[cfg(test)]
 mod command_line;
 #[cfg(test)]
+mod converging;
+#[cfg(test)]
 mod documents;
 #[cfg(test)]
 mod json_patches;
@@ -18,6 +20,6 @@ mod rewritings;
 #[cfg(test)]
 mod running;
 #[cfg(test)]
-mod sizes;
-#[cfg(test)]
 mod texts;
+#[cfg(test)]
+mod written;

@@ -1,11 +1,11 @@
 //! Worked values of application, conflict, join and lists of patches, and the texts of the faults.
+use crate::written::is_text;
 use mp_merge::{
-    ConvergeFault, JoinFault, ListFault, compatible, conflict, join, join_all, merge, merge_owned,
-    replay, replay_owned,
+    JoinFault, ListFault, compatible, conflict, join, join_all, merge, merge_owned, replay,
+    replay_owned,
 };
-use mp_patch::Cause;
 use mp_pointer::Pointer;
-use mp_tree::{Doc, read_doc, read_docs, write_doc};
+use mp_tree::{Doc, read_doc, read_docs};
 use std::process::Abort;
 use std::test::Fail;
 
@@ -30,12 +30,6 @@ const CLASHES: &[(&str, &[&str])] = &[
         &["/a/b/c", "/a/b/d", "/f"],
     ),
 ];
-
-fn is_text<R: Abort + AllocGlobal>(rt: &R, doc: &Doc, wanted: &str) -> Result<(), Fail> {
-    let found = write_doc(rt.alloc(), doc)?;
-    assert_eq!(rt; found.as_str(), wanted);
-    Ok(())
-}
 
 fn are_spellings<R: Abort + AllocGlobal>(
     rt: &R,
@@ -159,21 +153,6 @@ fn faults_have_texts(rt: HostRuntime) -> Result<(), Fail> {
     let clash = format!(in rt.alloc(); "{clash}")?;
     assert_eq!(rt; clash.as_str(), "conflict of patches 1 and 3");
     let memory = format!(in rt.alloc(); "{}", ListFault::OutOfMemory)?;
-    assert_eq!(rt; memory.as_str(), "out of memory");
-    Ok(())
-}
-
-#[test]
-fn faults_of_convergence_have_texts(rt: HostRuntime) -> Result<(), Fail> {
-    let lists = format!(in rt.alloc(); "{}", ConvergeFault::Lists(ListFault::NoPatches))?;
-    assert_eq!(rt; lists.as_str(), "no patches");
-    let refused = ConvergeFault::Patch {
-        op: 1,
-        cause: Cause::Missing,
-    };
-    let refused = format!(in rt.alloc(); "{refused}")?;
-    assert_eq!(rt; refused.as_str(), "operation 1: missing");
-    let memory = format!(in rt.alloc(); "{}", ConvergeFault::OutOfMemory)?;
     assert_eq!(rt; memory.as_str(), "out of memory");
     Ok(())
 }

@@ -135,26 +135,6 @@ fn edit_part_edits_that_part_alone(rt: HostRuntime) -> Result<(), Fail> {
 }
 
 #[test]
-fn what_was_written_is_found_there(rt: HostRuntime) -> Result<(), Fail> {
-    for (text, wanted) in PARTS {
-        let mut doc = read_doc(rt.alloc(), NESTED.as_bytes())?;
-        let pointer = Pointer::parse(rt.alloc(), text)?;
-        match get_mut(&mut doc, &pointer) {
-            Some(part) => *part = read_doc(rt.alloc(), br#"["new"]"#)?,
-            None => assert_eq!(rt; None, *wanted, "at {text}"),
-        }
-        match get(&doc, &pointer) {
-            Some(part) => {
-                let found = write_doc(rt.alloc(), part)?;
-                assert_eq!(rt; found.as_str(), r#"["new"]"#, "at {text}");
-            }
-            None => assert_eq!(rt; None, *wanted, "at {text}"),
-        }
-    }
-    Ok(())
-}
-
-#[test]
 fn a_bad_tilde_is_told_by_its_offset(rt: HostRuntime) {
     match Pointer::parse(rt.alloc(), "/~0/é~/~2") {
         Ok(_) => panic!(rt; "a tilde spells nothing there"),

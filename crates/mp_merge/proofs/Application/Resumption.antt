@@ -4,7 +4,7 @@ use Rattle.std.proofs.lemmas.List.Elements.{All-contains_itself, All-weaker}
 use Rattle.std.specs.List.{All, Contains}
 use Rattle.mp_tree.specs.Document.{Document, null, flag, whole, string, list, object, Members, member, is_name, find, put, IsDocument, IsMap, IsBelow}
 use Rattle.mp_tree.specs.Look.{Path, nothing, an_object, plain, look, look_of}
-use Rattle.mp_tree.proofs.Facts.{IsDocument-find, cases_same, find-below, find-put, is_name-self, members_same, find-here, Contains-twice, Contains-head, Contains-tail, Contains-cases, Contains-one}
+use Rattle.mp_tree.proofs.Facts.{IsDocument-find, cases_same, find-below, find-put, is_name-self, members_same, find-here, Contains-twice, Contains-head, Contains-tail}
 use Rattle.mp_merge.specs.Application.{after_patch, set_or_remove, in_turn, merge_patch, merge_patch_members, target_members, unless_null}
 use Rattle.mp_merge.specs.Laws.{AppliedOnce, MergesIntoNull, TriesResume}
 use Rattle.mp_merge.specs.Lists.{HaveSameMembers}

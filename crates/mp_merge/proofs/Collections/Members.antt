@@ -1,13 +1,12 @@
 -- The loop over the changes of a merge patch.
-use Rattle.std.proofs.Common.{◌≡◌, ℕ, List, [], ◌∷◌, Option, Some, option_map, String, BTreeMap, Global, string_bytes, string_cmp, sym, ap, ◌∙◌, subst}
-use Rattle.std.specs.BTreeMap.{UpdatesBy, is_at}
+use Rattle.std.proofs.Common.{◌≡◌, ℕ, List, [], ◌∷◌, String, Global, string_bytes, string_cmp, ap, ◌∙◌, subst}
 use Rattle.std.specs.List.Sorted.{IsStrictlySortedBy}
-use Rattle.std.specs.Map.{keys_of, lookup}
-use Rattle.mp_tree.specs.Document.{Document, Members, object, no_members, member, name_cmp, find, put, IsMap}
+use Rattle.std.specs.Map.{keys_of}
+use Rattle.mp_tree.specs.Document.{Document, Members, no_members, member, IsMap}
 use Rattle.mp_tree.specs.View.{document}
 use Rattle.mp_tree.specs.Private.Entries.{members}
-use Rattle.mp_tree.specs.declared.doc.Doc.{Doc, Members as Map}
-use Rattle.mp_tree.proofs.Facts.{document-Members, find-members, IsMap-members, members-cons, members-inserted}
+use Rattle.mp_tree.specs.declared.doc.Doc.{Doc}
+use Rattle.mp_tree.proofs.Facts.{IsMap-members, members-cons}
 
 -- the changes that a loop has left: their names ascend, and what `Holds` says holds of them
 pub record ChangesLeft (es : List (String Global × Doc)) (Holds : Members → Type 0) : Type 0 where

@@ -3,7 +3,7 @@ use Rattle.std.proofs.Common.{◌≡◌, ◌≢◌, ◌↔◌, ◌⊎◌, inl, i
 use Rattle.std.specs.List.{Contains}
 use Rattle.mp_tree.specs.Document.{Document, object, Members, find, IsDocument, IsMap}
 use Rattle.mp_tree.specs.Look.{Path, nothing, an_object, plain, look_of, look}
-use Rattle.mp_tree.proofs.Facts.{equal_looks, is_here, IsDocument-find, same_plain, none_there, same_there, Contains-head, Contains-tail, Contains-cases, Contains-one, nothing_or, same_look}
+use Rattle.mp_tree.proofs.Facts.{is_here, IsDocument-find, same_plain, none_there, same_there, Contains-head, Contains-tail, Contains-cases, Contains-one, nothing_or, same_look}
 use Rattle.mp_merge.specs.Clash.{Compatible}
 use Rattle.mp_merge.specs.Join.{IsJoin, IsJoinAt}
 use Rattle.mp_merge.specs.Laws.{CompatibleByNames, CompatibleIfEqual, JoinByNames, JoinOfEqual}

@@ -4,7 +4,7 @@ use Rattle.std.proofs.lemmas.List.Elements.{All-contains, All-contains_itself, A
 use Rattle.std.specs.List.{All, Contains}
 use Rattle.mp_tree.specs.Document.{Document, IsDocument, depth}
 use Rattle.mp_tree.specs.Look.{Path, nothing, look}
-use Rattle.mp_tree.proofs.Facts.{equal_looks, is_here, speaks_or_silent, Contains-nil, Contains-head, Contains-tail, Contains-cases, Contains-one, some_or_all, nothing_or}
+use Rattle.mp_tree.proofs.Facts.{equal_looks, is_here, speaks_or_silent, Contains-nil, Contains-head, Contains-tail, Contains-cases, Contains-one, nothing_or}
 use Rattle.mp_merge.specs.Clash.{Clash, Compatible}
 use Rattle.mp_merge.specs.Join.{IsJoin}
 use Rattle.mp_merge.specs.Laws.{ClashWithAJoin, ClashesWithAMember, JoinIsIdempotent, JoinIsCommutative, IsJoinFromLeft, IsJoinFromRight, JoinIsAssociative, JoinGrows, HasOneJoin, EmptyHasNoJoin, JoinExists, PairHasJoin, JoinIsNoDeeper}
