@@ -39,13 +39,13 @@ def read(path):
 def main(address, folder, *hosts):
     log = log_of(random.Random(5), 2000)
     paths = written(pathlib.Path(folder), log)
-    with Client(address, timeout=30) as client:
-        client.wait_for_workers(len(hosts), timeout=30)
+    with Client(address, timeout=60) as client:
+        client.wait_for_workers(len(hosts), timeout=60)
         workers = {it.split(":")[1].strip("/"): it for it in client.scheduler_info()["workers"]}
         parts = [client.submit(read, path, workers=workers[host], pure=False) for path in paths for host in hosts]
         readers = collections.Counter(client.gather([client.submit(lambda part: part[1], part) for part in parts]))
         bag = dask.bag.from_delayed([client.submit(lambda part: part[0], part) for part in parts])
-        seen = client.compute(join_by_key(bag, split_every=2)).result(timeout=40)
+        seen = client.compute(join_by_key(bag, split_every=2)).result(timeout=100)
     wanted = wanted_of(log)
     print(f"{len(log)} patches of {len(wanted)} documents, each read on {len(readers)} hosts: {'one result' if dict(seen) == wanted else 'another'}")
     return 0 if dict(seen) == wanted and readers == {host: FILES for host in hosts} else 1

@@ -37,6 +37,6 @@ class Cluster(unittest.TestCase):
             victim = int(sorted(os.listdir(folder))[0])
             self.assertFalse(future.done())
             os.kill(victim, signal.SIGKILL)
-            seen = future.result(timeout=40)
+            seen = future.result(timeout=100)
             self.assertGreater(len(os.listdir(folder)), 1)
         self.assertEqual(dict(seen), wanted_of(log))
