@@ -178,9 +178,13 @@ Datum combine(PG_FUNCTION_ARGS) {
   size_t offset = 0;
 
   if (!other) return passed_over(fcinfo);
-  if (!patches) patches = new_patches(context);
+  if (!patches) {
+    patches = new_patches(context);
+    keep(patches, other->joined);
+  } else if (other->joined) {
+    take(patches, lent(other->joined));
+  }
   if (other->is_clash) keep_clash(patches);
-  if (other->joined) take(patches, lent(other->joined));
   while (offset < other->since.len) take(patches, next_since(other, &offset));
   PG_RETURN_POINTER(patches);
 }
