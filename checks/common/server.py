@@ -20,8 +20,8 @@ OTHER_USER = "nobody"
 
 
 def config(name):
-    """Gives what pg_config tells by a name."""
-    done = subprocess.run(["pg_config", f"--{name}"], stdin=subprocess.DEVNULL, capture_output=True, text=True, check=True)
+    """Gives what pg_config tells by a name, which is nothing where it stands for no server."""
+    done = subprocess.run(["pg_config", f"--{name}"], stdin=subprocess.DEVNULL, capture_output=True, text=True, check=False)
     return done.stdout.strip()
 
 
@@ -30,8 +30,8 @@ def lacking_headers():
     for program in ("pg_config", "make", "cc"):
         if not shutil.which(program):
             return f"{program} is not on the PATH"
-    headers = pathlib.Path(config("includedir-server"))
-    return None if (headers / "postgres.h").exists() else f"the headers of the server are not installed in {headers}"
+    has_headers = pathlib.Path(config("includedir-server"), "postgres.h").is_file()
+    return None if has_headers else "the headers of a PostgreSQL server are not installed"
 
 
 def lacking():
