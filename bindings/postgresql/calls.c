@@ -1,0 +1,124 @@
+/*
+ * A call of the library from a backend, and the error that tells what it refuses.
+ *
+ * The library takes memory by malloc while it runs, and keeps none. So control may leave before a call and after it, by an
+ * error or an interrupt, and never within: the room is made before the call, and the call calls nothing of the backend's.
+ */
+#include "calls.h"
+
+#include "mb/pg_wchar.h"
+#include "miscadmin.h"
+#include "utils/builtins.h"
+#include "utils/memutils.h"
+
+/* The most bytes that a value can have behind its header. */
+#define LONGEST (MaxAllocSize - VARHDRSZ)
+
+/* Lends the bytes of a value, which is not compressed nor out of line, and stays its owner's. */
+mergejoin_text lent(const text *value) {
+  mergejoin_text lent = {(const uint8_t *)VARDATA_ANY(value), VARSIZE_ANY_EXHDR(value)};
+
+  return lent;
+}
+
+/* Makes the call of a request. The texts and the room are its caller's. */
+static mergejoin_reply called(const Request *request, uint8_t *room, size_t size) {
+  const mergejoin_text *document = &request->document, *texts = request->texts;
+
+  switch (request->export) {
+    case EXPORT_JOIN:
+      return mergejoin_join(texts, request->count, room, size);
+    case EXPORT_REPLAY:
+      return mergejoin_replay(document->bytes, document->length, texts, request->count, room, size);
+    case EXPORT_MERGE:
+      return mergejoin_merge(document->bytes, document->length, texts, request->count, room, size);
+    case EXPORT_REWRITE:
+      return mergejoin_rewrite(document->bytes, document->length, texts->bytes, texts->length, room, size);
+    case EXPORT_PATCH:
+      return mergejoin_patch(document->bytes, document->length, texts->bytes, texts->length, room, size);
+    case EXPORT_GET:
+      return mergejoin_get(document->bytes, document->length, texts->bytes, texts->length, room, size);
+  }
+  pg_unreachable();
+}
+
+/* The library's texts are UTF-8, and so have to be those of the database. */
+static void want_utf8(void) {
+  if (GetDatabaseEncoding() != PG_UTF8)
+    ereport(ERROR, errcode(ERRCODE_FEATURE_NOT_SUPPORTED), errmsg("mergejoin needs a database whose encoding is UTF8"),
+            errdetail("The encoding of this database is %s.", GetDatabaseEncodingName()));
+}
+
+/*
+ * Asks the library, once more where the text is longer than all that is read, for which there is room at first. The value
+ * is made in the current memory context, and its caller's.
+ */
+Answer answer_of(const Request *request) {
+  Answer answer;
+  size_t size = request->document.length + 64;
+
+  want_utf8();
+  for (size_t number = 0; number < request->count; number += 1) size += request->texts[number].length;
+  for (;;) {
+    size = Min(size, LONGEST);
+    answer.value = palloc(VARHDRSZ + size);
+    CHECK_FOR_INTERRUPTS();
+    check_stack_depth();
+    answer.reply = called(request, (uint8_t *)VARDATA(answer.value), size);
+    if (answer.reply.length <= size) break;
+    if (answer.reply.length > LONGEST)
+      ereport(ERROR, errcode(ERRCODE_PROGRAM_LIMIT_EXCEEDED), errmsg("the result is longer than a value can be"),
+              errdetail("It has %zu bytes.", answer.reply.length));
+    size = answer.reply.length;
+    pfree(answer.value);
+  }
+  SET_VARSIZE(answer.value, VARHDRSZ + answer.reply.length);
+  return answer;
+}
+
+/* Gives the result of a request, which is its caller's, or raises what is refused. */
+text *result_of(const Request *request) {
+  Answer answer = answer_of(request);
+
+  if (answer.reply.status != MERGEJOIN_RESULT) refuse(&answer);
+  return answer.value;
+}
+
+/* Raises what the library refuses, as an error. Patches and operations are numbered from 0, as everywhere. */
+void refuse(const Answer *answer) {
+  const char *words = text_to_cstring(answer->value);
+  size_t first = answer->reply.first;
+
+  switch (answer->reply.status) {
+    case MERGEJOIN_CONFLICT:
+      ereport(ERROR, errcode(ERRCODE_MERGEJOIN_CONFLICT),
+              errmsg("patches %zu and %zu clash", first, answer->reply.second), errdetail_internal("%s", words));
+      break;
+    case MERGEJOIN_NO_PATCHES:
+      ereport(ERROR, errcode(ERRCODE_INVALID_PARAMETER_VALUE), errmsg("there are no patches to join"));
+      break;
+    case MERGEJOIN_REFUSED:
+      ereport(ERROR, errcode(ERRCODE_MERGEJOIN_REFUSED), errmsg("operation %zu is refused: %s", first, words));
+      break;
+    case MERGEJOIN_DOCUMENT:
+      ereport(ERROR, errcode(ERRCODE_INVALID_JSON_TEXT), errmsg("invalid document: %s", words));
+      break;
+    case MERGEJOIN_PATCH:
+      ereport(ERROR, errcode(ERRCODE_INVALID_JSON_TEXT), errmsg("invalid patch %zu: %s", first, words));
+      break;
+    case MERGEJOIN_FORM:
+      if (strcmp(words, "not an array") == 0)
+        ereport(ERROR, errcode(ERRCODE_MERGEJOIN_FORM), errmsg("invalid JSON Patch: %s", words));
+      ereport(ERROR, errcode(ERRCODE_MERGEJOIN_FORM), errmsg("invalid operation %zu: %s", first, words));
+      break;
+    case MERGEJOIN_POINTER:
+      ereport(ERROR, errcode(ERRCODE_INVALID_PARAMETER_VALUE),
+              errmsg("invalid JSON Pointer: %s at byte %zu", words, first));
+      break;
+    case MERGEJOIN_NO_MEMORY:
+      ereport(ERROR, errcode(ERRCODE_OUT_OF_MEMORY), errmsg("out of memory"),
+              errdetail("A call of mergejoin was refused memory."));
+      break;
+  }
+  elog(ERROR, "mergejoin answers status %u", answer->reply.status);
+}

@@ -1,0 +1,37 @@
+/*
+ * A call of the library from a backend, and the error that tells what it refuses.
+ */
+#ifndef MERGEJOIN_CALLS_H
+#define MERGEJOIN_CALLS_H
+
+#include "postgres.h"
+
+#include "mergejoin.h"
+#include "utils/errcodes.h"
+
+#define ERRCODE_MERGEJOIN_CONFLICT MAKE_SQLSTATE('M', 'J', '0', '0', '1')
+#define ERRCODE_MERGEJOIN_REFUSED MAKE_SQLSTATE('M', 'J', '0', '0', '2')
+#define ERRCODE_MERGEJOIN_FORM MAKE_SQLSTATE('M', 'J', '0', '0', '3')
+
+typedef enum Export { EXPORT_JOIN, EXPORT_REPLAY, EXPORT_MERGE, EXPORT_REWRITE, EXPORT_PATCH, EXPORT_GET } Export;
+
+/* A call that is to be made. The texts are those of whoever makes it, and stay so. */
+typedef struct Request {
+  Export export;
+  mergejoin_text document;     /* of all but a join: the document or the start */
+  const mergejoin_text *texts; /* the patches, or the one patch or pointer; never NULL */
+  size_t count;
+} Request;
+
+/* What the library answers. */
+typedef struct Answer {
+  mergejoin_reply reply;
+  text *value; /* the text in the room, whose owner is the memory context in which the call was made */
+} Answer;
+
+extern mergejoin_text lent(const text *value);
+extern Answer answer_of(const Request *request);
+extern text *result_of(const Request *request);
+extern void refuse(const Answer *answer) pg_attribute_noreturn();
+
+#endif

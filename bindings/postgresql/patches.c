@@ -1,0 +1,251 @@
+/*
+ * The state of an aggregate: the join of the patches of a group so far, and the texts since.
+ *
+ * The texts since are joined with the join so far once they are as long as it, and have 1 kB, so that each patch costs about
+ * the same, however many there are. That two patches clash is kept as a state that takes all further texts, and still reads
+ * them, so that a text which is no patch is an error in every order and plan.
+ *
+ * A Patches and all that it has stand in one memory context: that of the aggregate or, where it was read from bytes, that of
+ * the one call that takes it in. What a call of the library makes besides is let go when that is over.
+ */
+#include "calls.h"
+
+#include "fmgr.h"
+#include "lib/stringinfo.h"
+#include "mb/pg_wchar.h"
+#include "utils/builtins.h"
+#include "utils/jsonb.h"
+#include "utils/memutils.h"
+
+/* Texts are joined once they have so many bytes. */
+#define LEAST 1024
+/* As many bytes of a text that is no patch are told. */
+#define TOLD 200
+/* What a clash is written as for another process, which is no JSON text. */
+#define CLASH "!"
+
+typedef struct Patches {
+  MemoryContext context; /* in which all of it stands */
+  text *joined;          /* NULL before the first join, and where two clash */
+  StringInfoData since;  /* the texts since, each behind its length */
+  size_t count;          /* of the texts since */
+  bool is_clash;
+} Patches;
+
+PG_FUNCTION_INFO_V1(take_json);
+PG_FUNCTION_INFO_V1(take_jsonb);
+PG_FUNCTION_INFO_V1(combine);
+PG_FUNCTION_INFO_V1(serialize);
+PG_FUNCTION_INFO_V1(deserialize);
+PG_FUNCTION_INFO_V1(joined_json);
+PG_FUNCTION_INFO_V1(joined_jsonb);
+PG_FUNCTION_INFO_V1(joined_or_null_json);
+PG_FUNCTION_INFO_V1(joined_or_null_jsonb);
+
+/* Gives a Patches of no text, which the memory context owns. */
+static Patches *new_patches(MemoryContext context) {
+  Patches *patches = MemoryContextAllocZero(context, sizeof(Patches));
+
+  patches->context = context;
+  patches->since.maxlen = 64;
+  patches->since.data = MemoryContextAlloc(context, patches->since.maxlen);
+  return patches;
+}
+
+/* Lets the join so far go, and keeps a copy of another, or nothing in its place. */
+static void keep(Patches *patches, const text *joined) {
+  if (patches->joined) pfree(patches->joined);
+  patches->joined = NULL;
+  if (!joined) return;
+  patches->joined = MemoryContextAlloc(patches->context, VARSIZE(joined));
+  memcpy(patches->joined, joined, VARSIZE(joined));
+}
+
+static void keep_clash(Patches *patches) {
+  patches->is_clash = true;
+  keep(patches, NULL);
+}
+
+/* Gives the text since that begins at an offset, which it moves behind it. The bytes stay those of the Patches. */
+static mergejoin_text next_since(const Patches *patches, size_t *offset) {
+  mergejoin_text text;
+
+  memcpy(&text.length, patches->since.data + *offset, sizeof(text.length));
+  text.bytes = (const uint8_t *)patches->since.data + *offset + sizeof(text.length);
+  *offset += sizeof(text.length) + text.length;
+  return text;
+}
+
+/* Raises that a text of the group is no patch, and how it begins. */
+static void refuse_patch(const Answer *answer, mergejoin_text wrong) {
+  const char *bytes = (const char *)wrong.bytes;
+  int told = pg_mbcliplen(bytes, (int)wrong.length, TOLD);
+
+  ereport(ERROR, errcode(ERRCODE_INVALID_JSON_TEXT),
+          errmsg("invalid patch in the group: %s", text_to_cstring(answer->value)),
+          errdetail("The patch is %s%s", pnstrdup(bytes, told), told < wrong.length ? ".." : ""));
+}
+
+/* Joins the texts since with the join so far. Where two clash, it reads them alone. */
+static void join_since(Patches *patches) {
+  Request request = {EXPORT_JOIN};
+  mergejoin_text *texts;
+  Answer answer;
+  size_t offset = 0;
+
+  if (patches->count == 0) return;
+  request.texts = texts = palloc_extended((patches->count + 1) * sizeof(mergejoin_text), MCXT_ALLOC_HUGE);
+  if (patches->joined) texts[request.count++] = lent(patches->joined);
+  while (offset < patches->since.len) texts[request.count++] = next_since(patches, &offset);
+  answer = answer_of(&request);
+  if (answer.reply.status == MERGEJOIN_PATCH) refuse_patch(&answer, texts[answer.reply.first]);
+  if (answer.reply.status == MERGEJOIN_CONFLICT)
+    keep_clash(patches);
+  else if (answer.reply.status != MERGEJOIN_RESULT)
+    refuse(&answer);
+  else if (!patches->is_clash)
+    keep(patches, answer.value);
+  resetStringInfo(&patches->since);
+  patches->count = 0;
+  pfree(texts);
+  pfree(answer.value);
+}
+
+/* Takes a copy of a text. */
+static void take(Patches *patches, mergejoin_text text) {
+  size_t since, joined = patches->joined ? VARSIZE_ANY_EXHDR(patches->joined) : 0;
+
+  appendBinaryStringInfo(&patches->since, (const char *)&text.length, sizeof(text.length));
+  appendBinaryStringInfo(&patches->since, (const char *)text.bytes, text.length);
+  patches->count += 1;
+  since = patches->since.len - patches->count * sizeof(text.length);
+  if (since >= Max(LEAST, joined)) join_since(patches);
+}
+
+/* Gives the memory context of the aggregate that calls, which owns its states. */
+static MemoryContext context_of(FunctionCallInfo fcinfo) {
+  MemoryContext context;
+
+  if (!AggCheckCallContext(fcinfo, &context))
+    ereport(ERROR, errcode(ERRCODE_FEATURE_NOT_SUPPORTED), errmsg("this function is for an aggregate to call"));
+  return context;
+}
+
+/* Gives an argument that is a state, or NULL. */
+static Patches *patches_of(FunctionCallInfo fcinfo, int number) {
+  return PG_ARGISNULL(number) ? NULL : (Patches *)PG_GETARG_POINTER(number);
+}
+
+/* Takes a text in, and gives the state, which is made with the first text of the group. */
+static Datum taken(FunctionCallInfo fcinfo, MemoryContext context, mergejoin_text text) {
+  Patches *patches = patches_of(fcinfo, 0);
+
+  if (!patches) patches = new_patches(context);
+  take(patches, text);
+  PG_RETURN_POINTER(patches);
+}
+
+/* Gives the state as it is, since a row has NULL. */
+static Datum passed_over(FunctionCallInfo fcinfo) {
+  if (PG_ARGISNULL(0)) PG_RETURN_NULL();
+  return PG_GETARG_DATUM(0);
+}
+
+Datum take_json(PG_FUNCTION_ARGS) {
+  MemoryContext context = context_of(fcinfo);
+
+  if (PG_ARGISNULL(1)) return passed_over(fcinfo);
+  return taken(fcinfo, context, lent(PG_GETARG_TEXT_PP(1)));
+}
+
+Datum take_jsonb(PG_FUNCTION_ARGS) {
+  MemoryContext context = context_of(fcinfo);
+  StringInfoData written;
+  mergejoin_text text;
+
+  if (PG_ARGISNULL(1)) return passed_over(fcinfo);
+  initStringInfo(&written);
+  JsonbToCString(&written, &PG_GETARG_JSONB_P(1)->root, VARSIZE(PG_GETARG_JSONB_P(1)));
+  text.bytes = (const uint8_t *)written.data;
+  text.length = written.len;
+  return taken(fcinfo, context, text);
+}
+
+/* Takes all that another state was given, which stays as it is. */
+Datum combine(PG_FUNCTION_ARGS) {
+  MemoryContext context = context_of(fcinfo);
+  Patches *patches = patches_of(fcinfo, 0), *other = patches_of(fcinfo, 1);
+  size_t offset = 0;
+
+  if (!other) return passed_over(fcinfo);
+  if (!patches) {
+    patches = new_patches(context);
+    keep(patches, other->joined);
+  } else if (other->joined) {
+    take(patches, lent(other->joined));
+  }
+  if (other->is_clash) keep_clash(patches);
+  while (offset < other->since.len) take(patches, next_since(other, &offset));
+  PG_RETURN_POINTER(patches);
+}
+
+/* Gives a state as bytes: the join of its texts, or that two clash. */
+Datum serialize(PG_FUNCTION_ARGS) {
+  Patches *patches = patches_of(fcinfo, 0);
+
+  context_of(fcinfo);
+  join_since(patches);
+  PG_RETURN_BYTEA_P(patches->is_clash ? cstring_to_text(CLASH) : patches->joined);
+}
+
+/* Gives the state of bytes. */
+Datum deserialize(PG_FUNCTION_ARGS) {
+  bytea *written = PG_GETARG_BYTEA_P(0);
+  Patches *patches;
+
+  context_of(fcinfo);
+  patches = new_patches(CurrentMemoryContext);
+  if (VARSIZE(written) == VARHDRSZ + strlen(CLASH) && memcmp(VARDATA(written), CLASH, strlen(CLASH)) == 0)
+    keep_clash(patches);
+  else
+    keep(patches, written);
+  PG_RETURN_POINTER(patches);
+}
+
+/* Gives the join of a group, which stays the state's, or NULL where two clash. There is a state where there was a text. */
+static text *joined_of(FunctionCallInfo fcinfo) {
+  Patches *patches = patches_of(fcinfo, 0);
+
+  context_of(fcinfo);
+  join_since(patches);
+  return patches->joined;
+}
+
+/* The same, but two that clash are an error. */
+static text *wanted_of(FunctionCallInfo fcinfo) {
+  text *joined = joined_of(fcinfo);
+
+  if (!joined)
+    ereport(ERROR, errcode(ERRCODE_MERGEJOIN_CONFLICT), errmsg("two patches of the group clash"),
+            errhint("mergejoin_clash_agg(patch ORDER BY ..) tells which are the first, and where."));
+  return joined;
+}
+
+/* Gives a text as a value of jsonb in the current memory context, or NULL of none. */
+static Datum as_jsonb(FunctionCallInfo fcinfo, const text *joined) {
+  if (!joined) PG_RETURN_NULL();
+  return DirectFunctionCall1(jsonb_in, CStringGetDatum(text_to_cstring(joined)));
+}
+
+Datum joined_json(PG_FUNCTION_ARGS) { PG_RETURN_TEXT_P(wanted_of(fcinfo)); }
+
+Datum joined_jsonb(PG_FUNCTION_ARGS) { return as_jsonb(fcinfo, wanted_of(fcinfo)); }
+
+Datum joined_or_null_json(PG_FUNCTION_ARGS) {
+  text *joined = joined_of(fcinfo);
+
+  if (!joined) PG_RETURN_NULL();
+  PG_RETURN_TEXT_P(joined);
+}
+
+Datum joined_or_null_jsonb(PG_FUNCTION_ARGS) { return as_jsonb(fcinfo, joined_of(fcinfo)); }
