@@ -23,21 +23,21 @@ whole_number n = option_or (option_map pos (as_u64 n)) (as_i64 n)
 
 -- the document of JSON data, none where a number is not whole
 abbrev mutual
-  pub document_from : Data → Option Document
-  document_from json.null = Some null
-  document_from (json.boolean b) = Some (flag b)
-  document_from (json.number n) = option_map whole (whole_number n)
-  document_from (json.string s) = Some (string s)
-  document_from (json.array ds) = option_map list (items_from ds)
-  document_from (json.object ms) = option_map object (members_from ms)
+  pub from_data : Data → Option Document
+  from_data json.null = Some null
+  from_data (json.boolean b) = Some (flag b)
+  from_data (json.number n) = option_map whole (whole_number n)
+  from_data (json.string s) = Some (string s)
+  from_data (json.array ds) = option_map list (items_from_data ds)
+  from_data (json.object ms) = option_map object (members_from_data ms)
 
-  pub items_from : json.Items → Option Items
-  items_from json.no_items = Some no_items
-  items_from (json.item d ds) = option_and_then (λ e. option_map (item e) (items_from ds)) (document_from d)
+  pub items_from_data : json.Items → Option Items
+  items_from_data json.no_items = Some no_items
+  items_from_data (json.item d ds) = option_and_then (λ e. option_map (item e) (items_from_data ds)) (from_data d)
 
-  pub members_from : json.Members → Option Members
-  members_from json.no_members = Some no_members
-  members_from (json.member n d ms) = option_and_then (λ e. option_map (put n e) (members_from ms)) (document_from d)
+  pub members_from_data : json.Members → Option Members
+  members_from_data json.no_members = Some no_members
+  members_from_data (json.member n d ms) = option_and_then (λ e. option_map (put n e) (members_from_data ms)) (from_data d)
 
 -- the data that `serde_json` reads in the bytes: none where they are not UTF-8 or no JSON text of nesting at most 127
 abbrev pub data_in : List ℕ → Option Data
@@ -45,7 +45,7 @@ data_in bytes = if is_utf8 bytes then serde_json.read bytes else None
 
 -- the document that the bytes are, however deep: none where they have no data, or a number that is not whole
 abbrev pub read : List ℕ → Option Document
-read bytes = option_and_then document_from (data_in bytes)
+read bytes = option_and_then from_data (data_in bytes)
 
 -- ---- the elements of the array that the bytes are, or the first fault: not JSON, a number that is not whole, no array
 
@@ -62,7 +62,7 @@ whole_or_fault (Some d) = elements d
 -- of data, where there was some
 abbrev pub json_or_fault : Option Data → Result Items DocsFault
 json_or_fault None = Err NotJson
-json_or_fault (Some d) = whole_or_fault (document_from d)
+json_or_fault (Some d) = whole_or_fault (from_data d)
 
 -- the elements that the bytes give, or their first fault
 abbrev pub documents_in : List ℕ → Result Items DocsFault
@@ -82,7 +82,7 @@ whole_document (Some d) = shallow_document d
 -- of data, where there was some
 abbrev pub json_document : Option Data → Result Document ReadFault
 json_document None = Err fault.NotJson
-json_document (Some d) = whole_document (document_from d)
+json_document (Some d) = whole_document (from_data d)
 
 -- the document that the bytes give, or their first fault
 abbrev pub document_in : List ℕ → Result Document ReadFault

@@ -3,7 +3,7 @@ ghost use Rattle.std.specs.Prelude.{◌≡◌, ◌≢◌, ◌≤◌, length, Non
 ghost use Rattle.serde_json.specs.View.{view, items_view, members_view, number_view};
 ghost use Rattle.mp_tree.specs.View.{document, items, number_of};
 ghost use Rattle.mp_tree.specs.Private.Entries.{members};
-ghost use Rattle.mp_tree.specs.Text.{document_from, items_from, members_from, whole_number};
+ghost use Rattle.mp_tree.specs.Text.{from_data, items_from_data, members_from_data, whole_number};
 
 use crate::building::{FEW, map_of};
 use crate::doc::Doc;
@@ -43,8 +43,8 @@ impl<T: Drop> From<AllocFailed<T>> for Unread {
 #[cycle(doc_of)]
 #[inline(always)]
 pub(crate) fn doc_of(value: Value, alloc: Global) -> Result<Doc, Unread>
-    ensures ok { IfOk result (λ d. document_from (view value) ≡ Some (document d)) }
-    ensures not_whole { result ≡ Err Unread.NotWhole → document_from (view value) ≡ None }
+    ensures ok { IfOk result (λ d. from_data (view value) ≡ Some (document d)) }
+    ensures not_whole { result ≡ Err Unread.NotWhole → from_data (view value) ≡ None }
     ensures is_json { result ≢ Err Unread.NotJson }
 {
     match value {
@@ -74,9 +74,10 @@ fn whole_of(number: &Number) -> Option<Whole>
 
 #[cycle(doc_of)]
 fn docs_of(values: Vec<Value>, alloc: Global) -> Result<Vec<Doc>, Unread>
-    ensures ok { IfOk result (λ docs. items_from (items_view values.items)
+    ensures ok { IfOk result (λ docs. items_from_data (items_view values.items)
         ≡ Some (items docs.items)) }
-    ensures not_whole { result ≡ Err Unread.NotWhole → items_from (items_view values.items) ≡ None }
+    ensures not_whole { result ≡ Err Unread.NotWhole
+        → items_from_data (items_view values.items) ≡ None }
     ensures is_json { result ≢ Err Unread.NotJson }
 {
     let mut docs = Vec::with_capacity(alloc, values.len())?;
@@ -89,10 +90,10 @@ fn docs_of(values: Vec<Value>, alloc: Global) -> Result<Vec<Doc>, Unread>
 #[cycle(doc_of)]
 #[inline(always)]
 fn members_of(values: Map<String, Value>, alloc: Global) -> Result<BTreeMap<String, Doc>, Unread>
-    ensures ok { IfOk result (λ docs. members_from (members_view values.entries)
+    ensures ok { IfOk result (λ docs. members_from_data (members_view values.entries)
         ≡ Some (members docs.entries)) }
     ensures not_whole { result ≡ Err Unread.NotWhole
-        → members_from (members_view values.entries) ≡ None }
+        → members_from_data (members_view values.entries) ≡ None }
     ensures is_json { result ≢ Err Unread.NotJson }
 {
     if values.len() <= 1 {
@@ -109,10 +110,10 @@ fn many_members_of(
     values: Map<String, Value>,
     alloc: Global,
 ) -> Result<BTreeMap<String, Doc>, Unread>
-    ensures ok { IfOk result (λ docs. members_from (members_view values.entries)
+    ensures ok { IfOk result (λ docs. members_from_data (members_view values.entries)
         ≡ Some (members docs.entries)) }
     ensures not_whole { result ≡ Err Unread.NotWhole
-        → members_from (members_view values.entries) ≡ None }
+        → members_from_data (members_view values.entries) ≡ None }
     ensures is_json { result ≢ Err Unread.NotJson }
 {
     let mut pairs = Vec::with_capacity(alloc, values.len())?;
@@ -128,10 +129,10 @@ fn few_members_of(
     values: Map<String, Value>,
     alloc: Global,
 ) -> Result<BTreeMap<String, Doc>, Unread>
-    ensures ok { IfOk result (λ docs. members_from (members_view values.entries)
+    ensures ok { IfOk result (λ docs. members_from_data (members_view values.entries)
         ≡ Some (members docs.entries)) }
     ensures not_whole { result ≡ Err Unread.NotWhole
-        → members_from (members_view values.entries) ≡ None }
+        → members_from_data (members_view values.entries) ≡ None }
     ensures is_json { result ≢ Err Unread.NotJson }
 {
     let mut docs = BTreeMap::new(alloc);
@@ -148,10 +149,10 @@ fn one_member_of(
     alloc: Global,
 ) -> Result<BTreeMap<String, Doc>, Unread>
     requires { length values.entries ≤ 1 }
-    ensures ok { IfOk result (λ docs. members_from (members_view values.entries)
+    ensures ok { IfOk result (λ docs. members_from_data (members_view values.entries)
         ≡ Some (members docs.entries)) }
     ensures not_whole { result ≡ Err Unread.NotWhole
-        → members_from (members_view values.entries) ≡ None }
+        → members_from_data (members_view values.entries) ≡ None }
     ensures is_json { result ≢ Err Unread.NotJson }
 {
     let mut docs = BTreeMap::new(alloc);

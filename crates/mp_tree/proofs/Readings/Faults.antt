@@ -3,7 +3,7 @@ use Rattle.std.proofs.Common.{◌≢◌, Bool, true, false, if◌then◌else◌,
 use Rattle.serde_json.specs.Data.{Data}
 use Rattle.mp_tree.specs.Document.{Document, null, flag, whole, string, list, object, depth, depth_limit}
 use Rattle.mp_tree.specs.Laws.{FaultsAreOfBytes, FaultsAreOfArrays}
-use Rattle.mp_tree.specs.Text.{document_from, data_in, elements, whole_or_fault, json_or_fault, whole_document, json_document}
+use Rattle.mp_tree.specs.Text.{from_data, data_in, elements, whole_or_fault, json_or_fault, whole_document, json_document}
 use Rattle.mp_tree.specs.declared.fault.DocsFault.TheVariants as elements_fault
 use Rattle.mp_tree.specs.declared.fault.ReadFault.TheVariants as fault
 
@@ -17,7 +17,7 @@ of_document (Some d) = of_shallow d (nat_le (depth d) depth_limit)
 
 of_reading : (d : Option Data) → json_document d ≢ Err fault.OutOfMemory
 of_reading None = λ memory. cc
-of_reading (Some d) = of_document (document_from d)
+of_reading (Some d) = of_document (from_data d)
 
 pub faults_are_of_bytes : FaultsAreOfBytes
 faults_are_of_bytes bytes = of_reading (data_in bytes)
@@ -36,7 +36,7 @@ of_whole (Some d) = of_elements d
 
 of_array : (d : Option Data) → json_or_fault d ≢ Err elements_fault.OutOfMemory
 of_array None = λ memory. cc
-of_array (Some d) = of_whole (document_from d)
+of_array (Some d) = of_whole (from_data d)
 
 pub faults_are_of_arrays : FaultsAreOfArrays
 faults_are_of_arrays bytes = of_array (data_in bytes)

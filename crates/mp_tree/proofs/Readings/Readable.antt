@@ -20,11 +20,11 @@ use Rattle.serde_json.proofs.Nesting.{depth-read}
 use Rattle.mp_tree.specs.Document.{Document, null, flag, whole, string, list, object, Items, no_items, item, AreDocuments, IsDocument, IsWhole, IsReadable, depth, items_depth, depth_limit, IsInRange, HasTexts, Throughout, ThroughoutItems, ThroughoutMembers, put}
 use Rattle.mp_tree.specs.Elements.{list_of}
 use Rattle.mp_tree.specs.Laws.{ReadsReadable, ReadsReadables}
-use Rattle.mp_tree.specs.Text.{document_from, items_from, members_from, whole_number, data_in, elements, whole_or_fault, json_or_fault, shallow_document, whole_document, json_document}
+use Rattle.mp_tree.specs.Text.{from_data, items_from_data, members_from_data, whole_number, data_in, elements, whole_or_fault, json_or_fault, shallow_document, whole_document, json_document}
 use Rattle.mp_tree.specs.declared.fault.ReadFault.TheVariants.{TooDeep}
 use Rattle.mp_tree.proofs.Options.{if_both, if_either, if_mapped, if_then}
-use Rattle.mp_tree.proofs.Readings.Documents.{from_data}
-use Rattle.mp_tree.proofs.Texts.Written.{depth-document_from}
+use Rattle.mp_tree.proofs.Readings.Documents.{document_of_data}
+use Rattle.mp_tree.proofs.Texts.Written.{depth-from_data}
 use Rattle.mp_tree.proofs.Documents.Throughout.{Throughout-put, Throughout-weaker}
 use Rattle.mp_tree.proofs.Texts.Unescaped.{AreTexts, tokens-texts}
 
@@ -222,23 +222,23 @@ whole_number-range (negative z) is = is
 whole_number-range (float x) is = tt
 
 mutual
-  throughout_from : (x : Data) → IsData x → IfSome (document_from x) (Throughout IsWhole IsUtf8)
+  throughout_from : (x : Data) → IsData x → IfSome (from_data x) (Throughout IsWhole IsUtf8)
   throughout_from json.null is = tt
   throughout_from (json.boolean b) is = tt
   throughout_from (json.number n) is = if_mapped whole IsWhole (Throughout IsWhole IsUtf8) (whole_number n) (λ z range. range) (whole_number-range n is)
   throughout_from (json.string s) is = is
-  throughout_from (json.array ds) is = if_mapped list (ThroughoutItems IsWhole IsUtf8) (Throughout IsWhole IsUtf8) (items_from ds) (λ es all. all) (items_throughout ds is)
-  throughout_from (json.object ms) is = if_mapped object (ThroughoutMembers IsWhole IsUtf8) (Throughout IsWhole IsUtf8) (members_from ms) (λ es all. all) (members_throughout ms is)
+  throughout_from (json.array ds) is = if_mapped list (ThroughoutItems IsWhole IsUtf8) (Throughout IsWhole IsUtf8) (items_from_data ds) (λ es all. all) (items_throughout ds is)
+  throughout_from (json.object ms) is = if_mapped object (ThroughoutMembers IsWhole IsUtf8) (Throughout IsWhole IsUtf8) (members_from_data ms) (λ es all. all) (members_throughout ms is)
 
-  items_throughout : (ds : json.Items) → AreData ds → IfSome (items_from ds) (ThroughoutItems IsWhole IsUtf8)
+  items_throughout : (ds : json.Items) → AreData ds → IfSome (items_from_data ds) (ThroughoutItems IsWhole IsUtf8)
   items_throughout json.no_items is = tt
   items_throughout (json.item d ds) is =
-      if_both item (Throughout IsWhole IsUtf8) (ThroughoutItems IsWhole IsUtf8) (ThroughoutItems IsWhole IsUtf8) (document_from d) (items_from ds) (λ e es here all. (here, all)) (throughout_from d is.0) (items_throughout ds is.1)
+      if_both item (Throughout IsWhole IsUtf8) (ThroughoutItems IsWhole IsUtf8) (ThroughoutItems IsWhole IsUtf8) (from_data d) (items_from_data ds) (λ e es here all. (here, all)) (throughout_from d is.0) (items_throughout ds is.1)
 
-  members_throughout : (ms : json.Members) → MembersAreData ms → IfSome (members_from ms) (ThroughoutMembers IsWhole IsUtf8)
+  members_throughout : (ms : json.Members) → MembersAreData ms → IfSome (members_from_data ms) (ThroughoutMembers IsWhole IsUtf8)
   members_throughout json.no_members is = tt
   members_throughout (json.member n d ms) is =
-      if_both (put n) (Throughout IsWhole IsUtf8) (ThroughoutMembers IsWhole IsUtf8) (ThroughoutMembers IsWhole IsUtf8) (document_from d) (members_from ms)
+      if_both (put n) (Throughout IsWhole IsUtf8) (ThroughoutMembers IsWhole IsUtf8) (ThroughoutMembers IsWhole IsUtf8) (from_data d) (members_from_data ms)
       (λ e es here all. Throughout-put IsWhole IsUtf8 n e es is.0 here all) (throughout_from d is.1) (members_throughout ms is.2)
 
 in-range : (d : Document) → Throughout IsWhole IsUtf8 d → IsInRange d
@@ -249,7 +249,7 @@ has-texts d all = Throughout-weaker IsWhole IsUtf8 (λ z. Unit {0}) IsUtf8 (λ z
 
 -- of bytes, what their reading is and how deep it nests
 pub record IsReadFrom (bytes : List ℕ) (x : Data) : Type 0 where
-  pub throughout : IfSome (document_from x) (Throughout IsWhole IsUtf8)
+  pub throughout : IfSome (from_data x) (Throughout IsWhole IsUtf8)
   pub nests : json.depth x ≤ 127
 
 pub data_in-is : (bytes : List ℕ) (x : Data) → data_in bytes ≡ Some x → IsReadFrom bytes x
@@ -270,11 +270,11 @@ record IsFrom (d : Document) : Type 0 where
   throughout : Throughout IsWhole IsUtf8 d
   nests : depth d ≤ 127
 
-from_reading : (bytes : List ℕ) (x : Data) (d : Document) → data_in bytes ≡ Some x → document_from x ≡ Some d → IsFrom d
+from_reading : (bytes : List ℕ) (x : Data) (d : Document) → data_in bytes ≡ Some x → from_data x ≡ Some d → IsFrom d
 from_reading bytes x d read is = let from = data_in-is bytes x read in record {
-  is_document = subst (λ (o : Option Document). IfSome o IsDocument) is (from_data x);
+  is_document = subst (λ (o : Option Document). IfSome o IsDocument) is (document_of_data x);
   throughout = subst (λ (o : Option Document). IfSome o (Throughout IsWhole IsUtf8)) is from.throughout;
-  nests = omega (arith, from.nests, subst (λ (o : Option Document). IfSome o (λ e. depth e ≤ json.depth x)) is (depth-document_from x));
+  nests = omega (arith, from.nests, subst (λ (o : Option Document). IfSome o (λ e. depth e ≤ json.depth x)) is (depth-from_data x));
 }
 
 readable : (d : Document) → IsDocument d → Throughout IsWhole IsUtf8 d → depth d ≤ depth_limit → IsReadable d
@@ -294,13 +294,13 @@ of_shallow d e from is = by (nat_le (depth e) depth_limit) refl is
 pub reads_readable : ReadsReadable
 reads_readable bytes d is = by_reading (data_in bytes) refl is
   where
-    by_document : (x : Data) (o : Option Document) → data_in bytes ≡ Some x → document_from x ≡ o → whole_document o ≡ Ok d → IsReadable d
+    by_document : (x : Data) (o : Option Document) → data_in bytes ≡ Some x → from_data x ≡ o → whole_document o ≡ Ok d → IsReadable d
     by_document x None read none is = absurd (cc)
     by_document x (Some e) read whole_ones is = of_shallow d e (from_reading bytes x e read whole_ones) is
 
     by_reading : (o : Option Data) → data_in bytes ≡ o → json_document o ≡ Ok d → IsReadable d
     by_reading None none is = absurd (cc)
-    by_reading (Some x) read is = by_document x (document_from x) read refl is
+    by_reading (Some x) read is = by_document x (from_data x) read refl is
 
 of_elements : (d : Document) (ds : Items) → IsFrom d → elements d ≡ Ok ds → All IsReadable (list_of ds)
 of_elements (list es) ds from is = let same : es ≡ ds = cc in subst (λ es. All IsReadable (list_of es)) same (all_readable es from.is_document from.throughout (omega (arith, from.nests)))
@@ -313,10 +313,10 @@ of_elements (object ms) ds from is = absurd (cc)
 pub reads_readables : ReadsReadables
 reads_readables bytes ds is = by_reading (data_in bytes) refl is
   where
-    by_document : (x : Data) (o : Option Document) → data_in bytes ≡ Some x → document_from x ≡ o → whole_or_fault o ≡ Ok ds → All IsReadable (list_of ds)
+    by_document : (x : Data) (o : Option Document) → data_in bytes ≡ Some x → from_data x ≡ o → whole_or_fault o ≡ Ok ds → All IsReadable (list_of ds)
     by_document x None read none is = absurd (cc)
     by_document x (Some e) read whole_ones is = of_elements e ds (from_reading bytes x e read whole_ones) is
 
     by_reading : (o : Option Data) → data_in bytes ≡ o → json_or_fault o ≡ Ok ds → All IsReadable (list_of ds)
     by_reading None none is = absurd (cc)
-    by_reading (Some x) read is = by_document x (document_from x) read refl is
+    by_reading (Some x) read is = by_document x (from_data x) read refl is

@@ -18,7 +18,7 @@ use Rattle.mp_tree.specs.Elements.{items_of}
 use Rattle.mp_tree.specs.Laws.{ArraysReadBack}
 use Rattle.mp_tree.specs.Text.{text, data_of, items_data, members_data, data_in}
 use Rattle.mp_tree.proofs.Texts.RoundTrip.{IsUtf8-text, has_number, reads_same_tokens}
-use Rattle.mp_tree.proofs.Texts.Written.{document_from-data_of}
+use Rattle.mp_tree.proofs.Texts.Written.{from_data-data_of}
 
 -- ---- the lexemes after a text are those of what follows it, where that begins no word
 
@@ -231,4 +231,4 @@ arrays_read_back ds bytes readable array =
     let utf8 = IsUtf8-spaced inside bytes (IsUtf8-in_brackets ds array.spaced readable array.are) array.is in
     let is : data_in bytes ≡ Some (data_of d) =
     reads_same_tokens bytes d utf8 (ap (punctuate fresh) lexemes) (all_in_range ds readable) (all_documents ds readable) (omega (arith, all_within ds readable)) in
-    rw (is, document_from-data_of d (all_documents ds readable)) refl
+    rw (is, from_data-data_of d (all_documents ds readable)) refl

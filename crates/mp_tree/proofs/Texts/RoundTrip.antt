@@ -25,9 +25,9 @@ use Rattle.serde_json.proofs.Numbers.{number_of-decimal, number_of-negative}
 use Rattle.serde_json.proofs.Texts.{print-outline}
 use Rattle.mp_tree.specs.Document.{Document, null, flag, whole, string, list, object, Items, no_items, item, Members, no_members, member, name_cmp, IsWhole, IsInRange, IsDocument, AreDocuments, IsMap, IsBelow, HasTexts, ThroughoutItems, ThroughoutMembers, depth}
 use Rattle.mp_tree.specs.Laws.{ReadsBack, ReadsUtf8Back, EqualTexts}
-use Rattle.mp_tree.specs.Text.{document_from, data_of, items_data, members_data, text, read, data_in}
+use Rattle.mp_tree.specs.Text.{from_data, data_of, items_data, members_data, text, read, data_in}
 use Rattle.mp_tree.proofs.Maps.Names.{below_is_above}
-use Rattle.mp_tree.proofs.Texts.Written.{depth-data_of, document_from-data_of}
+use Rattle.mp_tree.proofs.Texts.Written.{depth-data_of, from_data-data_of}
 use Rattle.mp_tree.proofs.Options.{some_same}
 
 -- ---- a whole number's digits
@@ -196,7 +196,7 @@ reads_same_tokens bytes d utf8 same range good within =
     rw (is_utf8-from_IsUtf8 bytes utf8) whole_text
 
 pub read-utf8 : ReadsUtf8Back
-read-utf8 d good range within utf8 = ap (option_and_then document_from) (reads_same_tokens (text d) d utf8 refl range good (omega arith)) ∙ document_from-data_of d good
+read-utf8 d good range within utf8 = ap (option_and_then from_data) (reads_same_tokens (text d) d utf8 refl range good (omega arith)) ∙ from_data-data_of d good
 
 pub read-text : ReadsBack
 read-text d can = read-utf8 d can.is_document can.in_range can.within (IsUtf8-text d can.in_range can.has_texts)

@@ -5,7 +5,7 @@ use Rattle.serde_json.specs.Data.{Data, Num, unsigned, negative, float}
 use Rattle.serde_json.specs.Find.{of_integer, is_float}
 use Rattle.serde_json.specs.Written.{has_float, items_have_float, members_have_float}
 use Rattle.mp_tree.specs.Document.{Document, null, flag, whole, string, list, object, Items, no_items, item, Members, no_members, member, put, depth, items_depth, members_depth, IsDocument, AreDocuments, IsMap}
-use Rattle.mp_tree.specs.Text.{whole_number, document_from, items_from, members_from, data_of, items_data, members_data}
+use Rattle.mp_tree.specs.Text.{whole_number, from_data, items_from_data, members_from_data, data_of, items_data, members_data}
 use Rattle.mp_tree.proofs.Texts.IntoData.{put-below}
 use Rattle.mp_tree.proofs.Documents.Depths.{members_depth-put}
 
@@ -61,21 +61,21 @@ whole_number-of_integer (pos n) = refl
 whole_number-of_integer (negsuc n) = refl
 
 mutual
-  pub document_from-data_of : (d : Document) → IsDocument d → document_from (data_of d) ≡ Some d
-  document_from-data_of null good = refl
-  document_from-data_of (flag b) good = refl
-  document_from-data_of (whole z) good = rw (whole_number-of_integer z)
-  document_from-data_of (string s) good = refl
-  document_from-data_of (list ds) good = rw (items_from-data ds good)
-  document_from-data_of (object ms) good = rw (members_from-data ms good)
+  pub from_data-data_of : (d : Document) → IsDocument d → from_data (data_of d) ≡ Some d
+  from_data-data_of null good = refl
+  from_data-data_of (flag b) good = refl
+  from_data-data_of (whole z) good = rw (whole_number-of_integer z)
+  from_data-data_of (string s) good = refl
+  from_data-data_of (list ds) good = rw (items_from_data-data ds good)
+  from_data-data_of (object ms) good = rw (members_from_data-data ms good)
 
-  items_from-data : (ds : Items) → AreDocuments ds → items_from (items_data ds) ≡ Some ds
-  items_from-data no_items good = refl
-  items_from-data (item d ds) good = rw (document_from-data_of d good.0, items_from-data ds good.1)
+  items_from_data-data : (ds : Items) → AreDocuments ds → items_from_data (items_data ds) ≡ Some ds
+  items_from_data-data no_items good = refl
+  items_from_data-data (item d ds) good = rw (from_data-data_of d good.0, items_from_data-data ds good.1)
 
-  members_from-data : (ms : Members) → IsMap ms → members_from (members_data ms) ≡ Some ms
-  members_from-data no_members good = refl
-  members_from-data (member n d ms) good = rw (document_from-data_of d good.0, members_from-data ms good.2) (ap Some (put-below n d ms good.1))
+  members_from_data-data : (ms : Members) → IsMap ms → members_from_data (members_data ms) ≡ Some ms
+  members_from_data-data no_members good = refl
+  members_from_data-data (member n d ms) good = rw (from_data-data_of d good.0, members_from_data-data ms good.2) (ap Some (put-below n d ms good.1))
 
 -- ---- a document that was read is no deeper than its data
 
@@ -104,18 +104,18 @@ member_within name m n (Some d) None h k = tt
 member_within name m n (Some d) (Some ms) h k = omega (arith, members_depth-put name d ms)
 
 mutual
-  pub depth-document_from : (x : Data) → IfSome (document_from x) (λ d. depth d ≤ json.depth x)
-  depth-document_from json.null = omega arith
-  depth-document_from (json.boolean b) = omega arith
-  depth-document_from (json.number n) = number_within (whole_number n)
-  depth-document_from (json.string s) = omega arith
-  depth-document_from (json.array xs) = list_within _ (items_from xs) (items_depth-from xs)
-  depth-document_from (json.object ms) = object_within _ (members_from ms) (members_depth-from ms)
+  pub depth-from_data : (x : Data) → IfSome (from_data x) (λ d. depth d ≤ json.depth x)
+  depth-from_data json.null = omega arith
+  depth-from_data (json.boolean b) = omega arith
+  depth-from_data (json.number n) = number_within (whole_number n)
+  depth-from_data (json.string s) = omega arith
+  depth-from_data (json.array xs) = list_within _ (items_from_data xs) (items_depth-from xs)
+  depth-from_data (json.object ms) = object_within _ (members_from_data ms) (members_depth-from ms)
 
-  items_depth-from : (xs : json.Items) → IfSome (items_from xs) (λ ds. items_depth ds ≤ json.items_depth xs)
+  items_depth-from : (xs : json.Items) → IfSome (items_from_data xs) (λ ds. items_depth ds ≤ json.items_depth xs)
   items_depth-from json.no_items = omega arith
-  items_depth-from (json.item x xs) = item_within _ _ (document_from x) (items_from xs) (depth-document_from x) (items_depth-from xs)
+  items_depth-from (json.item x xs) = item_within _ _ (from_data x) (items_from_data xs) (depth-from_data x) (items_depth-from xs)
 
-  members_depth-from : (xs : json.Members) → IfSome (members_from xs) (λ ms. members_depth ms ≤ json.members_depth xs)
+  members_depth-from : (xs : json.Members) → IfSome (members_from_data xs) (λ ms. members_depth ms ≤ json.members_depth xs)
   members_depth-from json.no_members = omega arith
-  members_depth-from (json.member n x xs) = member_within n _ _ (document_from x) (members_from xs) (depth-document_from x) (members_depth-from xs)
+  members_depth-from (json.member n x xs) = member_within n _ _ (from_data x) (members_from_data xs) (depth-from_data x) (members_depth-from xs)

@@ -2,9 +2,9 @@ use Rattle.std.proofs.Common.{Some, option_map, string_bytes, sym, ap, ◌∙◌
 use Rattle.serde_json.specs.View.{items_view}
 use Rattle.serde_json.proofs.Views.{view-Object}
 use Rattle.mp_tree.specs.Document.{object}
-use Rattle.mp_tree.specs.Text.{document_from, items_from}
+use Rattle.mp_tree.specs.Text.{from_data, items_from_data}
 use Rattle.mp_tree.proofs.Maps.Building.{seen-same, ascend_from_seen, insert-last-seen}
-use Rattle.mp_tree.proofs.Texts.FromData.{from_value, read_as, items_from-all, items_from-none, members_from-all, read_one_more, none_if_refused}
+use Rattle.mp_tree.proofs.Texts.FromData.{from_value, read_as, items_from_data-all, items_from_data-none, members_from_data-all, read_one_more, none_if_refused}
 use Rattle.mp_tree.proofs.Passed.{Passed-next, Passed-push, Passed-end, over-into_iter}
 use Rattle.mp_tree.proofs.Documents.Meaning.{document-Members}
 use Rattle.mp_tree.proofs.converting.+doc_of.Goals as goal
@@ -12,13 +12,13 @@ use Rattle.mp_tree.proofs.converting.+doc_of.Goals as goal
 pub doc_of-returns-in_ok-members_of-in-Object-clause-ok : goal.doc_of-returns-in_ok-members_of-in-Object-clause-ok
 doc_of-returns-in_ok-members_of-in-Object-clause-ok t c =
     let docs = c.in_ok-members_of-in-Object in
-    ap from_value c.in-Object.is ∙ ap document_from (view-Object c.in-Object.values) ∙ ap (option_map object) docs.ensures.ok ∙ ap Some (sym (document-Members docs.field-0))
+    ap from_value c.in-Object.is ∙ ap from_data (view-Object c.in-Object.values) ∙ ap (option_map object) docs.ensures.ok ∙ ap Some (sym (document-Members docs.field-0))
 
 pub docs_of-returns-in_err-doc_of-clause-not_whole : goal.docs_of-returns-in_err-doc_of-clause-not_whole
 docs_of-returns-in_err-doc_of-clause-not_whole t c refused =
     let elements = c.loop-value.invariant.elements in
-    let none = items_from-none elements.passed c.in-Some.value _ (c.in_err-doc_of.ensures.not_whole (grind arith)) in
-    ap (λ vs. items_from (items_view vs)) (Passed-next elements c.in-Some.ensures.steps.0) ∙ none
+    let none = items_from_data-none elements.passed c.in-Some.value _ (c.in_err-doc_of.ensures.not_whole (grind arith)) in
+    ap (λ vs. items_from_data (items_view vs)) (Passed-next elements c.in-Some.ensures.steps.0) ∙ none
 
 pub docs_of-loop-value-preserved : goal.docs_of-loop-value-preserved
 docs_of-loop-value-preserved t c =
@@ -33,7 +33,7 @@ docs_of-loop-value-preserved t c =
 pub docs_of-returns-clause-ok : goal.docs_of-returns-clause-ok
 docs_of-returns-clause-ok t c =
     let l = c.loop-value in
-    items_from-all c.args.values.items l.docs.items (Passed-end l.invariant.elements (over-into_iter l.value-iterator c.in-None.ensures.steps.0))
+    items_from_data-all c.args.values.items l.docs.items (Passed-end l.invariant.elements (over-into_iter l.value-iterator c.in-None.ensures.steps.0))
 
 pub many_members_of-returns-in_err-doc_of-clause-not_whole : goal.many_members_of-returns-in_err-doc_of-clause-not_whole
 many_members_of-returns-in_err-doc_of-clause-not_whole t c refused =
@@ -57,7 +57,7 @@ pub many_members_of-returns-clause-ok : goal.many_members_of-returns-clause-ok
 many_members_of-returns-clause-ok t c =
     let l = c.loop-name in
     let docs = c.in_ok-map_of in
-    members_from-all _ docs.field-0.entries (seen-same read_as docs.field-0.entries l.pairs.items docs.ensures ∙ Passed-end l.invariant.entries c.in-None.ensures.steps.0)
+    members_from_data-all _ docs.field-0.entries (seen-same read_as docs.field-0.entries l.pairs.items docs.ensures ∙ Passed-end l.invariant.entries c.in-None.ensures.steps.0)
 
 pub few_members_of-returns-in_err-doc_of-clause-not_whole : goal.few_members_of-returns-in_err-doc_of-clause-not_whole
 few_members_of-returns-in_err-doc_of-clause-not_whole t c refused =
@@ -77,4 +77,4 @@ few_members_of-loop-name-preserved t c =
 pub few_members_of-returns-clause-ok : goal.few_members_of-returns-clause-ok
 few_members_of-returns-clause-ok t c =
     let l = c.loop-name in
-    members_from-all _ l.docs.entries (Passed-end l.invariant.entries c.in-None.ensures.steps.0)
+    members_from_data-all _ l.docs.entries (Passed-end l.invariant.entries c.in-None.ensures.steps.0)
