@@ -1,5 +1,5 @@
 """Rows for what calls the library: an export, the status, the numbers and the text of its reply, and the texts that it is
-given. They are those of crates/worked_rows, each program's line told as a reply, and those below.
+given. They are those of the modules *_rows of crates/worked_values, each program's line told as a reply, and those below.
 """
 
 import json
@@ -17,6 +17,7 @@ ROWS = [
     ("join", 6, 2, 0, "number not whole", [b"1", b"2", b"1.5", b"["]),
     ("join", 6, 1, 0, "too deep", [b"1", b"[" * 127 + b"]" * 127]),
     ("join", 0, 0, 0, '{"a":1,"b":2}', [b'\n {"b" : 2,\t"a" : 1}\r\n', b' {"a":1} ']),
+    ("join", 1, 0, 1, r'["/a~1b/\""]', [rb'{"a/b":{"\"":1}}', rb'{"a/b":{"\"":2}}']),
     ("replay", 5, 0, 0, "not JSON", [b"[", b"["]),
     ("replay", 5, 0, 0, "too deep", [b"[" * 127 + b"]" * 127, b"1"]),
     ("replay", 6, 1, 0, "not JSON", [b"5", b"{}", b"["]),
@@ -32,6 +33,7 @@ ROWS = [
     ("get", 5, 0, 0, "number not whole", [b"1.5", b"\xff"]),
     ("get", 8, 2, 0, "not UTF-8", [b"5", b"/a\xff"]),
     ("get", 8, 0, 0, "not UTF-8", [b"5", b"\xff"]),
+    ("get", 8, 2, 0, "not UTF-8", [b"5", b"a~\xe2\x82"]),
 ]
 
 # The rows in their sources: a text or a raw text, and a number.
@@ -76,8 +78,8 @@ def reply_of(line, status):
 
 
 def worked_rows():
-    """Gives the rows of crates/worked_rows as those above."""
-    for path in sorted((TOP / "crates/worked_rows/src").glob("*_rows.rt")):
+    """Gives the rows of the modules *_rows of crates/worked_values as those above."""
+    for path in sorted((TOP / "crates/worked_values/src").glob("*_rows.rt")):
         source = path.read_text("utf-8")
         tables = dict(re.findall(r"^const (\w+): &\[[^=\n]*\] = &\[\n(.*?)^\];", source, re.M | re.S))
         for command, table in re.findall(r"check_rows\(&rt, &Command::(\w+), (\w+)\)", source):

@@ -6,8 +6,6 @@ mod keeping;
 pub mod laws;
 mod receiving;
 mod replica;
-#[cfg(test)]
-mod tests;
 
 pub use fault::{DecideFault, ShowFault};
 pub use keeping::{Arrival, Identity, Keeper, Letter};

@@ -7,8 +7,6 @@
 mod documents;
 pub mod laws;
 mod lists;
-#[cfg(test)]
-mod reply_tests;
 mod replying;
 
 pub use documents::{mergejoin_get, mergejoin_patch, mergejoin_rewrite};

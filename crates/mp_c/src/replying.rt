@@ -13,7 +13,7 @@ use std::alloc::Global;
 
 /// What a call answers beside the text in the room.
 #[repr(C)]
-#[derive(Clone, Copy, Debug, Drop, PartialEq, Eq)]
+#[derive(Clone, Copy, Drop)]
 pub struct Reply {
     /// Of the whole text in bytes: where it is more than the room, the room has the text's first bytes alone.
     pub length: usize,

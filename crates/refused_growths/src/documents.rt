@@ -1,22 +1,40 @@
 //! The calls of mp_tree that take memory.
-use crate::seen::{Seen, are_same, doc_of, docs_of, tell};
+use crate::preparing::{doc_of, docs_of, two_docs_of};
+use crate::seen::{Seen, are_same};
 use mp_tree::{DocsFault, ReadFault};
 use std::alloc::Global;
-use std::test::Fail;
 
 const DOC: &str = r#"{"b":1,"a":[null,{"c":"text"}]}"#;
 
 const TEXT: &str = r#"{"a":[null,{"c":"text"}],"b":1}"#;
 
-fn watch_copy(alloc: Global) -> Option<Seen> {
-    let doc = doc_of(alloc, DOC)?;
-    let before = doc_of(alloc, DOC)?;
-    Some(Seen::of_doc(doc.copy(alloc), &before).with(doc.same(&before)))
+/// The names that `watch` takes.
+pub const CALLS: &[&str] = &[
+    "copy",
+    "read_doc",
+    "read_docs",
+    "read_too_deep",
+    "write_doc",
+    "write_text",
+];
+
+/// Watches the call of this name, if there is one.
+pub fn watch(alloc: Global, name: &str) -> Option<Option<Seen>> {
+    Some(match name {
+        "copy" => watch_copy(alloc),
+        "read_doc" => watch_read_doc(alloc),
+        "read_docs" => watch_read_docs(alloc),
+        "read_too_deep" => watch_read_too_deep(alloc),
+        "write_doc" => watch_write_doc(alloc),
+        "write_text" => Some(watch_write_text(alloc)),
+        _ => return None,
+    })
 }
 
-#[test]
-fn copy(rt: HostRuntime) -> Result<(), Fail> {
-    tell(&rt, watch_copy(rt.alloc()))
+fn watch_copy(alloc: Global) -> Option<Seen> {
+    let docs = two_docs_of(alloc, [DOC, DOC])?;
+    let [doc, before] = &docs;
+    Some(Seen::of_doc(doc.copy(alloc), before).with(doc.same(before)))
 }
 
 fn watch_read_doc(alloc: Global) -> Option<Seen> {
@@ -28,25 +46,21 @@ fn watch_read_doc(alloc: Global) -> Option<Seen> {
     })
 }
 
-#[test]
-fn read_doc(rt: HostRuntime) -> Result<(), Fail> {
-    tell(&rt, watch_read_doc(rt.alloc()))
-}
-
 /// What is too deep is read before its depth is known.
 fn watch_read_too_deep(alloc: Global) -> Option<Seen> {
-    let mut text = "[".repeat(alloc, 127).ok()?;
-    text.push_str("]".repeat(alloc, 127).ok()?.as_str()).ok()?;
+    let text = too_deep_text(alloc)?;
     Some(match mp_tree::read_doc(alloc, text.as_bytes()) {
-        Err(ReadFault::TooDeep) => Seen::answer_if(true),
+        Err(ReadFault::TooDeep) => Seen::Answer,
         Err(ReadFault::OutOfMemory) => Seen::NoMemory,
         _ => Seen::Wrong,
     })
 }
 
-#[test]
-fn read_too_deep(rt: HostRuntime) -> Result<(), Fail> {
-    tell(&rt, watch_read_too_deep(rt.alloc()))
+fn too_deep_text(alloc: Global) -> Option<String> {
+    let mut text = "[".repeat(alloc, 127).ok()?;
+    let closing = "]".repeat(alloc, 127).ok()?;
+    text.push_str(closing.as_str()).ok()?;
+    Some(text)
 }
 
 fn watch_read_docs(alloc: Global) -> Option<Seen> {
@@ -58,24 +72,12 @@ fn watch_read_docs(alloc: Global) -> Option<Seen> {
     })
 }
 
-#[test]
-fn read_docs(rt: HostRuntime) -> Result<(), Fail> {
-    tell(&rt, watch_read_docs(rt.alloc()))
-}
-
 fn watch_write_doc(alloc: Global) -> Option<Seen> {
-    let doc = doc_of(alloc, DOC)?;
-    let before = doc_of(alloc, DOC)?;
-    Some(Seen::of_text(mp_tree::write_doc(alloc, &doc), TEXT).with(doc.same(&before)))
+    let docs = two_docs_of(alloc, [DOC, DOC])?;
+    let [doc, before] = &docs;
+    Some(Seen::of_text(mp_tree::write_doc(alloc, doc), TEXT).with(doc.same(before)))
 }
 
-#[test]
-fn write_doc(rt: HostRuntime) -> Result<(), Fail> {
-    tell(&rt, watch_write_doc(rt.alloc()))
-}
-
-#[test]
-fn write_text(rt: HostRuntime) -> Result<(), Fail> {
-    let given = mp_tree::write_text(rt.alloc(), "a\"b");
-    tell(&rt, Some(Seen::of_text(given, r#""a\"b""#)))
+fn watch_write_text(alloc: Global) -> Seen {
+    Seen::of_text(mp_tree::write_text(alloc, "a\"b"), r#""a\"b""#)
 }

@@ -1,11 +1,12 @@
 //! The calls of mp_patch that take memory.
-use crate::seen::{Seen, doc_of, has_tokens, pointer_of, tell};
+use crate::preparing::{doc_of, patch_of, pointer_of, three_docs_of, two_docs_of};
+use crate::seen::{Seen, has_tokens};
 use mp_patch::{ApplyFault, FormFault, JsonPatch, Op};
 use mp_tree::Doc;
 use std::alloc::Global;
-use std::test::Fail;
 
-const FORM: &str = r#"[{"op":"move","path":"/b","from":"/a"}]"#;
+/// A form of one operation.
+pub const FORM: &str = r#"[{"op":"move","path":"/b","from":"/a"}]"#;
 
 const VALUED_FORM: &str = r#"[{"op":"add","path":"/a","value":[5]}]"#;
 
@@ -17,8 +18,37 @@ const DOC: &str = r#"{"l":[1,2],"n":"t"}"#;
 
 const END: &str = r#"{"l":["t",{"x":[3]}],"m":1,"n":[null]}"#;
 
+/// The names that `watch` takes.
+pub const CALLS: &[&str] = &[
+    "apply",
+    "apply_once",
+    "apply_owned",
+    "fifth_push",
+    "from_doc",
+    "from_doc_owned",
+    "push",
+    "to_doc",
+    "write_patch",
+];
+
+/// Watches the call of this name, if there is one.
+pub fn watch(alloc: Global, name: &str) -> Option<Option<Seen>> {
+    Some(match name {
+        "apply" => watch_apply(alloc),
+        "apply_once" => watch_apply_once(alloc),
+        "apply_owned" => watch_apply_owned(alloc),
+        "fifth_push" => watch_fifth_push(alloc),
+        "from_doc" => watch_from_doc(alloc),
+        "from_doc_owned" => watch_from_doc_owned(alloc),
+        "push" => watch_push(alloc),
+        "to_doc" => watch_to_doc(alloc),
+        "write_patch" => watch_write_patch(alloc),
+        _ => return None,
+    })
+}
+
 /// Whether the patch is the one of `FORM`. It takes no memory.
-fn is_move(patch: &JsonPatch) -> bool {
+pub fn is_move(patch: &JsonPatch) -> bool {
     match patch.ops() {
         [Op::Move { origin, path }] => has_tokens(origin, &["a"]) && has_tokens(path, &["b"]),
         _ => false,
@@ -36,17 +66,17 @@ fn watch_push(alloc: Global) -> Option<Seen> {
     })
 }
 
-#[test]
-fn push(rt: HostRuntime) -> Result<(), Fail> {
-    tell(&rt, watch_push(rt.alloc()))
-}
-
-/// The same where the list has operations before.
-fn watch_fifth_push(alloc: Global) -> Option<Seen> {
+fn four_removals(alloc: Global) -> Option<JsonPatch> {
     let mut patch = JsonPatch::new(alloc);
     for text in ["/a", "/b", "/c", "/d"] {
         patch.push(Op::Remove(pointer_of(alloc, text)?)).ok()?;
     }
+    Some(patch)
+}
+
+/// The same where the list has operations before.
+fn watch_fifth_push(alloc: Global) -> Option<Seen> {
+    let mut patch = four_removals(alloc)?;
     let path = pointer_of(alloc, "/e")?;
     Some(match patch.push(Op::Remove(path)) {
         Ok(()) => Seen::answer_if(removes(&patch, &["a", "b", "c", "d", "e"])),
@@ -68,25 +98,15 @@ fn removes(patch: &JsonPatch, names: &[&str]) -> bool {
     true
 }
 
-#[test]
-fn fifth_push(rt: HostRuntime) -> Result<(), Fail> {
-    tell(&rt, watch_fifth_push(rt.alloc()))
-}
-
 fn watch_from_doc(alloc: Global) -> Option<Seen> {
-    let form = doc_of(alloc, FORM)?;
-    let before = doc_of(alloc, FORM)?;
-    let seen = match JsonPatch::from_doc(alloc, &form) {
+    let docs = two_docs_of(alloc, [FORM, FORM])?;
+    let [form, before] = &docs;
+    let seen = match JsonPatch::from_doc(alloc, form) {
         Ok(patch) => Seen::answer_if(is_move(&patch)),
         Err(FormFault::OutOfMemory) => Seen::NoMemory,
         Err(_) => Seen::Wrong,
     };
-    Some(seen.with(form.same(&before)))
-}
-
-#[test]
-fn from_doc(rt: HostRuntime) -> Result<(), Fail> {
-    tell(&rt, watch_from_doc(rt.alloc()))
+    Some(seen.with(form.same(before)))
 }
 
 /// Whether the patch is the one of `VALUED_FORM`. It takes no memory.
@@ -107,32 +127,22 @@ fn watch_from_doc_owned(alloc: Global) -> Option<Seen> {
     })
 }
 
-#[test]
-fn from_doc_owned(rt: HostRuntime) -> Result<(), Fail> {
-    tell(&rt, watch_from_doc_owned(rt.alloc()))
-}
-
 fn watch_to_doc(alloc: Global) -> Option<Seen> {
     let form = doc_of(alloc, LONG_FORM)?;
-    let patch = JsonPatch::from_doc(alloc, &form).ok()?;
+    let patch = patch_of(alloc, &form)?;
     Some(Seen::of_doc(patch.to_doc(alloc), &form))
-}
-
-#[test]
-fn to_doc(rt: HostRuntime) -> Result<(), Fail> {
-    tell(&rt, watch_to_doc(rt.alloc()))
 }
 
 fn watch_write_patch(alloc: Global) -> Option<Seen> {
     let form = doc_of(alloc, LONG_FORM)?;
-    let patch = JsonPatch::from_doc(alloc, &form).ok()?;
+    let patch = patch_of(alloc, &form)?;
     let text = mp_tree::write_doc(alloc, &form).ok()?;
     Some(Seen::of_text(mp_patch::write_patch(alloc, &patch), text.as_str()))
 }
 
-#[test]
-fn write_patch(rt: HostRuntime) -> Result<(), Fail> {
-    tell(&rt, watch_write_patch(rt.alloc()))
+fn long_patch(alloc: Global) -> Option<JsonPatch> {
+    let form = doc_of(alloc, LONG_FORM)?;
+    patch_of(alloc, &form)
 }
 
 fn of_application(given: Result<Doc, ApplyFault>, wanted: &Doc) -> Seen {
@@ -144,42 +154,23 @@ fn of_application(given: Result<Doc, ApplyFault>, wanted: &Doc) -> Seen {
 }
 
 fn watch_apply(alloc: Global) -> Option<Seen> {
-    let form = doc_of(alloc, LONG_FORM)?;
-    let patch = JsonPatch::from_doc(alloc, &form).ok()?;
-    let doc = doc_of(alloc, DOC)?;
-    let before = doc_of(alloc, DOC)?;
-    let end = doc_of(alloc, END)?;
-    let seen = of_application(mp_patch::apply(alloc, &doc, &patch), &end);
-    Some(seen.with(doc.same(&before)))
-}
-
-#[test]
-fn apply(rt: HostRuntime) -> Result<(), Fail> {
-    tell(&rt, watch_apply(rt.alloc()))
+    let patch = long_patch(alloc)?;
+    let docs = three_docs_of(alloc, [DOC, DOC, END])?;
+    let [doc, before, end] = &docs;
+    let seen = of_application(mp_patch::apply(alloc, doc, &patch), end);
+    Some(seen.with(doc.same(before)))
 }
 
 fn watch_apply_owned(alloc: Global) -> Option<Seen> {
-    let form = doc_of(alloc, LONG_FORM)?;
-    let patch = JsonPatch::from_doc(alloc, &form).ok()?;
+    let patch = long_patch(alloc)?;
     let doc = doc_of(alloc, DOC)?;
     let end = doc_of(alloc, END)?;
     Some(of_application(mp_patch::apply_owned(alloc, doc, &patch), &end))
 }
 
-#[test]
-fn apply_owned(rt: HostRuntime) -> Result<(), Fail> {
-    tell(&rt, watch_apply_owned(rt.alloc()))
-}
-
 fn watch_apply_once(alloc: Global) -> Option<Seen> {
-    let form = doc_of(alloc, LONG_FORM)?;
-    let patch = JsonPatch::from_doc(alloc, &form).ok()?;
+    let patch = long_patch(alloc)?;
     let doc = doc_of(alloc, DOC)?;
     let end = doc_of(alloc, END)?;
     Some(of_application(mp_patch::apply_once(alloc, doc, patch), &end))
-}
-
-#[test]
-fn apply_once(rt: HostRuntime) -> Result<(), Fail> {
-    tell(&rt, watch_apply_once(rt.alloc()))
 }

@@ -1,8 +1,21 @@
-//! Wrong bodies, which `checks/refused-growths` has to refuse.
-use crate::seen::{Seen, doc_of, tell};
+//! Wrong bodies, which `checks/refused-calls` has to refuse.
+use crate::preparing::{doc_of, two_docs_of};
+use crate::seen::Seen;
 use mp_tree::Doc;
 use std::alloc::{AllocError, Global};
-use std::test::Fail;
+
+/// The names that `watch` takes.
+pub const CALLS: &[&str] = &["gives_up", "hides_a_refusal", "takes_memory"];
+
+/// Watches the call of this name, if there is one.
+pub fn watch(alloc: Global, name: &str) -> Option<Option<Seen>> {
+    Some(match name {
+        "gives_up" => watch_give_up(alloc),
+        "hides_a_refusal" => watch_copy_or_null(alloc),
+        "takes_memory" => watch_same_as_copy(alloc),
+        _ => return None,
+    })
+}
 
 /// Hides a refusal: a document that can't be copied is null.
 fn copy_or_null(alloc: Global, doc: &Doc) -> Result<Doc, AllocError> {
@@ -24,31 +37,16 @@ fn watch_copy_or_null(alloc: Global) -> Option<Seen> {
     Some(Seen::of_doc(copy_or_null(alloc, &doc), &doc))
 }
 
-#[test]
-fn hides_a_refusal(rt: HostRuntime) -> Result<(), Fail> {
-    tell(&rt, watch_copy_or_null(rt.alloc()))
-}
-
 fn watch_same_as_copy(alloc: Global) -> Option<Seen> {
-    let doc = doc_of(alloc, "[[1]]")?;
-    let other = doc_of(alloc, "[[1]]")?;
-    Some(match same_as_copy(alloc, &doc, &other) {
+    let docs = two_docs_of(alloc, ["[[1]]", "[[1]]"])?;
+    let [doc, other] = &docs;
+    Some(match same_as_copy(alloc, doc, other) {
         Ok(same) => Seen::answer_if(same),
         Err(_) => Seen::NoMemory,
     })
 }
 
-#[test]
-fn takes_memory(rt: HostRuntime) -> Result<(), Fail> {
-    tell(&rt, watch_same_as_copy(rt.alloc()))
-}
-
 fn watch_give_up(alloc: Global) -> Option<Seen> {
     let doc = doc_of(alloc, "[[1]]")?;
     Some(Seen::of_doc(give_up(alloc, &doc), &doc))
-}
-
-#[test]
-fn gives_up(rt: HostRuntime) -> Result<(), Fail> {
-    tell(&rt, watch_give_up(rt.alloc()))
 }

@@ -1,8 +1,8 @@
 //! The calls of mp_pointer that take memory.
-use crate::seen::{Seen, has_tokens, pointer_of, tell};
+use crate::preparing::pointer_of;
+use crate::seen::{Seen, has_tokens};
 use mp_pointer::{Pointer, PointerFault};
 use std::alloc::Global;
-use std::test::Fail;
 
 const TEXT: &str = "/a~1b/~0";
 
@@ -10,14 +10,29 @@ const TOKENS: &[&str] = &["a/b", "~"];
 
 const LONGER: &[&str] = &["a/b", "~", "x/"];
 
-#[test]
-fn parse(rt: HostRuntime) -> Result<(), Fail> {
-    let seen = match Pointer::parse(rt.alloc(), TEXT) {
+/// The names that `watch` takes.
+pub const CALLS: &[&str] = &["child", "copy", "front", "parse", "print", "push", "under"];
+
+/// Watches the call of this name, if there is one.
+pub fn watch(alloc: Global, name: &str) -> Option<Option<Seen>> {
+    Some(match name {
+        "child" => watch_child(alloc),
+        "copy" => watch_copy(alloc),
+        "front" => watch_front(alloc),
+        "parse" => Some(watch_parse(alloc)),
+        "print" => watch_print(alloc),
+        "push" => watch_push(alloc),
+        "under" => watch_under(alloc),
+        _ => return None,
+    })
+}
+
+fn watch_parse(alloc: Global) -> Seen {
+    match Pointer::parse(alloc, TEXT) {
         Ok(pointer) => Seen::answer_if(has_tokens(&pointer, TOKENS)),
         Err(PointerFault::OutOfMemory) => Seen::NoMemory,
         Err(_) => Seen::Wrong,
-    };
-    tell(&rt, Some(seen))
+    }
 }
 
 fn watch_print(alloc: Global) -> Option<Seen> {
@@ -26,20 +41,10 @@ fn watch_print(alloc: Global) -> Option<Seen> {
     Some(Seen::of_text(given, TEXT).with(has_tokens(&pointer, TOKENS)))
 }
 
-#[test]
-fn print(rt: HostRuntime) -> Result<(), Fail> {
-    tell(&rt, watch_print(rt.alloc()))
-}
-
 fn watch_copy(alloc: Global) -> Option<Seen> {
     let pointer = pointer_of(alloc, TEXT)?;
     let given = pointer.copy(alloc);
     Some(Seen::of_pointer(given, TOKENS).with(has_tokens(&pointer, TOKENS)))
-}
-
-#[test]
-fn copy(rt: HostRuntime) -> Result<(), Fail> {
-    tell(&rt, watch_copy(rt.alloc()))
 }
 
 fn watch_child(alloc: Global) -> Option<Seen> {
@@ -48,19 +53,9 @@ fn watch_child(alloc: Global) -> Option<Seen> {
     Some(Seen::of_pointer(given, LONGER).with(has_tokens(&pointer, TOKENS)))
 }
 
-#[test]
-fn child(rt: HostRuntime) -> Result<(), Fail> {
-    tell(&rt, watch_child(rt.alloc()))
-}
-
 fn watch_under(alloc: Global) -> Option<Seen> {
     let pointer = pointer_of(alloc, TEXT)?;
     Some(Seen::of_pointer(pointer.under(alloc, "x/"), &["x/", "a/b", "~"]))
-}
-
-#[test]
-fn under(rt: HostRuntime) -> Result<(), Fail> {
-    tell(&rt, watch_under(rt.alloc()))
 }
 
 fn watch_front(alloc: Global) -> Option<Seen> {
@@ -72,11 +67,6 @@ fn watch_front(alloc: Global) -> Option<Seen> {
     Some(Seen::of_pointer(given, &["a/b"]).with(has_tokens(&pointer, TOKENS)))
 }
 
-#[test]
-fn front(rt: HostRuntime) -> Result<(), Fail> {
-    tell(&rt, watch_front(rt.alloc()))
-}
-
 /// After a refusal the pointer is what it was.
 fn watch_push(alloc: Global) -> Option<Seen> {
     let mut pointer = pointer_of(alloc, TEXT)?;
@@ -84,9 +74,4 @@ fn watch_push(alloc: Global) -> Option<Seen> {
         Ok(()) => Seen::answer_if(has_tokens(&pointer, LONGER)),
         Err(_) => Seen::NoMemory.with(has_tokens(&pointer, TOKENS)),
     })
-}
-
-#[test]
-fn push(rt: HostRuntime) -> Result<(), Fail> {
-    tell(&rt, watch_push(rt.alloc()))
 }

@@ -1,16 +1,48 @@
 //! The calls of mp_cli that take memory.
-use crate::seen::{Seen, tell};
+use crate::seen::Seen;
 use mp_cli::{Answer, Command, CommandFault, Counted, RunFault};
 use std::alloc::{AllocError, Global};
 use std::io;
 use std::io::Read;
-use std::test::Fail;
 
 /// Two patches with three clashes.
 const CLASHING: &[u8] =
     br#"[{"a":{"x":1,"y":[1]},"b":{},"c":0},{"a":{"x":2,"y":[1]},"b":null,"c":{"d":1}}]"#;
 
 const CONFLICT_LINE: &str = "conflict: patches 0 and 1 at \"/a/x\", \"/b\", \"/c\"\n";
+
+/// The names that `watch` takes.
+pub const CALLS: &[&str] = &[
+    "answer_to_a_bad_pointer",
+    "answer_to_get",
+    "answer_to_join",
+    "answer_to_merge",
+    "answer_to_patch",
+    "answer_to_replay",
+    "answer_to_rewrite",
+    "command_of",
+    "command_of_a_stranger",
+    "run",
+    "run_that_refuses",
+];
+
+/// Watches the call of this name, if there is one.
+pub fn watch(alloc: Global, name: &str) -> Option<Option<Seen>> {
+    Some(match name {
+        "answer_to_a_bad_pointer" => watch_answer_to_a_bad_pointer(alloc),
+        "answer_to_get" => watch_answer_to_get(alloc),
+        "answer_to_join" => Some(watch_answer_to_join(alloc)),
+        "answer_to_merge" => Some(watch_answer_to_merge(alloc)),
+        "answer_to_patch" => Some(watch_answer_to_patch(alloc)),
+        "answer_to_replay" => Some(watch_answer_to_replay(alloc)),
+        "answer_to_rewrite" => Some(watch_answer_to_rewrite(alloc)),
+        "command_of" => watch_command_of(alloc),
+        "command_of_a_stranger" => watch_command_of_a_stranger(alloc),
+        "run" => Some(watch_run(alloc)),
+        "run_that_refuses" => Some(watch_run_that_refuses(alloc)),
+        _ => return None,
+    })
+}
 
 fn words_of(alloc: Global, line: &str) -> Result<Vec<String>, AllocError> {
     let mut words = Vec::new(alloc);
@@ -29,11 +61,6 @@ fn watch_command_of(alloc: Global) -> Option<Seen> {
     })
 }
 
-#[test]
-fn command_of(rt: HostRuntime) -> Result<(), Fail> {
-    tell(&rt, watch_command_of(rt.alloc()))
-}
-
 fn watch_command_of_a_stranger(alloc: Global) -> Option<Seen> {
     let words = words_of(alloc, "mergejoin frob").ok()?;
     Some(match mp_cli::command_of(alloc, words) {
@@ -43,12 +70,7 @@ fn watch_command_of_a_stranger(alloc: Global) -> Option<Seen> {
     })
 }
 
-#[test]
-fn command_of_a_stranger(rt: HostRuntime) -> Result<(), Fail> {
-    tell(&rt, watch_command_of_a_stranger(rt.alloc()))
-}
-
-fn watch_answer(alloc: Global, command: &Command, input: &[u8], wanted: (&str, u8)) -> Seen {
+fn seen_answer(alloc: Global, command: &Command, input: &[u8], wanted: (&str, u8)) -> Seen {
     match mp_cli::answer(alloc, command, input) {
         Ok(Answer { text, status }) => Seen::answer_if((text.as_str(), status) == wanted),
         Err(_) => Seen::NoMemory,
@@ -58,74 +80,44 @@ fn watch_answer(alloc: Global, command: &Command, input: &[u8], wanted: (&str, u
 fn watch_answer_to_get(alloc: Global) -> Option<Seen> {
     let command = Command::Get(String::from_str(alloc, "/a~1b/1").ok()?);
     let input = br#"[{"a/b":[0,{"c":"text"}]}]"#;
-    Some(watch_answer(alloc, &command, input, ("{\"c\":\"text\"}\n", 0)))
-}
-
-#[test]
-fn answer_to_get(rt: HostRuntime) -> Result<(), Fail> {
-    tell(&rt, watch_answer_to_get(rt.alloc()))
+    Some(seen_answer(alloc, &command, input, ("{\"c\":\"text\"}\n", 0)))
 }
 
 fn watch_answer_to_a_bad_pointer(alloc: Global) -> Option<Seen> {
     let command = Command::Get(String::from_str(alloc, "/a~2").ok()?);
-    Some(watch_answer(alloc, &command, b"[5]", ("pointer: bad tilde at 2\n", 2)))
+    Some(seen_answer(alloc, &command, b"[5]", ("pointer: bad tilde at 2\n", 2)))
 }
 
-#[test]
-fn answer_to_a_bad_pointer(rt: HostRuntime) -> Result<(), Fail> {
-    tell(&rt, watch_answer_to_a_bad_pointer(rt.alloc()))
-}
-
-#[test]
-fn answer_to_patch(rt: HostRuntime) -> Result<(), Fail> {
+fn watch_answer_to_patch(alloc: Global) -> Seen {
     let input =
         br#"[{"a":1},[{"op":"add","path":"/b","value":2},{"op":"test","path":"/a","value":9}]]"#;
     let line = ("operation 1: test failed\n", 1);
-    tell(
-        &rt,
-        Some(watch_answer(rt.alloc(), &Command::Patch, input, line)),
-    )
+    seen_answer(alloc, &Command::Patch, input, line)
 }
 
-#[test]
-fn answer_to_merge(rt: HostRuntime) -> Result<(), Fail> {
+fn watch_answer_to_merge(alloc: Global) -> Seen {
     let input = br#"[{"a":"b","c":{"d":1}},{"a":null,"c":{"e":2}}]"#;
     let line = ("{\"c\":{\"d\":1,\"e\":2}}\n", 0);
-    tell(
-        &rt,
-        Some(watch_answer(rt.alloc(), &Command::Merge, input, line)),
-    )
+    seen_answer(alloc, &Command::Merge, input, line)
 }
 
-#[test]
-fn answer_to_join(rt: HostRuntime) -> Result<(), Fail> {
-    tell(
-        &rt,
-        Some(watch_answer(rt.alloc(), &Command::Join, CLASHING, (CONFLICT_LINE, 1))),
-    )
+fn watch_answer_to_join(alloc: Global) -> Seen {
+    seen_answer(alloc, &Command::Join, CLASHING, (CONFLICT_LINE, 1))
 }
 
-#[test]
-fn answer_to_replay(rt: HostRuntime) -> Result<(), Fail> {
+fn watch_answer_to_replay(alloc: Global) -> Seen {
     let input = br#"[{"k":0},{"k":null},{"a":{"y":null}},{"a":{"x":1}},{"k":null}]"#;
     let line = ("{\"a\":{\"x\":1}}\n", 0);
-    tell(
-        &rt,
-        Some(watch_answer(rt.alloc(), &Command::Replay, input, line)),
-    )
+    seen_answer(alloc, &Command::Replay, input, line)
 }
 
-#[test]
-fn answer_to_rewrite(rt: HostRuntime) -> Result<(), Fail> {
+fn watch_answer_to_rewrite(alloc: Global) -> Seen {
     let input = br#"[{"a":1,"b":2},{"a":null,"b":3}]"#;
     let line = (
         "[{\"op\":\"test\",\"path\":\"/a\",\"value\":1},{\"op\":\"test\",\"path\":\"/b\",\"value\":2},{\"op\":\"remove\",\"path\":\"/a\"},{\"op\":\"replace\",\"path\":\"/b\",\"value\":3}]\n",
         0,
     );
-    tell(
-        &rt,
-        Some(watch_answer(rt.alloc(), &Command::Rewrite, input, line)),
-    )
+    seen_answer(alloc, &Command::Rewrite, input, line)
 }
 
 /// A reader of `[5`, spaces and `]`, of 1,048,576 bytes in all, that takes no memory.
@@ -152,7 +144,7 @@ impl Read for Padded {
 
 /// A run into two rooms, which take no memory: where it gives a status, the line whole in that room and nothing in
 /// the other; where memory is wanted, nothing in either.
-fn watch_run<R: Read + Drop>(
+fn seen_run<R: Read + Drop>(
     alloc: Global,
     command: &Command,
     reader: R,
@@ -180,14 +172,10 @@ fn watch_run<R: Read + Drop>(
     .with(other == 0)
 }
 
-#[test]
-fn run(rt: HostRuntime) -> Result<(), Fail> {
-    let seen = watch_run(rt.alloc(), &Command::Merge, Padded { given: 0 }, "5\n", 0);
-    tell(&rt, Some(seen))
+fn watch_run(alloc: Global) -> Seen {
+    seen_run(alloc, &Command::Merge, Padded { given: 0 }, "5\n", 0)
 }
 
-#[test]
-fn run_that_refuses(rt: HostRuntime) -> Result<(), Fail> {
-    let seen = watch_run(rt.alloc(), &Command::Join, CLASHING, CONFLICT_LINE, 1);
-    tell(&rt, Some(seen))
+fn watch_run_that_refuses(alloc: Global) -> Seen {
+    seen_run(alloc, &Command::Join, CLASHING, CONFLICT_LINE, 1)
 }

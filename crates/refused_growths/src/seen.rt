@@ -1,12 +1,10 @@
-//! What a test saw, and the line that it prints of it.
+//! What was seen of a call, and the line of it.
 use mp_pointer::Pointer;
-use mp_tree::{Doc, read_doc, read_docs};
-use std::alloc::{AllocError, Global};
-use std::process::Abort;
-use std::test::Fail;
+use mp_tree::Doc;
+use std::alloc::AllocError;
 
 /// What was seen of a call.
-#[derive(Clone, Copy, Debug, PartialEq, Eq)]
+#[derive(Clone, Copy, PartialEq, Eq)]
 pub enum Seen {
     /// The answer that is wanted of it.
     Answer,
@@ -52,17 +50,14 @@ impl Seen {
     }
 }
 
-/// Prints what was seen. `None` is: memory for what the test prepares was refused.
-pub fn tell(rt: &(impl Print + Abort), seen: Option<Seen>) -> Result<(), Fail> {
-    let line = match seen {
+/// The line of what was seen. `None` is: memory for what the call is given was refused.
+pub fn line_of(seen: Option<Seen>) -> &'static str {
+    match seen {
         Some(Seen::Answer) => "answer",
         Some(Seen::NoMemory) => "want of memory",
         Some(Seen::Wrong) => "wrong",
         None => "unprepared",
-    };
-    rt.println(line)?;
-    assert!(rt; seen != Some(Seen::Wrong));
-    Ok(())
+    }
 }
 
 /// Whether these are the pointer's tokens. It takes no memory.
@@ -102,16 +97,4 @@ pub fn are_same(docs: &[Doc], others: &[Doc]) -> bool {
         }
     }
     true
-}
-
-pub fn doc_of(alloc: Global, text: &str) -> Option<Doc> {
-    read_doc(alloc, text.as_bytes()).ok()
-}
-
-pub fn docs_of(alloc: Global, text: &str) -> Option<Vec<Doc>> {
-    read_docs(alloc, text.as_bytes()).ok()
-}
-
-pub fn pointer_of(alloc: Global, text: &str) -> Option<Pointer> {
-    Pointer::parse(alloc, text).ok()
 }

@@ -1,10 +1,10 @@
 //! The calls of mp_texts, which all take memory.
-use crate::seen::{Seen, are_pointers, pointer_of, tell};
+use crate::preparing::two_pointers_of;
+use crate::seen::{Seen, are_pointers};
 use mp_merge::ListFault;
 use mp_texts::TextsFault;
 use mp_tree::ReadFault;
 use std::alloc::Global;
-use std::test::Fail;
 
 const START: &str = r#"{"a":5,"k":0}"#;
 
@@ -29,6 +29,35 @@ const ONE: &str = r#"{"a":{"x":1,"y":[1]},"b":{},"c":0}"#;
 const OTHER: &str = r#"{"a":{"x":2,"y":[1]},"b":null,"c":{"d":1}}"#;
 
 const PLACES: &[&[&str]] = &[&["a", "x"], &["b"], &["c"]];
+
+/// The names that `watch` takes.
+pub const CALLS: &[&str] = &[
+    "join_texts",
+    "join_texts_of_an_unread",
+    "join_texts_of_clashing",
+    "merge_texts",
+    "part_text",
+    "patch_text",
+    "replay_texts",
+    "rewrite_text",
+    "write_places",
+];
+
+/// Watches the call of this name, if there is one.
+pub fn watch(alloc: Global, name: &str) -> Option<Option<Seen>> {
+    Some(match name {
+        "join_texts" => watch_join_texts(alloc),
+        "join_texts_of_an_unread" => watch_join_texts_of_an_unread(alloc),
+        "join_texts_of_clashing" => watch_join_texts_of_clashing(alloc),
+        "merge_texts" => watch_merge_texts(alloc),
+        "part_text" => watch_part_text(alloc),
+        "patch_text" => watch_patch_text(alloc),
+        "replay_texts" => watch_replay_texts(alloc),
+        "rewrite_text" => watch_rewrite_text(alloc),
+        "write_places" => watch_write_places(alloc),
+        _ => return None,
+    })
+}
 
 /// Of a call that gives a text.
 fn seen_text(given: Result<String, TextsFault>, wanted: &str) -> Seen {
@@ -61,19 +90,9 @@ fn watch_join_texts(alloc: Global) -> Option<Seen> {
     Some(seen_text(mp_texts::join_texts(alloc, &patches), JOIN))
 }
 
-#[test]
-fn join_texts(rt: HostRuntime) -> Result<(), Fail> {
-    tell(&rt, watch_join_texts(rt.alloc()))
-}
-
 fn watch_join_texts_of_clashing(alloc: Global) -> Option<Seen> {
     let patches = [ONE.as_bytes(), OTHER.as_bytes()];
     Some(seen_clash(mp_texts::join_texts(alloc, &patches)))
-}
-
-#[test]
-fn join_texts_of_clashing(rt: HostRuntime) -> Result<(), Fail> {
-    tell(&rt, watch_join_texts_of_clashing(rt.alloc()))
 }
 
 fn watch_join_texts_of_an_unread(alloc: Global) -> Option<Seen> {
@@ -87,20 +106,10 @@ fn watch_join_texts_of_an_unread(alloc: Global) -> Option<Seen> {
     })
 }
 
-#[test]
-fn join_texts_of_an_unread(rt: HostRuntime) -> Result<(), Fail> {
-    tell(&rt, watch_join_texts_of_an_unread(rt.alloc()))
-}
-
 fn watch_replay_texts(alloc: Global) -> Option<Seen> {
     let patches = [K.as_bytes(), Y.as_bytes(), X.as_bytes()];
     let given = mp_texts::replay_texts(alloc, START.as_bytes(), &patches);
     Some(seen_text(given, OUTCOME))
-}
-
-#[test]
-fn replay_texts(rt: HostRuntime) -> Result<(), Fail> {
-    tell(&rt, watch_replay_texts(rt.alloc()))
 }
 
 fn watch_merge_texts(alloc: Global) -> Option<Seen> {
@@ -109,19 +118,9 @@ fn watch_merge_texts(alloc: Global) -> Option<Seen> {
     Some(seen_text(given, OUTCOME))
 }
 
-#[test]
-fn merge_texts(rt: HostRuntime) -> Result<(), Fail> {
-    tell(&rt, watch_merge_texts(rt.alloc()))
-}
-
 fn watch_rewrite_text(alloc: Global) -> Option<Seen> {
     let given = mp_texts::rewrite_text(alloc, START.as_bytes(), JOIN.as_bytes());
     Some(seen_text(given, EDITS))
-}
-
-#[test]
-fn rewrite_text(rt: HostRuntime) -> Result<(), Fail> {
-    tell(&rt, watch_rewrite_text(rt.alloc()))
 }
 
 fn watch_patch_text(alloc: Global) -> Option<Seen> {
@@ -129,28 +128,13 @@ fn watch_patch_text(alloc: Global) -> Option<Seen> {
     Some(seen_text(given, OUTCOME))
 }
 
-#[test]
-fn patch_text(rt: HostRuntime) -> Result<(), Fail> {
-    tell(&rt, watch_patch_text(rt.alloc()))
-}
-
 fn watch_part_text(alloc: Global) -> Option<Seen> {
     let given = mp_texts::part_text(alloc, ONE.as_bytes(), "/a/y");
     Some(seen_text(given, "[1]"))
 }
 
-#[test]
-fn part_text(rt: HostRuntime) -> Result<(), Fail> {
-    tell(&rt, watch_part_text(rt.alloc()))
-}
-
 fn watch_write_places(alloc: Global) -> Option<Seen> {
-    let places = [pointer_of(alloc, "/a~1b/c")?, pointer_of(alloc, "/d")?];
+    let places = two_pointers_of(alloc, ["/a~1b/c", "/d"])?;
     let given = mp_texts::write_places(alloc, &places);
     Some(Seen::of_text(given, r#"["/a~1b/c","/d"]"#))
-}
-
-#[test]
-fn write_places(rt: HostRuntime) -> Result<(), Fail> {
-    tell(&rt, watch_write_places(rt.alloc()))
 }

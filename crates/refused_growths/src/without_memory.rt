@@ -1,30 +1,80 @@
 //! The calls that take no memory.
-use crate::seen::{Seen, doc_of, docs_of, has_tokens, pointer_of, tell};
+use crate::patches::{FORM, is_move};
+use crate::preparing::{
+    doc_of, docs_of, patch_of, pointer_of, three_docs_of, two_docs_of, two_pointers_of,
+};
+use crate::seen::{Seen, has_tokens};
 use mp_cli::{Counted, RunFault};
-use mp_patch::{JsonPatch, Op};
+use mp_patch::JsonPatch;
 use mp_pointer::Pointer;
 use mp_tree::{Doc, Whole};
 use std::alloc::Global;
 use std::mem;
-use std::test::Fail;
 
-#[test]
-fn whole(rt: HostRuntime) -> Result<(), Fail> {
+/// The names that `watch` takes.
+pub const CALLS: &[&str] = &[
+    "compatible",
+    "counted_devices",
+    "edit_part",
+    "empty",
+    "fault_line",
+    "fits",
+    "get",
+    "get_mut",
+    "index_of",
+    "items_mut",
+    "members_mut",
+    "merge_into",
+    "new_patch",
+    "ops",
+    "pop",
+    "same",
+    "tokens",
+    "whole",
+];
+
+/// Watches the call of this name, if there is one.
+pub fn watch(alloc: Global, name: &str) -> Option<Option<Seen>> {
+    Some(match name {
+        "compatible" => watch_compatible(alloc),
+        "counted_devices" => Some(watch_counted_devices()),
+        "edit_part" => watch_edit_part(alloc),
+        "empty" => Some(watch_empty(alloc)),
+        "fault_line" => Some(watch_fault_line()),
+        "fits" => watch_fits(alloc),
+        "get" => watch_get(alloc),
+        "get_mut" => watch_get_mut(alloc),
+        "index_of" => Some(watch_index_of()),
+        "items_mut" => watch_items_mut(alloc),
+        "members_mut" => watch_members_mut(alloc),
+        "merge_into" => watch_merge_into(alloc),
+        "new_patch" => Some(watch_new_patch(alloc)),
+        "ops" => watch_ops(alloc),
+        "pop" => watch_pop(alloc),
+        "same" => watch_same(alloc),
+        "tokens" => watch_tokens(alloc),
+        "whole" => Some(watch_whole()),
+        _ => return None,
+    })
+}
+
+fn watch_whole() -> Seen {
     let least = Whole::from_i64(i64::MIN).value() == -9_223_372_036_854_775_808;
     let greatest = Whole::from_u64(u64::MAX).value() == 18_446_744_073_709_551_615;
-    tell(&rt, Some(Seen::answer_if(least && greatest)))
+    Seen::answer_if(least && greatest)
 }
 
 fn watch_same(alloc: Global) -> Option<Seen> {
-    let doc = doc_of(alloc, r#"{"b":[1,"t"],"a":null}"#)?;
-    let equal = doc_of(alloc, r#"{"a":null,"b":[1,"t"]}"#)?;
-    let other = doc_of(alloc, r#"{"a":null,"b":[1,"u"]}"#)?;
-    Some(Seen::answer_if(doc.same(&equal) && !doc.same(&other)))
-}
-
-#[test]
-fn same(rt: HostRuntime) -> Result<(), Fail> {
-    tell(&rt, watch_same(rt.alloc()))
+    let docs = three_docs_of(
+        alloc,
+        [
+            r#"{"b":[1,"t"],"a":null}"#,
+            r#"{"a":null,"b":[1,"t"]}"#,
+            r#"{"a":null,"b":[1,"u"]}"#,
+        ],
+    )?;
+    let [doc, equal, other] = &docs;
+    Some(Seen::answer_if(doc.same(equal) && !doc.same(other)))
 }
 
 fn watch_fits(alloc: Global) -> Option<Seen> {
@@ -32,62 +82,59 @@ fn watch_fits(alloc: Global) -> Option<Seen> {
     Some(Seen::answer_if(doc.fits(1) && !doc.fits(0)))
 }
 
-#[test]
-fn fits(rt: HostRuntime) -> Result<(), Fail> {
-    tell(&rt, watch_fits(rt.alloc()))
+/// Turns the array round, and tells whether it is one.
+fn reverse(doc: &mut Doc) -> bool {
+    match mp_tree::items_mut(doc) {
+        Some(items) => {
+            items.reverse();
+            true
+        }
+        None => false,
+    }
 }
 
 fn watch_items_mut(alloc: Global) -> Option<Seen> {
     let mut doc = doc_of(alloc, "[1,2]")?;
     let wanted = doc_of(alloc, "[2,1]")?;
-    match mp_tree::items_mut(&mut doc) {
-        Some(items) => items.reverse(),
-        None => return Some(Seen::Wrong),
-    }
-    Some(Seen::answer_if(doc.same(&wanted)))
+    Some(Seen::answer_if(reverse(&mut doc) && doc.same(&wanted)))
 }
 
-#[test]
-fn items_mut(rt: HostRuntime) -> Result<(), Fail> {
-    tell(&rt, watch_items_mut(rt.alloc()))
+/// Takes a member away, and tells whether it was there.
+fn remove(doc: &mut Doc, name: &str) -> bool {
+    match mp_tree::members_mut(doc) {
+        Some(members) => members.remove(name).is_some(),
+        None => false,
+    }
 }
 
 fn watch_members_mut(alloc: Global) -> Option<Seen> {
     let mut doc = doc_of(alloc, r#"{"a":1,"b":2}"#)?;
     let wanted = doc_of(alloc, r#"{"b":2}"#)?;
-    match mp_tree::members_mut(&mut doc) {
-        Some(members) => drop(members.remove("a")),
-        None => return Some(Seen::Wrong),
-    }
-    Some(Seen::answer_if(doc.same(&wanted)))
+    Some(Seen::answer_if(remove(&mut doc, "a") && doc.same(&wanted)))
 }
 
-#[test]
-fn members_mut(rt: HostRuntime) -> Result<(), Fail> {
-    tell(&rt, watch_members_mut(rt.alloc()))
-}
-
-#[test]
-fn empty(rt: HostRuntime) -> Result<(), Fail> {
-    let seen = Seen::answer_if(Pointer::empty(rt.alloc()).is_empty());
-    tell(&rt, Some(seen))
+fn watch_empty(alloc: Global) -> Seen {
+    Seen::answer_if(Pointer::empty(alloc).is_empty())
 }
 
 /// `len`, `token`, `is_proper_prefix_of` and `==`.
 fn watch_tokens(alloc: Global) -> Option<Seen> {
     let short = pointer_of(alloc, "/a")?;
-    let long = pointer_of(alloc, "/a/b")?;
-    let beside = pointer_of(alloc, "/ab")?;
-    let prefix = short.is_proper_prefix_of(&long);
-    let others = short.is_proper_prefix_of(&short) || short.is_proper_prefix_of(&beside);
-    let tokens = has_tokens(&long, &["a", "b"]) && long.token(2).is_none();
-    let equal = short == short && short != long && short != beside;
-    Some(Seen::answer_if(prefix && !others && tokens && equal))
+    let pointers = two_pointers_of(alloc, ["/a/b", "/ab"])?;
+    let [long, beside] = &pointers;
+    let tokens = has_tokens(long, &["a", "b"]) && long.token(2).is_none();
+    Some(Seen::answer_if(
+        tokens && is_prefix_of_one(&short, long, beside) && equals_itself(&short, long, beside),
+    ))
 }
 
-#[test]
-fn tokens(rt: HostRuntime) -> Result<(), Fail> {
-    tell(&rt, watch_tokens(rt.alloc()))
+fn is_prefix_of_one(short: &Pointer, long: &Pointer, beside: &Pointer) -> bool {
+    let others = short.is_proper_prefix_of(short) || short.is_proper_prefix_of(beside);
+    short.is_proper_prefix_of(long) && !others
+}
+
+fn equals_itself(pointer: &Pointer, other: &Pointer, another: &Pointer) -> bool {
+    pointer == pointer && pointer != other && pointer != another
 }
 
 fn watch_pop(alloc: Global) -> Option<Seen> {
@@ -96,53 +143,44 @@ fn watch_pop(alloc: Global) -> Option<Seen> {
     Some(Seen::answer_if(has_tokens(&pointer, &["a"])))
 }
 
-#[test]
-fn pop(rt: HostRuntime) -> Result<(), Fail> {
-    tell(&rt, watch_pop(rt.alloc()))
-}
-
-#[test]
-fn index_of(rt: HostRuntime) -> Result<(), Fail> {
+fn watch_index_of() -> Seen {
     let mut holds = mp_pointer::index_of("0") == Some(0) && mp_pointer::index_of("10") == Some(10);
     for token in ["01", "", "-", "+1"] {
         holds = holds && mp_pointer::index_of(token).is_none();
     }
-    tell(&rt, Some(Seen::answer_if(holds)))
+    Seen::answer_if(holds)
 }
 
 fn watch_get(alloc: Global) -> Option<Seen> {
-    let doc = doc_of(alloc, r#"{"a":[1,2]}"#)?;
-    let one = pointer_of(alloc, "/a/1")?;
-    let two = pointer_of(alloc, "/a/2")?;
-    let wanted = doc_of(alloc, "2")?;
-    let found = match mp_pointer::get(&doc, &one) {
-        Some(part) => part.same(&wanted),
+    let docs = two_docs_of(alloc, [r#"{"a":[1,2]}"#, "2"])?;
+    let pointers = two_pointers_of(alloc, ["/a/1", "/a/2"])?;
+    let [doc, wanted] = &docs;
+    let [within, past] = &pointers;
+    let found = match mp_pointer::get(doc, within) {
+        Some(part) => part.same(wanted),
         None => false,
     };
-    Some(Seen::answer_if(found && mp_pointer::get(&doc, &two).is_none()))
-}
-
-#[test]
-fn get(rt: HostRuntime) -> Result<(), Fail> {
-    tell(&rt, watch_get(rt.alloc()))
+    Some(Seen::answer_if(found && mp_pointer::get(doc, past).is_none()))
 }
 
 fn watch_get_mut(alloc: Global) -> Option<Seen> {
     let mut doc = doc_of(alloc, r#"{"a":[1,2]}"#)?;
-    let one = pointer_of(alloc, "/a/1")?;
-    let two = pointer_of(alloc, "/a/2")?;
     let wanted = doc_of(alloc, r#"{"a":[1,9]}"#)?;
-    match mp_pointer::get_mut(&mut doc, &one) {
-        Some(part) => *part = Doc::Whole(Whole::from_u64(9)),
-        None => return Some(Seen::Wrong),
-    }
-    let absent = mp_pointer::get_mut(&mut doc, &two).is_none();
-    Some(Seen::answer_if(absent && doc.same(&wanted)))
+    let pointers = two_pointers_of(alloc, ["/a/1", "/a/2"])?;
+    let [within, past] = &pointers;
+    let holds = set_to_nine(&mut doc, within) && !set_to_nine(&mut doc, past);
+    Some(Seen::answer_if(holds && doc.same(&wanted)))
 }
 
-#[test]
-fn get_mut(rt: HostRuntime) -> Result<(), Fail> {
-    tell(&rt, watch_get_mut(rt.alloc()))
+/// Puts 9 where the pointer leads, and tells whether it leads anywhere.
+fn set_to_nine(doc: &mut Doc, pointer: &Pointer) -> bool {
+    match mp_pointer::get_mut(doc, pointer) {
+        Some(part) => {
+            *part = Doc::Whole(Whole::from_u64(9));
+            true
+        }
+        None => false,
+    }
 }
 
 fn watch_edit_part(alloc: Global) -> Option<Seen> {
@@ -161,31 +199,14 @@ fn watch_edit_part(alloc: Global) -> Option<Seen> {
     })
 }
 
-#[test]
-fn edit_part(rt: HostRuntime) -> Result<(), Fail> {
-    tell(&rt, watch_edit_part(rt.alloc()))
-}
-
-#[test]
-fn new_patch(rt: HostRuntime) -> Result<(), Fail> {
-    let seen = Seen::answer_if(JsonPatch::new(rt.alloc()).ops().is_empty());
-    tell(&rt, Some(seen))
+fn watch_new_patch(alloc: Global) -> Seen {
+    Seen::answer_if(JsonPatch::new(alloc).ops().is_empty())
 }
 
 fn watch_ops(alloc: Global) -> Option<Seen> {
-    let form = doc_of(alloc, r#"[{"op":"move","path":"/b","from":"/a"}]"#)?;
-    let patch = JsonPatch::from_doc(alloc, &form).ok()?;
-    Some(match patch.ops() {
-        [Op::Move { origin, path }] => {
-            Seen::answer_if(has_tokens(origin, &["a"]) && has_tokens(path, &["b"]))
-        }
-        _ => Seen::Wrong,
-    })
-}
-
-#[test]
-fn ops(rt: HostRuntime) -> Result<(), Fail> {
-    tell(&rt, watch_ops(rt.alloc()))
+    let form = doc_of(alloc, FORM)?;
+    let patch = patch_of(alloc, &form)?;
+    Some(Seen::answer_if(is_move(&patch)))
 }
 
 fn watch_compatible(alloc: Global) -> Option<Seen> {
@@ -197,29 +218,18 @@ fn watch_compatible(alloc: Global) -> Option<Seen> {
     Some(Seen::answer_if(joinable && !mp_merge::compatible(p, other)))
 }
 
-#[test]
-fn compatible(rt: HostRuntime) -> Result<(), Fail> {
-    tell(&rt, watch_compatible(rt.alloc()))
-}
-
 /// An object of nulls and objects alone, into a target that has an object wherever the patch has one.
 fn watch_merge_into(alloc: Global) -> Option<Seen> {
     let mut target = doc_of(alloc, r#"{"a":{"x":[1],"y":2},"k":0}"#)?;
-    let patch = doc_of(alloc, r#"{"a":{"x":null}}"#)?;
-    let wanted = doc_of(alloc, r#"{"a":{"y":2},"k":0}"#)?;
-    Some(match mp_merge::merge_into(alloc, &mut target, &patch) {
-        Ok(()) => Seen::answer_if(target.same(&wanted)),
+    let docs = two_docs_of(alloc, [r#"{"a":{"x":null}}"#, r#"{"a":{"y":2},"k":0}"#])?;
+    let [patch, wanted] = &docs;
+    Some(match mp_merge::merge_into(alloc, &mut target, patch) {
+        Ok(()) => Seen::answer_if(target.same(wanted)),
         Err(_) => Seen::NoMemory,
     })
 }
 
-#[test]
-fn merge_into(rt: HostRuntime) -> Result<(), Fail> {
-    tell(&rt, watch_merge_into(rt.alloc()))
-}
-
-#[test]
-fn fault_line(rt: HostRuntime) -> Result<(), Fail> {
+fn watch_fault_line() -> Seen {
     let mut holds = true;
     for (fault, line) in [
         (RunFault::ReadFailed, ("read failed", 3)),
@@ -229,16 +239,12 @@ fn fault_line(rt: HostRuntime) -> Result<(), Fail> {
     ] {
         holds = holds && mp_cli::fault_line(&fault) == line;
     }
-    tell(&rt, Some(Seen::answer_if(holds)))
+    Seen::answer_if(holds)
 }
 
 /// `Counted::new`, `calls`, `failures`, `bytes` and `into_device`.
-#[test]
-fn counted_devices(rt: HostRuntime) -> Result<(), Fail> {
+fn watch_counted_devices() -> Seen {
     let input = Counted::new(5);
     let counts = input.calls() == 0 && input.failures() == 0 && input.bytes() == 0;
-    tell(
-        &rt,
-        Some(Seen::answer_if(counts && input.into_device() == 5)),
-    )
+    Seen::answer_if(counts && input.into_device() == 5)
 }

@@ -1,8 +1,10 @@
 //! Worked values of the promise run: lists in several orders and with repeats, the first refusal, and the texts of the faults.
-use crate::written::is_text;
-use mp_merge::{ConvergeFault, ListFault, converge};
+use crate::written::{gives, holds, is_text, says};
+use mp_merge::{ConvergeFault, Converged, ListFault, converge};
 use mp_patch::{Cause, apply};
 use mp_tree::{Doc, read_doc, read_docs};
+use std::alloc::Global;
+use std::process::Abort;
 use std::test::Fail;
 
 /// A start, what two replicas receive, the document that both show, and the join of the patches.
@@ -26,20 +28,39 @@ const REPLICAS: &[Replicas] = &[
     ("7", "[null,null]", "[null]", "null", "null"),
 ];
 
+/// The start, and what the replicas converge to.
+fn converged(alloc: Global, row: &Replicas) -> Result<(Doc, Converged), Fail> {
+    let (start, here, there, ..) = row;
+    let start = read_doc(alloc, start.as_bytes())?;
+    let here = read_docs(alloc, here.as_bytes())?;
+    let there = read_docs(alloc, there.as_bytes())?;
+    let end = converge(alloc, &start, here.as_slice(), there.as_slice())?;
+    Ok((start, end))
+}
+
+fn check_row<R: Abort + AllocGlobal>(rt: &R, row: &Replicas) -> Result<(), Fail> {
+    let (.., document, join) = row;
+    let (start, end) = converged(rt.alloc(), row)?;
+    show(
+        rt,
+        &[&end.here, &end.there, &end.merged, &end.patched],
+        document,
+    )?;
+    show(rt, &[&end.joined_here, &end.joined_there], join)?;
+    gives(rt, apply(rt.alloc(), &start, &end.edits), document)
+}
+
+fn show<R: Abort + AllocGlobal>(rt: &R, docs: &[&Doc], wanted: &str) -> Result<(), Fail> {
+    for doc in docs {
+        is_text(rt, doc, wanted)?;
+    }
+    Ok(())
+}
+
 #[test]
 fn replicas_converge_by_each_way(rt: HostRuntime) -> Result<(), Fail> {
-    for (start, here, there, document, join) in REPLICAS {
-        let start = read_doc(rt.alloc(), start.as_bytes())?;
-        let here = read_docs(rt.alloc(), here.as_bytes())?;
-        let there = read_docs(rt.alloc(), there.as_bytes())?;
-        let end = converge(rt.alloc(), &start, here.as_slice(), there.as_slice())?;
-        for doc in [&end.here, &end.there, &end.merged, &end.patched] {
-            is_text(&rt, doc, document)?;
-        }
-        for joined in [&end.joined_here, &end.joined_there] {
-            is_text(&rt, joined, join)?;
-        }
-        is_text(&rt, &apply(rt.alloc(), &start, &end.edits)?, document)?;
+    for row in REPLICAS {
+        check_row(&rt, row)?;
     }
     Ok(())
 }
@@ -56,32 +77,35 @@ const REFUSED: &[(&str, &str, &str)] = &[
     (r#"[{"a":1}]"#, "[]", "no patches"),
 ];
 
+/// Why the replicas do not converge, if they do not.
+fn refusal_of(alloc: Global, here: &str, there: &str) -> Result<Option<ConvergeFault>, Fail> {
+    let here = read_docs(alloc, here.as_bytes())?;
+    let there = read_docs(alloc, there.as_bytes())?;
+    Ok(converge(alloc, &Doc::Null, here.as_slice(), there.as_slice()).err())
+}
+
 #[test]
 fn the_first_refusal_is_told(rt: HostRuntime) -> Result<(), Fail> {
     for (here, there, wanted) in REFUSED {
-        let here = read_docs(rt.alloc(), here.as_bytes())?;
-        let there = read_docs(rt.alloc(), there.as_bytes())?;
-        let Err(fault) = converge(rt.alloc(), &Doc::Null, here.as_slice(), there.as_slice()) else {
-            assert!(rt; false, "{wanted}");
-            return Ok(());
-        };
-        let text = format!(in rt.alloc(); "{fault}")?;
-        assert_eq!(rt; text.as_str(), *wanted);
+        match refusal_of(rt.alloc(), here, there)? {
+            Some(fault) => says(&rt, &fault, wanted)?,
+            None => holds(&rt, false, wanted),
+        }
     }
     Ok(())
 }
 
 #[test]
 fn faults_of_convergence_have_texts(rt: HostRuntime) -> Result<(), Fail> {
-    let lists = format!(in rt.alloc(); "{}", ConvergeFault::Lists(ListFault::NoPatches))?;
-    assert_eq!(rt; lists.as_str(), "no patches");
+    says(
+        &rt,
+        &ConvergeFault::Lists(ListFault::NoPatches),
+        "no patches",
+    )?;
     let refused = ConvergeFault::Patch {
         op: 1,
         cause: Cause::Missing,
     };
-    let refused = format!(in rt.alloc(); "{refused}")?;
-    assert_eq!(rt; refused.as_str(), "operation 1: missing");
-    let memory = format!(in rt.alloc(); "{}", ConvergeFault::OutOfMemory)?;
-    assert_eq!(rt; memory.as_str(), "out of memory");
-    Ok(())
+    says(&rt, &refused, "operation 1: missing")?;
+    says(&rt, &ConvergeFault::OutOfMemory, "out of memory")
 }

@@ -1,11 +1,13 @@
 //! Worked values: operations on documents, forms, and the texts of the faults.
+use crate::written::{equal, gives, holds, is_text, says};
 use mp_patch::{
     ApplyFault, Cause, FormCause, FormFault, JsonPatch, Op, apply, apply_once, apply_owned,
     write_patch,
 };
 use mp_pointer::Pointer;
-use mp_tree::{Doc, read_doc, write_doc};
+use mp_tree::{Doc, read_doc};
 use std::alloc::{AllocError, Global};
+use std::fmt::Display;
 use std::process::Abort;
 use std::test::Fail;
 
@@ -124,11 +126,6 @@ const FORM_CAUSES: &[(FormCause, &str)] = &[
     (FormCause::NoValue, "no value"),
 ];
 
-fn check_text<R: Abort + AllocGlobal>(rt: &R, doc: &Doc, text: &str) {
-    let written = write_doc(rt.alloc(), doc).expect(rt, "memory for a text");
-    assert_eq!(rt; written.as_str(), text);
-}
-
 // So many lists, one in another.
 fn nested_doc(alloc: Global, count: u8) -> Result<Doc, AllocError> {
     let mut doc = Doc::Items(Vec::new(alloc));
@@ -140,34 +137,67 @@ fn nested_doc(alloc: Global, count: u8) -> Result<Doc, AllocError> {
     Ok(doc)
 }
 
+fn patch_of(alloc: Global, form: &str) -> Result<JsonPatch, Fail> {
+    Ok(JsonPatch::from_doc(alloc, &read_doc(alloc, form.as_bytes())?)?)
+}
+
+fn check_applied<R: Abort + AllocGlobal>(
+    rt: &R,
+    start: &str,
+    form: &str,
+    wanted: &str,
+) -> Result<(), Fail> {
+    let doc = read_doc(rt.alloc(), start.as_bytes())?;
+    let patch = patch_of(rt.alloc(), form)?;
+    gives(rt, apply(rt.alloc(), &doc, &patch), wanted)?;
+    is_text(rt, &doc, start)?;
+    check_applied_to_owned(rt, doc, form, wanted)
+}
+
+fn check_applied_to_owned<R: Abort + AllocGlobal>(
+    rt: &R,
+    doc: Doc,
+    form: &str,
+    wanted: &str,
+) -> Result<(), Fail> {
+    let form = read_doc(rt.alloc(), form.as_bytes())?;
+    let owned = JsonPatch::from_doc_owned(rt.alloc(), form)?;
+    let copy = doc.copy(rt.alloc())?;
+    gives(rt, apply_owned(rt.alloc(), copy, &owned), wanted)?;
+    gives(rt, apply_once(rt.alloc(), doc, owned), wanted)
+}
+
 #[test]
 fn operations_change_the_document(rt: HostRuntime) -> Result<(), Fail> {
     for (start, form, wanted) in APPLIED {
-        let doc = read_doc(rt.alloc(), start.as_bytes())?;
-        let patch = JsonPatch::from_doc(rt.alloc(), &read_doc(rt.alloc(), form.as_bytes())?)?;
-        check_text(&rt, &apply(rt.alloc(), &doc, &patch)?, wanted);
-        check_text(&rt, &doc, start);
-        let owned = JsonPatch::from_doc_owned(rt.alloc(), read_doc(rt.alloc(), form.as_bytes())?)?;
-        let copy = doc.copy(rt.alloc())?;
-        check_text(&rt, &apply_owned(rt.alloc(), copy, &owned)?, wanted);
-        check_text(&rt, &apply_once(rt.alloc(), doc, owned)?, wanted);
+        check_applied(&rt, start, form, wanted)?;
     }
+    Ok(())
+}
+
+fn check_refused<R: Abort + AllocGlobal>(
+    rt: &R,
+    start: &str,
+    form: &str,
+    wanted: ApplyFault,
+) -> Result<(), Fail> {
+    let doc = read_doc(rt.alloc(), start.as_bytes())?;
+    let patch = patch_of(rt.alloc(), form)?;
+    let fault = apply(rt.alloc(), &doc, &patch).err();
+    equal(rt, fault, Some(wanted));
+    let of_an_owned_one = apply_once(rt.alloc(), doc, patch).err();
+    equal(rt, of_an_owned_one, Some(wanted));
     Ok(())
 }
 
 #[test]
 fn operations_are_refused_by_their_cause(rt: HostRuntime) -> Result<(), Fail> {
-    for (start, form, number, wanted) in REFUSED {
-        let doc = read_doc(rt.alloc(), start.as_bytes())?;
-        let patch = JsonPatch::from_doc(rt.alloc(), &read_doc(rt.alloc(), form.as_bytes())?)?;
-        let fault = apply(rt.alloc(), &doc, &patch).err();
-        let wanted_fault = ApplyFault::Refused {
-            op: *number,
-            cause: *wanted,
+    for (start, form, op, cause) in REFUSED {
+        let wanted = ApplyFault::Refused {
+            op: *op,
+            cause: *cause,
         };
-        assert_eq!(rt; fault, Some(wanted_fault), "{form}");
-        let of_an_owned_one = apply_once(rt.alloc(), doc, patch).err();
-        assert_eq!(rt; of_an_owned_one, Some(wanted_fault), "{form}");
+        check_refused(&rt, start, form, wanted)?;
     }
     Ok(())
 }
@@ -176,29 +206,30 @@ fn operations_are_refused_by_their_cause(rt: HostRuntime) -> Result<(), Fail> {
 fn what_is_no_patch_has_a_first_fault(rt: HostRuntime) -> Result<(), Fail> {
     for (form, wanted) in MALFORMED {
         let doc = read_doc(rt.alloc(), form.as_bytes())?;
-        match JsonPatch::from_doc(rt.alloc(), &doc) {
-            Ok(_) => panic!(rt; "{form} is no patch"),
-            Err(fault) => assert_eq!(rt; fault, *wanted, "{form}"),
-        }
+        let fault = JsonPatch::from_doc(rt.alloc(), &doc).err();
+        equal(&rt, fault, Some(*wanted));
         let of_an_owned_one = JsonPatch::from_doc_owned(rt.alloc(), doc).err();
-        assert_eq!(rt; of_an_owned_one, Some(*wanted), "{form}");
+        equal(&rt, of_an_owned_one, Some(*wanted));
     }
     Ok(())
 }
 
+fn form_of_a_move(alloc: Global) -> Result<Doc, Fail> {
+    let mut patch = JsonPatch::new(alloc);
+    let origin = Pointer::parse(alloc, "/a")?;
+    let path = Pointer::parse(alloc, "/b")?;
+    patch.push(Op::Move { origin, path })?;
+    Ok(patch.to_doc(alloc)?)
+}
+
 #[test]
 fn a_move_there_and_back(rt: HostRuntime) -> Result<(), Fail> {
-    let mut patch = JsonPatch::new(rt.alloc());
-    let origin = Pointer::parse(rt.alloc(), "/a")?;
-    let path = Pointer::parse(rt.alloc(), "/b")?;
-    patch.push(Op::Move { origin, path })?;
-    let form = patch.to_doc(rt.alloc())?;
-    check_text(&rt, &form, r#"[{"from":"/a","op":"move","path":"/b"}]"#);
+    let form = form_of_a_move(rt.alloc())?;
+    is_text(&rt, &form, r#"[{"from":"/a","op":"move","path":"/b"}]"#)?;
     let read = JsonPatch::from_doc(rt.alloc(), &form)?;
-    assert_eq!(rt; read.ops().len(), 1);
+    equal(&rt, read.ops().len(), 1);
     let doc = read_doc(rt.alloc(), b"{\"a\":1}")?;
-    check_text(&rt, &apply(rt.alloc(), &doc, &read)?, r#"{"b":1}"#);
-    Ok(())
+    is_text(&rt, &apply(rt.alloc(), &doc, &read)?, r#"{"b":1}"#)
 }
 
 #[test]
@@ -208,53 +239,63 @@ fn a_patch_is_written_as_its_document(rt: HostRuntime) -> Result<(), Fail> {
         r#"{"op":"replace","path":"/a/0","value":"x"},{"op":"remove","path":"/a/1"},"#,
         r#"{"from":"/a","op":"copy","path":"/~0~1"},{"from":"/a","op":"move","path":"/b"}]"#,
     );
-    let patch = JsonPatch::from_doc(rt.alloc(), &read_doc(rt.alloc(), text.as_bytes())?)?;
-    assert_eq!(rt; write_patch(rt.alloc(), &patch)?.as_str(), text);
-    assert_eq!(rt;
-        write_patch(rt.alloc(), &JsonPatch::new(rt.alloc()))?.as_str(),
-        "[]"
-    );
+    let written = write_patch(rt.alloc(), &patch_of(rt.alloc(), text)?)?;
+    equal(&rt, written.as_str(), text);
+    let none = write_patch(rt.alloc(), &JsonPatch::new(rt.alloc()))?;
+    equal(&rt, none.as_str(), "[]");
     Ok(())
+}
+
+/// What this one operation makes of the empty list.
+fn applied_alone(alloc: Global, op: Op) -> Result<Result<Doc, ApplyFault>, Fail> {
+    let mut patch = JsonPatch::new(alloc);
+    patch.push(op)?;
+    Ok(apply(alloc, &Doc::Items(Vec::new(alloc)), &patch))
 }
 
 #[test]
 fn depths_have_a_limit(rt: HostRuntime) -> Result<(), Fail> {
-    let start = Doc::Items(Vec::new(rt.alloc()));
-    let mut shallow = JsonPatch::new(rt.alloc());
     let end = Pointer::parse(rt.alloc(), "/-")?;
-    shallow.push(Op::Add(end, nested_doc(rt.alloc(), 125)?))?;
-    let deepest = apply(rt.alloc(), &start, &shallow)?;
-    assert!(rt; deepest.fits(126), "at most 126");
-    assert!(rt; !deepest.fits(125), "126");
+    let deepest = applied_alone(rt.alloc(), Op::Add(end, nested_doc(rt.alloc(), 125)?))??;
+    holds(&rt, deepest.fits(126), "at most 126");
+    holds(&rt, !deepest.fits(125), "126");
 
-    let mut deep = JsonPatch::new(rt.alloc());
     let end = Pointer::parse(rt.alloc(), "/-")?;
-    deep.push(Op::Add(end, nested_doc(rt.alloc(), 126)?))?;
+    let deeper = applied_alone(rt.alloc(), Op::Add(end, nested_doc(rt.alloc(), 126)?))?;
     let too_deep = ApplyFault::Refused {
         op: 0,
         cause: Cause::TooDeep,
     };
-    assert_eq!(rt; apply(rt.alloc(), &start, &deep).err(), Some(too_deep));
+    equal(&rt, deeper.err(), Some(too_deep));
 
-    let mut whole = JsonPatch::new(rt.alloc());
-    whole.push(Op::Replace(Pointer::empty(rt.alloc()), nested_doc(rt.alloc(), 126)?))?;
-    let replaced = apply(rt.alloc(), &start, &whole)?;
-    assert!(rt; replaced.same(&nested_doc(rt.alloc(), 126)?), "the value");
+    let root = Pointer::empty(rt.alloc());
+    let replaced = applied_alone(rt.alloc(), Op::Replace(root, nested_doc(rt.alloc(), 126)?))??;
+    holds(
+        &rt,
+        replaced.same(&nested_doc(rt.alloc(), 126)?),
+        "the value",
+    );
     Ok(())
+}
+
+fn says_of_operation_7<R: Abort + AllocGlobal, D: Display>(
+    rt: &R,
+    fault: &D,
+    cause: &str,
+) -> Result<(), Fail> {
+    let wanted = format!(in rt.alloc(); "operation 7: {cause}")?;
+    says(rt, fault, wanted.as_str())
 }
 
 #[test]
 fn causes_of_a_refusal_have_texts(rt: HostRuntime) -> Result<(), Fail> {
     for (cause, text) in CAUSES {
-        let shown = format!(in rt.alloc(); "{cause}")?;
-        assert_eq!(rt; shown.as_str(), *text);
+        says(&rt, cause, text)?;
         let fault = ApplyFault::Refused {
             op: 7,
             cause: *cause,
         };
-        let whole = format!(in rt.alloc(); "operation 7: {text}")?;
-        let shown_fault = format!(in rt.alloc(); "{fault}")?;
-        assert_eq!(rt; shown_fault.as_str(), whole.as_str());
+        says_of_operation_7(&rt, &fault, text)?;
     }
     Ok(())
 }
@@ -262,35 +303,19 @@ fn causes_of_a_refusal_have_texts(rt: HostRuntime) -> Result<(), Fail> {
 #[test]
 fn causes_of_a_faulty_form_have_texts(rt: HostRuntime) -> Result<(), Fail> {
     for (cause, text) in FORM_CAUSES {
-        let shown = format!(in rt.alloc(); "{cause}")?;
-        assert_eq!(rt; shown.as_str(), *text);
+        says(&rt, cause, text)?;
         let fault = FormFault::Form {
             op: 7,
             cause: *cause,
         };
-        let whole = format!(in rt.alloc(); "operation 7: {text}")?;
-        let shown_fault = format!(in rt.alloc(); "{fault}")?;
-        assert_eq!(rt; shown_fault.as_str(), whole.as_str());
+        says_of_operation_7(&rt, &fault, text)?;
     }
     Ok(())
 }
 
 #[test]
 fn other_faults_have_texts(rt: HostRuntime) -> Result<(), Fail> {
-    let not_an_array = FormFault::NotAnArray;
-    assert_eq!(rt;
-        format!(in rt.alloc(); "{not_an_array}")?.as_str(),
-        "not an array"
-    );
-    let form_memory = FormFault::OutOfMemory;
-    assert_eq!(rt;
-        format!(in rt.alloc(); "{form_memory}")?.as_str(),
-        "out of memory"
-    );
-    let apply_memory = ApplyFault::OutOfMemory;
-    assert_eq!(rt;
-        format!(in rt.alloc(); "{apply_memory}")?.as_str(),
-        "out of memory"
-    );
-    Ok(())
+    says(&rt, &FormFault::NotAnArray, "not an array")?;
+    says(&rt, &FormFault::OutOfMemory, "out of memory")?;
+    says(&rt, &ApplyFault::OutOfMemory, "out of memory")
 }

@@ -1,11 +1,13 @@
 //! Worked values of application, conflict, join and lists of patches, and the texts of the faults.
-use crate::written::is_text;
+use crate::pointers::is_spelled;
+use crate::written::{equal, gives, holds, is_text, says};
 use mp_merge::{
     JoinFault, ListFault, compatible, conflict, join, join_all, merge, merge_owned, replay,
     replay_owned,
 };
 use mp_pointer::Pointer;
 use mp_tree::{Doc, read_doc, read_docs};
+use std::alloc::Global;
 use std::process::Abort;
 use std::test::Fail;
 
@@ -36,10 +38,9 @@ fn are_spellings<R: Abort + AllocGlobal>(
     pointers: &[Pointer],
     wanted: &[&str],
 ) -> Result<(), Fail> {
-    assert_eq!(rt; pointers.len(), wanted.len());
+    equal(rt, pointers.len(), wanted.len());
     for (pointer, spelling) in pointers.iter().zip(wanted) {
-        let found = pointer.print(rt.alloc())?;
-        assert_eq!(rt; found.as_str(), *spelling);
+        is_spelled(rt, pointer, spelling)?;
     }
     Ok(())
 }
@@ -47,55 +48,61 @@ fn are_spellings<R: Abort + AllocGlobal>(
 #[test]
 fn an_absent_target_counts_as_an_empty_object(rt: HostRuntime) -> Result<(), Fail> {
     let patch = read_doc(rt.alloc(), br#"{"a":{"b":null},"c":null}"#)?;
-    is_text(&rt, &merge(rt.alloc(), None, &patch)?, r#"{"a":{}}"#)?;
-    is_text(&rt, &merge(rt.alloc(), None, &Doc::Null)?, "null")
+    gives(&rt, merge(rt.alloc(), None, &patch), r#"{"a":{}}"#)?;
+    gives(&rt, merge(rt.alloc(), None, &Doc::Null), "null")
+}
+
+/// The two patches of a row.
+fn pair_of(alloc: Global, patches: &str) -> Result<(Doc, Doc), Fail> {
+    let mut docs = read_docs(alloc, patches.as_bytes())?;
+    match (docs.pop(), docs.pop()) {
+        (Some(second), Some(first)) => Ok((first, second)),
+        _ => Err(Fail::new("a row has two patches")),
+    }
+}
+
+fn check_join<R: Abort + AllocGlobal>(rt: &R, patches: &str, joined: &str) -> Result<(), Fail> {
+    let (p, q) = pair_of(rt.alloc(), patches)?;
+    holds(rt, compatible(&p, &q), patches);
+    let places = conflict(rt.alloc(), &p, &q)?;
+    holds(rt, places.is_empty(), patches);
+    gives(rt, join(rt.alloc(), &p, &q), joined)?;
+    gives(rt, join(rt.alloc(), &q, &p), joined)
 }
 
 #[test]
 fn compatible_patches_have_a_join(rt: HostRuntime) -> Result<(), Fail> {
     for (patches, joined) in JOINS {
-        let docs = read_docs(rt.alloc(), patches.as_bytes())?;
-        let (Some(p), Some(q)) = (docs.first(), docs.last()) else {
-            continue;
-        };
-        assert!(rt; compatible(p, q), "that {patches} are compatible");
-        assert!(rt;
-            conflict(rt.alloc(), p, q)?.is_empty(),
-            "no conflict of {patches}"
-        );
-        is_text(&rt, &join(rt.alloc(), p, q)?, joined)?;
-        is_text(&rt, &join(rt.alloc(), q, p)?, joined)?;
+        check_join(&rt, patches, joined)?;
     }
     Ok(())
+}
+
+fn check_clash<R: Abort + AllocGlobal>(rt: &R, patches: &str, wanted: &[&str]) -> Result<(), Fail> {
+    let (p, q) = pair_of(rt.alloc(), patches)?;
+    holds(rt, !compatible(&p, &q), patches);
+    holds(rt, !compatible(&q, &p), patches);
+    let places = conflict(rt.alloc(), &p, &q)?;
+    are_spellings(rt, places.as_slice(), wanted)?;
+    check_no_join(rt, &q, &p, wanted)
+}
+
+fn check_no_join<R: Abort + AllocGlobal>(
+    rt: &R,
+    p: &Doc,
+    q: &Doc,
+    wanted: &[&str],
+) -> Result<(), Fail> {
+    match join(rt.alloc(), p, q) {
+        Err(JoinFault::Conflict(places)) => are_spellings(rt, places.as_slice(), wanted),
+        _ => Err(Fail::new("a join of two patches that clash")),
+    }
 }
 
 #[test]
 fn clashes_are_told_in_order(rt: HostRuntime) -> Result<(), Fail> {
     for (patches, wanted) in CLASHES {
-        let docs = read_docs(rt.alloc(), patches.as_bytes())?;
-        let (Some(p), Some(q)) = (docs.first(), docs.last()) else {
-            continue;
-        };
-        assert!(rt; !compatible(p, q), "that {patches} are not compatible");
-        assert!(rt; !compatible(q, p), "that {patches} are not compatible");
-        let places = conflict(rt.alloc(), p, q)?;
-        are_spellings(&rt, places.as_slice(), wanted)?;
-    }
-    Ok(())
-}
-
-#[test]
-fn patches_that_clash_have_no_join(rt: HostRuntime) -> Result<(), Fail> {
-    for (patches, wanted) in CLASHES {
-        let docs = read_docs(rt.alloc(), patches.as_bytes())?;
-        let (Some(p), Some(q)) = (docs.first(), docs.last()) else {
-            continue;
-        };
-        let Err(JoinFault::Conflict(places)) = join(rt.alloc(), q, p) else {
-            assert!(rt; false, "a join of {patches} that is refused");
-            continue;
-        };
-        are_spellings(&rt, places.as_slice(), wanted)?;
+        check_clash(&rt, patches, wanted)?;
     }
     Ok(())
 }
@@ -103,56 +110,70 @@ fn patches_that_clash_have_no_join(rt: HostRuntime) -> Result<(), Fail> {
 #[test]
 fn no_patches_have_no_join_and_change_nothing(rt: HostRuntime) -> Result<(), Fail> {
     let none = join_all(rt.alloc(), &[]);
-    assert!(rt;
+    holds(
+        &rt,
         matches!(none, Err(ListFault::NoPatches)),
-        "the join of no patches"
+        "the join of no patches",
     );
     let five = read_doc(rt.alloc(), b"5")?;
-    is_text(&rt, &replay(rt.alloc(), &five, &[])?, "5")
+    gives(&rt, replay(rt.alloc(), &five, &[]), "5")
+}
+
+const RECEIVED: &[u8] = br#"[{"k":null},{"a":{"y":null},"l":[1,2]},{"k":null},{"a":{"x":1}}]"#;
+
+/// The join of the patches, one after another.
+fn kept_of(alloc: Global, received: &[Doc]) -> Result<Doc, Fail> {
+    let Some((first, rest)) = received.split_first() else {
+        return Err(Fail::new("nothing was received"));
+    };
+    let mut kept = first.copy(alloc)?;
+    for patch in rest {
+        kept = join(alloc, &kept, patch)?;
+    }
+    Ok(kept)
+}
+
+/// All ways to what the start becomes show this.
+fn all_show<R: Abort + AllocGlobal>(
+    rt: &R,
+    start: &Doc,
+    received: &[Doc],
+    wanted: &str,
+) -> Result<(), Fail> {
+    let kept = kept_of(rt.alloc(), received)?;
+    gives(rt, merge(rt.alloc(), Some(start), &kept), wanted)?;
+    gives(rt, replay(rt.alloc(), start, received), wanted)?;
+    let moved = start.copy(rt.alloc())?;
+    gives(rt, replay_owned(rt.alloc(), moved, received), wanted)?;
+    let moved = start.copy(rt.alloc())?;
+    gives(rt, merge_owned(rt.alloc(), Some(moved), kept), wanted)
 }
 
 /// A replica that keeps the join of what it received, and nothing else, shows what a replay of all shows.
 #[test]
 fn a_join_that_is_kept_shows_what_all_show(rt: HostRuntime) -> Result<(), Fail> {
     let start = read_doc(rt.alloc(), br#"{"k":0,"l":[1]}"#)?;
-    let received = read_docs(
-        rt.alloc(),
-        br#"[{"k":null},{"a":{"y":null},"l":[1,2]},{"k":null},{"a":{"x":1}}]"#,
-    )?;
-    let Some((first, rest)) = received.as_slice().split_first() else {
-        return Ok(());
-    };
-    let mut kept = first.copy(rt.alloc())?;
-    for patch in rest {
-        kept = join(rt.alloc(), &kept, patch)?;
-    }
-    is_text(&rt, &kept, r#"{"a":{"x":1,"y":null},"k":null,"l":[1,2]}"#)?;
-    let wanted = r#"{"a":{"x":1},"l":[1,2]}"#;
-    is_text(&rt, &merge(rt.alloc(), Some(&start), &kept)?, wanted)?;
-    let received = received.as_slice();
-    is_text(&rt, &replay(rt.alloc(), &start, received)?, wanted)?;
-    let moved = start.copy(rt.alloc())?;
-    is_text(&rt, &replay_owned(rt.alloc(), moved, received)?, wanted)?;
-    is_text(&rt, &merge_owned(rt.alloc(), Some(start), kept)?, wanted)
+    let received = read_docs(rt.alloc(), RECEIVED)?;
+    let kept = r#"{"a":{"x":1,"y":null},"k":null,"l":[1,2]}"#;
+    is_text(&rt, &kept_of(rt.alloc(), received.as_slice())?, kept)?;
+    all_show(
+        &rt,
+        &start,
+        received.as_slice(),
+        r#"{"a":{"x":1},"l":[1,2]}"#,
+    )
 }
 
 #[test]
 fn faults_have_texts(rt: HostRuntime) -> Result<(), Fail> {
-    let none = Vec::new(rt.alloc());
-    let conflict = format!(in rt.alloc(); "{}", JoinFault::Conflict(none))?;
-    assert_eq!(rt; conflict.as_str(), "conflict");
-    let memory = format!(in rt.alloc(); "{}", JoinFault::OutOfMemory)?;
-    assert_eq!(rt; memory.as_str(), "out of memory");
-    let none = format!(in rt.alloc(); "{}", ListFault::NoPatches)?;
-    assert_eq!(rt; none.as_str(), "no patches");
+    says(&rt, &JoinFault::Conflict(Vec::new(rt.alloc())), "conflict")?;
+    says(&rt, &JoinFault::OutOfMemory, "out of memory")?;
+    says(&rt, &ListFault::NoPatches, "no patches")?;
+    says(&rt, &ListFault::OutOfMemory, "out of memory")?;
     let clash = ListFault::ConflictOf {
         first: 1,
         second: 3,
         places: Vec::new(rt.alloc()),
     };
-    let clash = format!(in rt.alloc(); "{clash}")?;
-    assert_eq!(rt; clash.as_str(), "conflict of patches 1 and 3");
-    let memory = format!(in rt.alloc(); "{}", ListFault::OutOfMemory)?;
-    assert_eq!(rt; memory.as_str(), "out of memory");
-    Ok(())
+    says(&rt, &clash, "conflict of patches 1 and 3")
 }

@@ -1,8 +1,9 @@
 //! Worked values of merging in place.
-use crate::written::is_text;
+use crate::written::{holds, is_text};
 use mp_merge::merge_into;
-use mp_tree::read_doc;
+use mp_tree::{Doc, read_doc};
 use std::alloc::{AllocError, Global};
+use std::process::Abort;
 use std::test::Fail;
 
 /// Targets, patches, and what the targets become.
@@ -31,15 +32,24 @@ const MERGED: &[(&str, &str, &str)] = &[
     (r#"{"a":1}"#, "null", "null"),
 ];
 
+fn check_merged<R: Abort + AllocGlobal>(
+    rt: &R,
+    start: &str,
+    change: &str,
+    wanted: &str,
+) -> Result<(), Fail> {
+    let mut target = read_doc(rt.alloc(), start.as_bytes())?;
+    let patch = read_doc(rt.alloc(), change.as_bytes())?;
+    merge_into(rt.alloc(), &mut target, &patch)?;
+    is_text(rt, &target, wanted)?;
+    merge_into(rt.alloc(), &mut target, &patch)?;
+    is_text(rt, &target, wanted)
+}
+
 #[test]
 fn merging_in_place_twice_is_merging_once(rt: HostRuntime) -> Result<(), Fail> {
     for (start, change, wanted) in MERGED {
-        let mut target = read_doc(rt.alloc(), start.as_bytes())?;
-        let patch = read_doc(rt.alloc(), change.as_bytes())?;
-        merge_into(rt.alloc(), &mut target, &patch)?;
-        is_text(&rt, &target, wanted)?;
-        merge_into(rt.alloc(), &mut target, &patch)?;
-        is_text(&rt, &target, wanted)?;
+        check_merged(&rt, start, change, wanted)?;
     }
     Ok(())
 }
@@ -54,12 +64,17 @@ fn many_names(alloc: Global, value: &str) -> Result<String, AllocError> {
     Ok(text)
 }
 
+fn doc_of_many(alloc: Global, value: &str) -> Result<Doc, Fail> {
+    let text = many_names(alloc, value)?;
+    Ok(read_doc(alloc, text.as_bytes())?)
+}
+
 /// No command of the program merges in place, so `checks/sizes` has no such input.
 #[test]
 fn three_hundred_names_are_set(rt: HostRuntime) -> Result<(), Fail> {
-    let mut doc = read_doc(rt.alloc(), many_names(rt.alloc(), "0")?.as_bytes())?;
-    let change = read_doc(rt.alloc(), many_names(rt.alloc(), "[1]")?.as_bytes())?;
+    let mut doc = doc_of_many(rt.alloc(), "0")?;
+    let change = doc_of_many(rt.alloc(), "[1]")?;
     merge_into(rt.alloc(), &mut doc, &change)?;
-    assert!(rt; doc.same(&change));
+    holds(&rt, doc.same(&change), "each name is set");
     Ok(())
 }

@@ -1,6 +1,8 @@
 //! Worked values: parts that are read and written, tokens, spellings and indices.
+use crate::written::{equal, holds, is_text, says};
 use mp_pointer::{Pointer, PointerFault, edit_part, get, get_mut, index_of};
-use mp_tree::{read_doc, read_docs, write_doc};
+use mp_tree::{Doc, read_doc, read_docs, write_doc};
+use std::alloc::Global;
 use std::mem;
 use std::process::Abort;
 use std::test::Fail;
@@ -64,107 +66,127 @@ const FAULTS: &[(PointerFault, &str)] = &[
     (PointerFault::OutOfMemory, "out of memory"),
 ];
 
-fn check_print<R: Abort + AllocGlobal>(rt: &R, pointer: &Pointer, spelling: &str) {
-    let printed = pointer
-        .print(rt.alloc())
-        .expect(rt, "memory for a spelling");
-    assert_eq!(rt; printed.as_str(), spelling);
+/// The pointer is spelled so.
+pub fn is_spelled<R: Abort + AllocGlobal>(
+    rt: &R,
+    pointer: &Pointer,
+    wanted: &str,
+) -> Result<(), Fail> {
+    let found = pointer.print(rt.alloc())?;
+    equal(rt, found.as_str(), wanted);
+    Ok(())
+}
+
+fn check_part<R: Abort + AllocGlobal>(
+    rt: &R,
+    text: &str,
+    wanted: Option<&str>,
+) -> Result<(), Fail> {
+    let doc = read_doc(rt.alloc(), NESTED.as_bytes())?;
+    let pointer = Pointer::parse(rt.alloc(), text)?;
+    is_spelled(rt, &pointer, text)?;
+    match (get(&doc, &pointer), wanted) {
+        (Some(part), Some(wanted)) => is_text(rt, part, wanted)?,
+        (found, wanted) => holds(rt, found.is_some() == wanted.is_some(), text),
+    }
+    Ok(())
 }
 
 #[test]
 fn get_gives_the_part(rt: HostRuntime) -> Result<(), Fail> {
     for (text, wanted) in PARTS {
-        let doc = read_doc(rt.alloc(), NESTED.as_bytes())?;
-        let pointer = Pointer::parse(rt.alloc(), text)?;
-        check_print(&rt, &pointer, text);
-        match get(&doc, &pointer) {
-            Some(part) => {
-                let found = write_doc(rt.alloc(), part)?;
-                assert_eq!(rt; Some(found.as_str()), *wanted, "at {text}");
-            }
-            None => assert_eq!(rt; None, *wanted, "at {text}"),
-        }
+        check_part(&rt, text, *wanted)?;
     }
     Ok(())
 }
 
-#[test]
-fn get_mut_writes_that_part_alone(rt: HostRuntime) -> Result<(), Fail> {
-    for (input, text, wanted) in WRITES {
-        let mut docs = read_docs(rt.alloc(), input.as_bytes())?;
-        let pointer = Pointer::parse(rt.alloc(), text)?;
-        let (Some(value), Some(mut doc)) = (docs.pop(), docs.pop()) else {
-            panic!(rt; "no document and value in {input}")
-        };
-        let before = write_doc(rt.alloc(), &doc)?;
-        match get_mut(&mut doc, &pointer) {
-            Some(part) => *part = value,
-            None => assert_eq!(rt; None, *wanted, "at {text} in {input}"),
-        }
-        let after = write_doc(rt.alloc(), &doc)?;
-        assert_eq!(rt;
-            after.as_str(),
-            wanted.unwrap_or(before.as_str()),
-            "at {text} in {input}"
-        );
+/// The document and the value of a row.
+fn written_over(alloc: Global, input: &str) -> Result<(Doc, Doc), Fail> {
+    let mut docs = read_docs(alloc, input.as_bytes())?;
+    match (docs.pop(), docs.pop()) {
+        (Some(value), Some(doc)) => Ok((doc, value)),
+        _ => Err(Fail::new("a row has a document and a value")),
     }
-    Ok(())
+}
+
+/// Puts the value there, and tells whether there is such a part.
+fn put(doc: &mut Doc, pointer: &Pointer, value: Doc) -> bool {
+    match get_mut(doc, pointer) {
+        Some(part) => {
+            *part = value;
+            true
+        }
+        None => false,
+    }
+}
+
+fn put_by_edit(doc: &mut Doc, pointer: &Pointer, value: Doc) -> bool {
+    edit_part(
+        doc,
+        pointer,
+        pointer.len(),
+        |part| mem::replace(part, value),
+    )
+    .is_some()
+}
+
+fn check_write<R: Abort + AllocGlobal>(
+    rt: &R,
+    (input, text, wanted): &(&str, &str, Option<&str>),
+    is_edit: bool,
+) -> Result<(), Fail> {
+    let pointer = Pointer::parse(rt.alloc(), text)?;
+    let (mut doc, value) = written_over(rt.alloc(), input)?;
+    let before = write_doc(rt.alloc(), &doc)?;
+    let is_written = if is_edit {
+        put_by_edit(&mut doc, &pointer, value)
+    } else {
+        put(&mut doc, &pointer, value)
+    };
+    holds(rt, is_written == wanted.is_some(), text);
+    is_text(rt, &doc, wanted.unwrap_or(before.as_str()))
 }
 
 #[test]
-fn edit_part_edits_that_part_alone(rt: HostRuntime) -> Result<(), Fail> {
-    for (input, text, wanted) in WRITES {
-        let mut docs = read_docs(rt.alloc(), input.as_bytes())?;
-        let pointer = Pointer::parse(rt.alloc(), text)?;
-        let (Some(value), Some(mut doc)) = (docs.pop(), docs.pop()) else {
-            panic!(rt; "no document and value in {input}")
-        };
-        let before = write_doc(rt.alloc(), &doc)?;
-        let edited = edit_part(&mut doc, &pointer, pointer.len(), |part| {
-            mem::replace(part, value)
-        });
-        assert_eq!(rt; edited.is_some(), wanted.is_some(), "at {text} in {input}");
-        let after = write_doc(rt.alloc(), &doc)?;
-        assert_eq!(rt;
-            after.as_str(),
-            wanted.unwrap_or(before.as_str()),
-            "at {text} in {input}"
-        );
+fn that_part_alone_is_written(rt: HostRuntime) -> Result<(), Fail> {
+    for row in WRITES {
+        check_write(&rt, row, false)?;
+        check_write(&rt, row, true)?;
     }
     Ok(())
 }
 
 #[test]
 fn a_bad_tilde_is_told_by_its_offset(rt: HostRuntime) {
-    match Pointer::parse(rt.alloc(), "/~0/é~/~2") {
-        Ok(_) => panic!(rt; "a tilde spells nothing there"),
-        Err(fault) => assert_eq!(rt; fault, PointerFault::BadTilde(6)),
-    }
+    let fault = Pointer::parse(rt.alloc(), "/~0/é~/~2").err();
+    equal(&rt, fault, Some(PointerFault::BadTilde(6)));
 }
 
 #[test]
 fn tokens_are_those_of_a_list(rt: HostRuntime) -> Result<(), Fail> {
     let pointer = Pointer::parse(rt.alloc(), "/a~1b/~0")?;
-    assert_eq!(rt; pointer.len(), 2);
-    assert_eq!(rt; pointer.token(0), Some("a/b"));
-    assert_eq!(rt; pointer.token(1), Some("~"));
-    assert_eq!(rt; pointer.token(2), None);
-    check_print(&rt, &pointer, "/a~1b/~0");
-    check_print(&rt, &pointer.copy(rt.alloc())?, "/a~1b/~0");
-    check_print(&rt, &pointer.child(rt.alloc(), "x/")?, "/a~1b/~0/x~1");
+    equal(&rt, pointer.len(), 2);
+    equal(&rt, pointer.token(0), Some("a/b"));
+    equal(&rt, pointer.token(1), Some("~"));
+    equal(&rt, pointer.token(2), None);
+    is_spelled(&rt, &pointer, "/a~1b/~0")?;
+    is_spelled(&rt, &pointer.copy(rt.alloc())?, "/a~1b/~0")?;
+    is_spelled(&rt, &pointer.child(rt.alloc(), "x/")?, "/a~1b/~0/x~1")?;
     let copy = pointer.copy(rt.alloc())?;
-    check_print(&rt, &copy.under(rt.alloc(), "x/")?, "/x~1/a~1b/~0");
-    check_print(&rt, &pointer.front(rt.alloc(), 1)?, "/a~1b");
-    check_print(&rt, &Pointer::empty(rt.alloc()), "");
-    Ok(())
+    is_spelled(&rt, &copy.under(rt.alloc(), "x/")?, "/x~1/a~1b/~0")?;
+    is_spelled(&rt, &pointer.front(rt.alloc(), 1)?, "/a~1b")?;
+    is_spelled(&rt, &Pointer::empty(rt.alloc()), "")
 }
+
+/// Pointers, and whether `/a` is a proper prefix.
+const LONGER: &[(&str, bool)] = &[("/a/b", true), ("/a", false), ("/ab", false), ("", false)];
 
 #[test]
 fn a_proper_prefix_is_shorter(rt: HostRuntime) -> Result<(), Fail> {
     let pointer = Pointer::parse(rt.alloc(), "/a")?;
-    for (text, wanted) in [("/a/b", true), ("/a", false), ("/ab", false), ("", false)] {
+    for (text, wanted) in LONGER {
         let other = Pointer::parse(rt.alloc(), text)?;
-        assert_eq!(rt; pointer.is_proper_prefix_of(&other), wanted, "of {text}");
+        holds(&rt, pointer.is_proper_prefix_of(&other) == *wanted, text);
     }
     Ok(())
 }
@@ -173,29 +195,41 @@ fn a_proper_prefix_is_shorter(rt: HostRuntime) -> Result<(), Fail> {
 fn pointers_are_equal_by_their_tokens(rt: HostRuntime) -> Result<(), Fail> {
     let pointer = Pointer::parse(rt.alloc(), "/a~1b/0")?;
     let mut other = Pointer::empty(rt.alloc());
-    assert!(rt; other.is_empty() && pointer != other);
+    holds(
+        &rt,
+        other.is_empty() && pointer != other,
+        "the empty pointer",
+    );
     other.push("a/b")?;
-    assert!(rt; !other.is_empty() && pointer != other && other != pointer);
+    holds(
+        &rt,
+        !other.is_empty() && pointer != other && other != pointer,
+        "one token",
+    );
     other.push("0")?;
-    assert!(rt; pointer == other);
+    holds(&rt, pointer == other, "the same tokens");
     other.push("x~")?;
     other.pop();
-    assert!(rt; pointer == other && pointer != Pointer::parse(rt.alloc(), "/a/b/0")?);
+    holds(&rt, pointer == other, "the same tokens again");
+    holds(
+        &rt,
+        pointer != Pointer::parse(rt.alloc(), "/a/b/0")?,
+        "other tokens",
+    );
     Ok(())
 }
 
 #[test]
 fn tokens_spell_indices(rt: HostRuntime) {
     for (token, wanted) in INDICES {
-        assert_eq!(rt; index_of(token), *wanted, "of {token:?}");
+        equal(&rt, index_of(token), *wanted);
     }
 }
 
 #[test]
 fn faults_have_texts(rt: HostRuntime) -> Result<(), Fail> {
     for (fault, text) in FAULTS {
-        let shown = format!(in rt.alloc(); "{fault}")?;
-        assert_eq!(rt; shown.as_str(), *text);
+        says(&rt, fault, text)?;
     }
     Ok(())
 }

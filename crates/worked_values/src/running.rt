@@ -1,6 +1,7 @@
 //! Runs over a reader and writers of which one call goes wrong: what was counted is what the device saw. And runs on
 //! input at its longest.
 
+use crate::written::{equal, holds};
 use mp_cli::{Command, Counted, INPUT_LIMIT, READ_LIMIT, RunFault, run};
 use std::alloc::{AllocError, Global};
 use std::io;
@@ -141,231 +142,279 @@ fn blank_page(alloc: Global, piece: usize, odd: Odd) -> Page {
     }
 }
 
-/// What a run gave, and what it left.
-#[derive(Drop)]
-struct Seen<R: Drop> {
-    status: Result<u8, RunFault>,
-    input: Counted<R>,
-    out: Counted<Page>,
-    err: Counted<Page>,
+/// A device that has counted its calls.
+trait Device {
+    fn seen(&self) -> u64;
 }
 
-fn run_over<R: Read + Drop>(
+impl Device for Feed<'_> {
+    fn seen(&self) -> u64 {
+        self.calls
+    }
+}
+
+impl Device for Endless {
+    fn seen(&self) -> u64 {
+        self.calls
+    }
+}
+
+impl Device for Page {
+    fn seen(&self) -> u64 {
+        self.calls
+    }
+}
+
+/// What was counted of a device, and the calls that it saw itself.
+#[derive(Clone, Copy, Debug, PartialEq, Eq)]
+struct Counts {
+    calls: u64,
+    failures: u64,
+    bytes: u64,
+    seen: u64,
+}
+
+const UNTOUCHED: Counts = Counts {
+    calls: 0,
+    failures: 0,
+    bytes: 0,
+    seen: 0,
+};
+
+fn counts_of<D: Device + Drop>(counted: Counted<D>) -> (Counts, D) {
+    let (calls, failures, bytes) = (counted.calls(), counted.failures(), counted.bytes());
+    let device = counted.into_device();
+    let counts = Counts {
+        calls,
+        failures,
+        bytes,
+        seen: device.seen(),
+    };
+    (counts, device)
+}
+
+/// What a run gave, and what it left.
+#[derive(Drop)]
+struct Told {
+    status: Result<u8, RunFault>,
+    input: Counts,
+    out: Counts,
+    out_page: Page,
+    err: Counts,
+    err_page: Page,
+}
+
+fn run_over<R: Read + Device + Drop>(
     alloc: Global,
     command: &Command,
     reader: R,
     out: Page,
     err: Page,
-) -> Seen<R> {
+) -> Told {
     let mut input = Counted::new(reader);
     let mut out = Counted::new(out);
     let mut err = Counted::new(err);
     let status = run(alloc, command, &mut input, &mut out, &mut err);
-    Seen {
+    let (input, _) = counts_of(input);
+    let (out, out_page) = counts_of(out);
+    let (err, err_page) = counts_of(err);
+    Told {
         status,
         input,
         out,
+        out_page,
         err,
+        err_page,
     }
 }
 
-/// The run's text and its status, over devices that work.
-fn expect_line(
-    rt: &(impl Abort + AllocGlobal),
+/// The run's text and its status, over devices that work and take so many bytes at a time.
+fn check_line<R: Abort + AllocGlobal>(
+    rt: &R,
     command: &Command,
     input: &[u8],
-    status: u8,
-    line: &str,
+    piece: usize,
+    (status, line): (u8, &str),
 ) {
     let alloc = rt.alloc();
-    for piece in [1, usize::MAX] {
-        let result = run_over(
-            alloc,
-            command,
-            feed_of(input, piece, NONE),
-            blank_page(alloc, piece, NONE),
-            blank_page(alloc, piece, NONE),
-        );
-        assert_eq!(rt; result.status, Ok(status), "{line}");
-        let (writer, other) = if status == 0 {
-            (result.out, result.err)
-        } else {
-            (result.err, result.out)
-        };
-        assert_eq!(rt; other.calls(), 0, "{line}");
-        assert_eq!(rt; writer.failures(), 0, "{line}");
-        assert_eq!(rt; writer.bytes(), line.len() as u64, "{line}");
-        let calls = writer.calls();
-        let kept = writer.into_device();
-        assert_eq!(rt; kept.calls, calls, "{line}");
-        assert_eq!(rt; kept.taken.as_slice(), line.as_bytes());
-        assert!(rt; kept.flushed, "{line}");
+    let told = run_over(
+        alloc,
+        command,
+        feed_of(input, piece, NONE),
+        blank_page(alloc, piece, NONE),
+        blank_page(alloc, piece, NONE),
+    );
+    equal(rt, told.status, Ok(status));
+    if status == 0 {
+        expect_written(rt, told.out, &told.out_page, line);
+        equal(rt, told.err, UNTOUCHED);
+    } else {
+        expect_written(rt, told.err, &told.err_page, line);
+        equal(rt, told.out, UNTOUCHED);
     }
 }
 
-/// Nothing was done to the writer.
-fn expect_untouched(rt: &impl Abort, writer: Counted<Page>) {
-    assert_eq!(rt; writer.calls(), 0);
-    let kept = writer.into_device();
-    assert_eq!(rt; kept.calls, 0);
-    assert!(rt; kept.taken.is_empty());
+/// The line went whole to this writer.
+fn expect_written(rt: &impl Abort, counts: Counts, page: &Page, line: &str) {
+    let whole = Counts {
+        calls: counts.calls,
+        failures: 0,
+        bytes: line.len() as u64,
+        seen: counts.calls,
+    };
+    equal(rt, counts, whole);
+    equal(rt, page.taken.as_slice(), line.as_bytes());
+    holds(rt, page.flushed, line);
+}
+
+fn expect_line<R: Abort + AllocGlobal>(rt: &R, command: &Command, input: &[u8], told: (u8, &str)) {
+    for piece in [1, usize::MAX] {
+        check_line(rt, command, input, piece, told);
+    }
 }
 
 /// The writer took one byte of the text at each call, and then this call failed.
-fn expect_broken(rt: &impl Abort, writer: Counted<Page>, text: &str, call: u64) {
+fn expect_broken(rt: &impl Abort, counts: Counts, page: &Page, text: &str, call: u64) {
     let bytes = call.saturating_sub(1);
-    assert_eq!(rt; writer.calls(), call);
-    assert_eq!(rt; writer.failures(), 1);
-    assert_eq!(rt; writer.bytes(), bytes);
-    let kept = writer.into_device();
-    assert_eq!(rt; kept.calls, call);
-    assert_eq!(rt; kept.taken.len() as u64, bytes);
-    assert!(rt; text.as_bytes().starts_with(kept.taken.as_slice()));
+    let broken = Counts {
+        calls: call,
+        failures: 1,
+        bytes,
+        seen: call,
+    };
+    equal(rt, counts, broken);
+    equal(rt, page.taken.len() as u64, bytes);
+    holds(rt, text.as_bytes().starts_with(page.taken.as_slice()), text);
 }
 
 #[test]
 fn a_line_goes_whole_to_its_writer(rt: HostRuntime) {
-    expect_line(&rt, &Command::Merge, INPUT.as_bytes(), 0, ANSWER);
-    expect_line(&rt, &Command::Merge, b"[", 2, "input: not JSON\n");
+    expect_line(&rt, &Command::Merge, INPUT.as_bytes(), (0, ANSWER));
+    expect_line(&rt, &Command::Merge, b"[", (2, "input: not JSON\n"));
+}
+
+/// A run of `merge` over a reader that gives a byte at a time, and two writers that take one.
+fn merged<R: Read + Device + Drop>(alloc: Global, reader: R) -> Told {
+    run_over(
+        alloc,
+        &Command::Merge,
+        reader,
+        blank_page(alloc, 1, NONE),
+        blank_page(alloc, 1, NONE),
+    )
 }
 
 #[test]
 fn each_read_may_fail(rt: HostRuntime) {
-    let alloc = rt.alloc();
     for mishap in [Mishap::Fails, Mishap::IsInterrupted] {
         for call in 1..48 {
-            let reader = feed_of(INPUT.as_bytes(), 1, Odd { call, mishap });
-            let result = run_over(
-                alloc,
-                &Command::Merge,
-                reader,
-                blank_page(alloc, 1, NONE),
-                blank_page(alloc, 1, NONE),
+            let told = merged(
+                rt.alloc(),
+                feed_of(INPUT.as_bytes(), 1, Odd { call, mishap }),
             );
-            assert_eq!(rt;
-                result.status,
-                Err(RunFault::ReadFailed),
-                "{mishap:?} at {call}"
-            );
-            assert_eq!(rt; result.input.calls(), call);
-            assert_eq!(rt; result.input.failures(), 1);
-            assert_eq!(rt; result.input.into_device().calls, call);
-            expect_untouched(&rt, result.out);
-            expect_untouched(&rt, result.err);
+            equal(&rt, told.status, Err(RunFault::ReadFailed));
+            let (calls, failures) = (told.input.calls, told.input.failures);
+            equal(&rt, (calls, failures, told.input.seen), (call, 1, call));
+            equal(&rt, (told.out, told.err), (UNTOUCHED, UNTOUCHED));
         }
     }
 }
 
 #[test]
 fn each_read_is_counted(rt: HostRuntime) {
-    let alloc = rt.alloc();
-    let reader = feed_of(INPUT.as_bytes(), 1, NONE);
-    let result = run_over(
-        alloc,
-        &Command::Merge,
-        reader,
-        blank_page(alloc, 1, NONE),
-        blank_page(alloc, 1, NONE),
+    let told = merged(rt.alloc(), feed_of(INPUT.as_bytes(), 1, NONE));
+    equal(&rt, told.status, Ok(0));
+    let read = Counts {
+        calls: 47,
+        failures: 0,
+        bytes: 46,
+        seen: 47,
+    };
+    let written = Counts {
+        calls: 21,
+        failures: 0,
+        bytes: 20,
+        seen: 21,
+    };
+    equal(
+        &rt,
+        (told.input, told.out, told.err),
+        (read, written, UNTOUCHED),
     );
-    assert_eq!(rt; result.status, Ok(0));
-    assert_eq!(rt; result.input.calls(), 47);
-    assert_eq!(rt; result.input.failures(), 0);
-    assert_eq!(rt; result.input.bytes(), 46);
-    assert_eq!(rt; result.input.into_device().calls, 47);
-    assert_eq!(rt; result.out.calls(), 21);
-    assert_eq!(rt; result.out.failures(), 0);
-    assert_eq!(rt; result.out.into_device().calls, 21);
-    expect_untouched(&rt, result.err);
 }
 
 #[test]
 fn the_limits_are_a_mebibyte_and_one_read_more(rt: HostRuntime) {
-    assert_eq!(rt; INPUT_LIMIT, 1_048_576);
-    assert_eq!(rt; READ_LIMIT, 1_048_577);
+    equal(&rt, INPUT_LIMIT, 1_048_576);
+    equal(&rt, READ_LIMIT, 1_048_577);
 }
 
 #[test]
 fn an_endless_input_is_too_long(rt: HostRuntime) {
+    let told = merged(rt.alloc(), Endless { calls: 0 });
+    equal(&rt, told.status, Err(RunFault::TooLong));
+    let read = Counts {
+        calls: 1_048_577,
+        failures: 0,
+        bytes: 1_048_577,
+        seen: 1_048_577,
+    };
+    equal(
+        &rt,
+        (told.input, told.out, told.err),
+        (read, UNTOUCHED, UNTOUCHED),
+    );
+}
+
+/// A run of `merge` of which this goes wrong with its writer.
+fn expect_write_failed<R: Abort + AllocGlobal>(rt: &R, call: u64, mishap: Mishap) {
     let alloc = rt.alloc();
-    let result = run_over(
+    let told = run_over(
         alloc,
         &Command::Merge,
-        Endless { calls: 0 },
-        blank_page(alloc, 1, NONE),
+        feed_of(INPUT.as_bytes(), 100, NONE),
+        blank_page(alloc, 1, Odd { call, mishap }),
         blank_page(alloc, 1, NONE),
     );
-    assert_eq!(rt; result.status, Err(RunFault::TooLong));
-    assert_eq!(rt; result.input.calls(), 1_048_577);
-    assert_eq!(rt; result.input.bytes(), 1_048_577);
-    assert_eq!(rt; result.input.into_device().calls, 1_048_577);
-    expect_untouched(&rt, result.out);
-    expect_untouched(&rt, result.err);
+    equal(rt, told.status, Err(RunFault::WriteFailed));
+    expect_broken(rt, told.out, &told.out_page, ANSWER, call);
+    equal(rt, told.err, UNTOUCHED);
 }
 
 #[test]
 fn each_write_may_fail(rt: HostRuntime) {
-    let alloc = rt.alloc();
     for mishap in [Mishap::Fails, Mishap::IsInterrupted, Mishap::TakesNone] {
         for call in 1..21 {
-            let out = blank_page(alloc, 1, Odd { call, mishap });
-            let result = run_over(
-                alloc,
-                &Command::Merge,
-                feed_of(INPUT.as_bytes(), 100, NONE),
-                out,
-                blank_page(alloc, 1, NONE),
-            );
-            assert_eq!(rt;
-                result.status,
-                Err(RunFault::WriteFailed),
-                "{mishap:?} at {call}"
-            );
-            expect_broken(&rt, result.out, ANSWER, call);
-            expect_untouched(&rt, result.err);
+            expect_write_failed(&rt, call, mishap);
         }
     }
 }
 
 #[test]
 fn the_flush_may_fail(rt: HostRuntime) {
-    let alloc = rt.alloc();
     for mishap in [Mishap::Fails, Mishap::IsInterrupted] {
-        let out = blank_page(alloc, 1, Odd { call: 21, mishap });
-        let result = run_over(
-            alloc,
-            &Command::Merge,
-            feed_of(INPUT.as_bytes(), 100, NONE),
-            out,
-            blank_page(alloc, 1, NONE),
-        );
-        assert_eq!(rt; result.status, Err(RunFault::WriteFailed), "{mishap:?}");
-        expect_broken(&rt, result.out, ANSWER, 21);
-        expect_untouched(&rt, result.err);
+        expect_write_failed(&rt, 21, mishap);
     }
 }
 
 #[test]
 fn a_refusal_may_fail_to_be_written(rt: HostRuntime) {
     let alloc = rt.alloc();
-    let input = r#"[{"a":{}},{"a":null}]"#;
-    let err = blank_page(
-        alloc,
-        100,
-        Odd {
-            call: 1,
-            mishap: Mishap::Fails,
-        },
-    );
-    let result = run_over(
+    let first = Odd {
+        call: 1,
+        mishap: Mishap::Fails,
+    };
+    let told = run_over(
         alloc,
         &Command::Join,
-        feed_of(input.as_bytes(), 100, NONE),
+        feed_of(br#"[{"a":{}},{"a":null}]"#, 100, NONE),
         blank_page(alloc, 1, NONE),
-        err,
+        blank_page(alloc, 100, first),
     );
-    assert_eq!(rt; result.status, Err(RunFault::WriteFailed));
-    expect_untouched(&rt, result.out);
-    expect_broken(&rt, result.err, "conflict: patches 0 and 1 at \"/a\"\n", 1);
+    equal(&rt, told.status, Err(RunFault::WriteFailed));
+    equal(&rt, told.out, UNTOUCHED);
+    let line = "conflict: patches 0 and 1 at \"/a\"\n";
+    expect_broken(&rt, told.err, &told.err_page, line, 1);
 }
 
 /// `[5`, spaces and `]`: `length` bytes in all.
@@ -381,27 +430,14 @@ fn spaces_of_length(alloc: Global, length: usize) -> Result<Vec<u8>, AllocError>
 
 #[test]
 fn long_inputs_are_refused(rt: HostRuntime) -> Result<(), Fail> {
-    let alloc = rt.alloc();
-    let longest = spaces_of_length(alloc, 1_048_576)?;
-    expect_line(&rt, &Command::Merge, longest.as_slice(), 0, "5\n");
-    let longer = spaces_of_length(alloc, 1_048_577)?;
+    let longest = spaces_of_length(rt.alloc(), 1_048_576)?;
+    expect_line(&rt, &Command::Merge, longest.as_slice(), (0, "5\n"));
+    let longer = spaces_of_length(rt.alloc(), 1_048_577)?;
     for piece in [1, 1000, usize::MAX] {
-        let reader = feed_of(longer.as_slice(), piece, NONE);
-        let result = run_over(
-            alloc,
-            &Command::Merge,
-            reader,
-            blank_page(alloc, 1, NONE),
-            blank_page(alloc, 1, NONE),
-        );
-        assert_eq!(rt;
-            result.status,
-            Err(RunFault::TooLong),
-            "in pieces of {piece}"
-        );
-        assert_eq!(rt; result.input.bytes(), 1_048_577);
-        expect_untouched(&rt, result.out);
-        expect_untouched(&rt, result.err);
+        let told = merged(rt.alloc(), feed_of(longer.as_slice(), piece, NONE));
+        equal(&rt, told.status, Err(RunFault::TooLong));
+        equal(&rt, told.input.bytes, 1_048_577);
+        equal(&rt, (told.out, told.err), (UNTOUCHED, UNTOUCHED));
     }
     Ok(())
 }

@@ -1,4 +1,6 @@
 //! Worked values of the calls over texts: the answers as texts, each fault that a call tells, and the texts of the faults.
+use crate::documents::nested_text;
+use crate::written::{equal, holds, says};
 use mp_merge::ListFault;
 use mp_patch::{ApplyFault, Cause, FormCause, FormFault};
 use mp_pointer::{Pointer, PointerFault};
@@ -12,10 +14,10 @@ use std::process::Abort;
 use std::test::Fail;
 
 /// A text, or the words of a fault.
-type Wanted = Result<&'static str, &'static str>;
+type Wanted<'a> = Result<&'a str, &'a str>;
 
 /// Texts of patches, and their join.
-const JOINS: &[(&[&str], Wanted)] = &[
+const JOINS: &[(&[&str], Wanted<'static>)] = &[
     (
         &[r#"{"a":{}}"#, r#"{"a":{"b":null}}"#],
         Ok(r#"{"a":{"b":null}}"#),
@@ -54,7 +56,7 @@ const JOINS: &[(&[&str], Wanted)] = &[
 ];
 
 /// The text of a start, texts of patches, and the outcome.
-const REPLAYS: &[(&str, &[&str], Wanted)] = &[
+const REPLAYS: &[(&str, &[&str], Wanted<'static>)] = &[
     (
         r#"{"k":0}"#,
         &[
@@ -77,7 +79,7 @@ const REPLAYS: &[(&str, &[&str], Wanted)] = &[
 ];
 
 /// The text of a document, texts of patches, and the document after these.
-const MERGES: &[(&str, &[&str], Wanted)] = &[
+const MERGES: &[(&str, &[&str], Wanted<'static>)] = &[
     (
         r#"{"a":1}"#,
         &[r#"{"a":2}"#, r#"{"a":3}"#],
@@ -100,7 +102,7 @@ const MERGES: &[(&str, &[&str], Wanted)] = &[
 ];
 
 /// Texts of a document and of a patch, and the rewriting.
-const REWRITINGS: &[(&str, &str, Wanted)] = &[
+const REWRITINGS: &[(&str, &str, Wanted<'static>)] = &[
     (
         r#"{"a":1,"b":{"c":2}}"#,
         r#"{"a":1,"b":{"c":null,"d":{"e":null}},"x":null}"#,
@@ -114,7 +116,7 @@ const REWRITINGS: &[(&str, &str, Wanted)] = &[
 ];
 
 /// Texts of a document and of a JSON Patch, and the result.
-const PATCHES: &[(&str, &str, Wanted)] = &[
+const PATCHES: &[(&str, &str, Wanted<'static>)] = &[
     (
         "[1]",
         r#"[{"op":"add","path":"/-","value":2}]"#,
@@ -136,7 +138,7 @@ const PATCHES: &[(&str, &str, Wanted)] = &[
 ];
 
 /// The text of a document, a pointer, and the part.
-const PARTS: &[(&str, &str, Wanted)] = &[
+const PARTS: &[(&str, &str, Wanted<'static>)] = &[
     (r#"{"~1":3}"#, "/~01", Ok("3")),
     (" 5", "", Ok("5")),
     (r#"{"":1}"#, "/", Ok("1")),
@@ -159,16 +161,12 @@ fn bytes_of<'a>(alloc: Global, texts: &[&'a str]) -> Result<Vec<&'a [u8]>, Alloc
 fn is_told<R: Abort + AllocGlobal>(
     rt: &R,
     given: Result<String, TextsFault>,
-    wanted: Wanted,
+    wanted: Wanted<'_>,
 ) -> Result<(), Fail> {
     match (given, wanted) {
-        (Ok(text), Ok(wanted)) => assert_eq!(rt; text.as_str(), wanted),
-        (Err(fault), Err(wanted)) => {
-            let words = format!(in rt.alloc(); "{fault}")?;
-            assert_eq!(rt; words.as_str(), wanted)
-        }
-        (Ok(text), Err(wanted)) => assert!(rt; false, "{text} where {wanted} is wanted"),
-        (Err(_), Ok(wanted)) => assert!(rt; false, "a fault where {wanted} is wanted"),
+        (Ok(text), Ok(wanted)) => equal(rt, text.as_str(), wanted),
+        (Err(fault), Err(wanted)) => says(rt, &fault, wanted)?,
+        (_, Ok(wanted) | Err(wanted)) => holds(rt, false, wanted),
     }
     Ok(())
 }
@@ -232,18 +230,10 @@ fn parts_of_texts_are_found(rt: HostRuntime) -> Result<(), Fail> {
 /// A text of depth 126 is a document, and one of depth 127 is too deep.
 #[test]
 fn deep_texts_are_joined_or_told(rt: HostRuntime) -> Result<(), Fail> {
-    let mut deepest = String::new(rt.alloc());
-    for _ in 0..126 {
-        deepest.push('[')?;
-    }
-    for _ in 0..126 {
-        deepest.push(']')?;
-    }
-    let deeper = format!(in rt.alloc(); "[{deepest}]")?;
-    let joined = join_texts(rt.alloc(), &[deepest.as_bytes(), deepest.as_bytes()])?;
-    assert_eq!(rt; joined.as_str(), deepest.as_str());
-    let again = join_texts(rt.alloc(), &[joined.as_bytes()])?;
-    assert_eq!(rt; again.as_str(), deepest.as_str());
+    let deepest = nested_text(rt.alloc(), 126, "")?;
+    let deeper = nested_text(rt.alloc(), 127, "")?;
+    let joined = join_texts(rt.alloc(), &[deepest.as_bytes(), deepest.as_bytes()]);
+    is_told(&rt, joined, Ok(deepest.as_str()))?;
     is_told(
         &rt,
         join_texts(rt.alloc(), &[deepest.as_bytes(), deeper.as_bytes()]),
@@ -274,82 +264,95 @@ fn groups_of_texts_are_joined(rt: HostRuntime) -> Result<(), Fail> {
     let all = joined(&rt, ALL)?;
     let left = joined(&rt, LEFT)?;
     let right = joined(&rt, RIGHT)?;
-    let groups = join_texts(rt.alloc(), &[left.as_bytes(), right.as_bytes()])?;
-    assert_eq!(rt; groups.as_str(), all.as_str());
-    let start = br#"{"k":0}"#.as_slice();
+    let groups = join_texts(rt.alloc(), &[left.as_bytes(), right.as_bytes()]);
+    is_told(&rt, groups, Ok(all.as_str()))
+}
+
+/// A join merged, and a join rewritten and then applied, is what a replay of its patches gives.
+#[test]
+fn a_join_takes_the_place_of_its_patches(rt: HostRuntime) -> Result<(), Fail> {
+    let (start, wanted) = (b"{\"k\":0}".as_slice(), Ok(r#"{"a":{"x":1}}"#));
     let texts = bytes_of(rt.alloc(), RIGHT)?;
-    let replayed = replay_texts(rt.alloc(), start, texts.as_slice())?;
-    let merged = merge_texts(rt.alloc(), start, &[right.as_bytes()])?;
-    assert_eq!(rt; merged.as_str(), replayed.as_str());
-    let edits = rewrite_text(rt.alloc(), start, right.as_bytes())?;
-    let patched = patch_text(rt.alloc(), start, edits.as_bytes())?;
-    assert_eq!(rt; patched.as_str(), replayed.as_str());
-    Ok(())
+    is_told(
+        &rt,
+        replay_texts(rt.alloc(), start, texts.as_slice()),
+        wanted,
+    )?;
+    let join = joined(&rt, RIGHT)?;
+    is_told(
+        &rt,
+        merge_texts(rt.alloc(), start, &[join.as_bytes()]),
+        wanted,
+    )?;
+    let edits = rewrite_text(rt.alloc(), start, join.as_bytes())?;
+    is_told(&rt, patch_text(rt.alloc(), start, edits.as_bytes()), wanted)
+}
+
+/// The kind of a fault, and the fault within it.
+#[derive(Clone, Copy, Debug, PartialEq, Eq)]
+enum Kind {
+    Document(ReadFault),
+    Patch(usize, ReadFault),
+    NoPatches,
+    Clash,
+    Form(FormFault),
+    Refused(ApplyFault),
+    Pointer(PointerFault),
+    Missing,
+    NoMemory,
+}
+
+fn kind_of(fault: TextsFault) -> Kind {
+    match fault {
+        TextsFault::Document(fault) => Kind::Document(fault),
+        TextsFault::Patch { number, fault } => Kind::Patch(number, fault),
+        TextsFault::List(ListFault::NoPatches) => Kind::NoPatches,
+        TextsFault::List(_) => Kind::Clash,
+        TextsFault::Form(fault) => Kind::Form(fault),
+        TextsFault::Refused(fault) => Kind::Refused(fault),
+        TextsFault::Pointer(fault) => Kind::Pointer(fault),
+        TextsFault::Missing => Kind::Missing,
+        TextsFault::OutOfMemory => Kind::NoMemory,
+    }
+}
+
+fn is_refused(rt: &impl Abort, given: Result<String, TextsFault>, wanted: Kind) {
+    equal(rt, given.err().map(kind_of), Some(wanted));
 }
 
 #[test]
-fn faults_of_texts_are_told_by_their_kind(rt: HostRuntime) {
-    let none = b"[".as_slice();
-    assert!(rt;
-        matches!(
-            join_texts(rt.alloc(), &[b"1".as_slice(), none]),
-            Err(TextsFault::Patch {
-                number: 1,
-                fault: ReadFault::NotJson
-            })
-        )
+fn faults_are_told_by_their_kind(rt: HostRuntime) {
+    let (alloc, none) = (rt.alloc(), b"[".as_slice());
+    let texts = [b"1".as_slice(), none];
+    is_refused(
+        &rt,
+        join_texts(alloc, &texts),
+        Kind::Patch(1, ReadFault::NotJson),
     );
-    assert!(rt;
-        matches!(
-            join_texts(rt.alloc(), &[]),
-            Err(TextsFault::List(ListFault::NoPatches))
-        )
+    is_refused(&rt, join_texts(alloc, &[]), Kind::NoPatches);
+    is_refused(
+        &rt,
+        replay_texts(alloc, none, &[]),
+        Kind::Document(ReadFault::NotJson),
     );
-    assert!(rt;
-        matches!(
-            replay_texts(rt.alloc(), none, &[]),
-            Err(TextsFault::Document(ReadFault::NotJson))
-        )
-    );
+    let no_slash = Kind::Pointer(PointerFault::NoSlash);
+    is_refused(&rt, part_text(alloc, b"1", "a"), no_slash);
+    is_refused(&rt, part_text(alloc, b"1", "/a"), Kind::Missing);
 }
 
 #[test]
 fn faults_of_json_patches_are_told_by_their_kind(rt: HostRuntime) {
-    let text = b"1".as_slice();
-    assert!(rt;
-        matches!(
-            patch_text(rt.alloc(), text, b"[1]".as_slice()),
-            Err(TextsFault::Form(FormFault::Form {
-                op: 0,
-                cause: FormCause::NotAnObject
-            }))
-        )
-    );
-    assert!(rt;
-        matches!(
-            patch_text(
-                rt.alloc(),
-                text,
-                br#"[{"op":"remove","path":""}]"#.as_slice()
-            ),
-            Err(TextsFault::Refused(ApplyFault::Refused {
-                op: 0,
-                cause: Cause::RemoveRoot
-            }))
-        )
-    );
-}
-
-#[test]
-fn faults_of_parts_are_told_by_their_kind(rt: HostRuntime) {
-    let text = b"1".as_slice();
-    assert!(rt;
-        matches!(
-            part_text(rt.alloc(), text, "a"),
-            Err(TextsFault::Pointer(PointerFault::NoSlash))
-        )
-    );
-    assert!(rt; matches!(part_text(rt.alloc(), text, "/a"), Err(TextsFault::Missing)));
+    let form = Kind::Form(FormFault::Form {
+        op: 0,
+        cause: FormCause::NotAnObject,
+    });
+    is_refused(&rt, patch_text(rt.alloc(), b"1", b"[1]"), form);
+    let removes = br#"[{"op":"remove","path":""}]"#;
+    let refused = Kind::Refused(ApplyFault::Refused {
+        op: 0,
+        cause: Cause::RemoveRoot,
+    });
+    is_refused(&rt, patch_text(rt.alloc(), b"1", removes), refused);
 }
 
 /// The places of a conflict, as an array of strings.
@@ -357,11 +360,11 @@ fn faults_of_parts_are_told_by_their_kind(rt: HostRuntime) {
 fn places_are_written(rt: HostRuntime) -> Result<(), Fail> {
     let mut places = Vec::new(rt.alloc());
     let none = write_places(rt.alloc(), places.as_slice())?;
-    assert_eq!(rt; none.as_str(), "[]");
+    equal(&rt, none.as_str(), "[]");
     for spelling in ["/a~1b/\"", "", "/0"] {
         places.push(Pointer::parse(rt.alloc(), spelling)?)?;
     }
     let written = write_places(rt.alloc(), places.as_slice())?;
-    assert_eq!(rt; written.as_str(), r#"["/a~1b/\"","","/0"]"#);
+    equal(&rt, written.as_str(), r#"["/a~1b/\"","","/0"]"#);
     Ok(())
 }

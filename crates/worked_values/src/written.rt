@@ -1,11 +1,46 @@
-//! How a document is compared with its text.
+//! How what a call gives is compared with what is wanted. Each stands in a function of its own, with no path of failure in
+//! the test that calls it, since a test is proved as any function is.
 use mp_tree::{Doc, write_doc};
+use std::fmt::{Debug, Display};
 use std::process::Abort;
 use std::test::Fail;
+
+/// The value is the wanted one.
+pub fn equal<T: Debug + PartialEq + Drop>(rt: &impl Abort, found: T, wanted: T) {
+    assert_eq!(rt; found, wanted);
+}
+
+/// What `what` says holds.
+pub fn holds(rt: &impl Abort, is_so: bool, what: &str) {
+    assert!(rt; is_so, "{what}");
+}
 
 /// The document is written as this text.
 pub fn is_text<R: Abort + AllocGlobal>(rt: &R, doc: &Doc, wanted: &str) -> Result<(), Fail> {
     let found = write_doc(rt.alloc(), doc)?;
-    assert_eq!(rt; found.as_str(), wanted);
+    equal(rt, found.as_str(), wanted);
+    Ok(())
+}
+
+/// The call gives a document that is written as this text.
+pub fn gives<R: Abort + AllocGlobal, E: Display + Drop>(
+    rt: &R,
+    given: Result<Doc, E>,
+    wanted: &str,
+) -> Result<(), Fail> {
+    match given {
+        Ok(doc) => is_text(rt, &doc, wanted),
+        Err(fault) => Err(Fail::new(fault)),
+    }
+}
+
+/// The value is displayed as this text.
+pub fn says<R: Abort + AllocGlobal, D: Display>(
+    rt: &R,
+    told: &D,
+    wanted: &str,
+) -> Result<(), Fail> {
+    let found = format!(in rt.alloc(); "{told}")?;
+    equal(rt, found.as_str(), wanted);
     Ok(())
 }

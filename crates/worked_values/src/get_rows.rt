@@ -62,8 +62,7 @@ fn check_get<R: Abort + AllocGlobal>(
     status: u8,
 ) -> Result<(), Fail> {
     let command = Command::Get(String::from_str(rt.alloc(), pointer)?);
-    check(rt, &command, input.as_bytes(), text, status);
-    Ok(())
+    check(rt, &command, input.as_bytes(), text, status)
 }
 
 #[test]

@@ -271,20 +271,17 @@ const FORMS: &[Row] = &[
 
 #[test]
 fn operations_change_or_refuse(rt: HostRuntime) -> Result<(), Fail> {
-    check_rows(&rt, &Command::Patch, OPERATIONS);
-    Ok(())
+    check_rows(&rt, &Command::Patch, OPERATIONS)
 }
 
 #[test]
 fn patches_run_whole_or_not_at_all(rt: HostRuntime) -> Result<(), Fail> {
-    check_rows(&rt, &Command::Patch, PATCHES);
-    Ok(())
+    check_rows(&rt, &Command::Patch, PATCHES)
 }
 
 #[test]
 fn elements_that_are_no_operation_are_told(rt: HostRuntime) -> Result<(), Fail> {
-    check_rows(&rt, &Command::Patch, FORMS);
-    Ok(())
+    check_rows(&rt, &Command::Patch, FORMS)
 }
 
 /// A copy of the deepest document into itself.
@@ -301,6 +298,5 @@ fn depths_have_a_limit(rt: HostRuntime) -> Result<(), Fail> {
         input.as_bytes(),
         "operation 0: too deep",
         1,
-    );
-    Ok(())
+    )
 }

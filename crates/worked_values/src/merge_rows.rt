@@ -1,4 +1,5 @@
 //! `merge`: what is applied, what is refused, and the limits.
+use crate::documents::nested_text;
 use crate::rows::{Row, check, check_rows};
 use mp_cli::Command;
 use std::test::Fail;
@@ -45,49 +46,36 @@ const SHAPES: &[Row] = &[
 ];
 
 #[test]
-fn patches_are_merged_in_turn(rt: HostRuntime) {
-    check_rows(&rt, &Command::Merge, RESULTS);
+fn patches_are_merged_in_turn(rt: HostRuntime) -> Result<(), Fail> {
+    check_rows(&rt, &Command::Merge, RESULTS)
 }
 
 #[test]
-fn numbers_are_whole(rt: HostRuntime) {
-    check_rows(&rt, &Command::Merge, NUMBERS);
+fn numbers_are_whole(rt: HostRuntime) -> Result<(), Fail> {
+    check_rows(&rt, &Command::Merge, NUMBERS)
 }
 
 #[test]
-fn inputs_of_another_shape_are_refused(rt: HostRuntime) {
-    check_rows(&rt, &Command::Merge, SHAPES);
+fn inputs_of_another_shape_are_refused(rt: HostRuntime) -> Result<(), Fail> {
+    check_rows(&rt, &Command::Merge, SHAPES)
 }
 
 #[test]
-fn bytes_that_are_no_text(rt: HostRuntime) {
-    check(&rt, &Command::Merge, b"[\xff]", "input: not JSON", 2);
-}
-
-/// `depth` times `[`, then `depth` times `]`.
-fn nested_text(rt: &HostRuntime, depth: usize) -> Result<String, Fail> {
-    let mut text = String::new(rt.alloc());
-    for _ in 0..depth {
-        text.push_str("[")?;
-    }
-    for _ in 0..depth {
-        text.push_str("]")?;
-    }
-    Ok(text)
+fn bytes_that_are_no_text(rt: HostRuntime) -> Result<(), Fail> {
+    check(&rt, &Command::Merge, b"[\xff]", "input: not JSON", 2)
 }
 
 #[test]
 fn nesting_has_a_limit(rt: HostRuntime) -> Result<(), Fail> {
-    let deepest = nested_text(&rt, 127)?;
-    let inner = nested_text(&rt, 126)?;
-    check(&rt, &Command::Merge, deepest.as_bytes(), inner.as_str(), 0);
-    let too_deep = nested_text(&rt, 128)?;
+    let deepest = nested_text(rt.alloc(), 127, "")?;
+    let inner = nested_text(rt.alloc(), 126, "")?;
+    check(&rt, &Command::Merge, deepest.as_bytes(), inner.as_str(), 0)?;
+    let too_deep = nested_text(rt.alloc(), 128, "")?;
     check(
         &rt,
         &Command::Merge,
         too_deep.as_bytes(),
         "input: not JSON",
         2,
-    );
-    Ok(())
+    )
 }

@@ -1,6 +1,7 @@
 //! `rewrite`, and the four ways to one document: replay in two orders, the merge of the join, and the patch of the
 //! rewritten join.
 use crate::rows::{Row, check, check_rows};
+use crate::written::equal;
 use mp_cli::{Command, answer};
 use std::process::Abort;
 use std::test::Fail;
@@ -73,8 +74,7 @@ const END: &str = r#"{"a":{"x":1},"s":{"t":[null]}}"#;
 
 #[test]
 fn patches_are_rewritten(rt: HostRuntime) -> Result<(), Fail> {
-    check_rows(&rt, &Command::Rewrite, REWRITTEN);
-    Ok(())
+    check_rows(&rt, &Command::Rewrite, REWRITTEN)
 }
 
 #[test]
@@ -83,25 +83,27 @@ fn another_document_fails_a_test(rt: HostRuntime) -> Result<(), Fail> {
     let edits = line(&rt, &Command::Rewrite, input)?;
     for (document, text, status) in GUARDED {
         let patched = format!(in rt.alloc(); "[{document},{edits}]")?;
-        check(&rt, &Command::Patch, patched.as_bytes(), text, *status);
+        check(&rt, &Command::Patch, patched.as_bytes(), text, *status)?;
     }
     Ok(())
 }
 
 #[test]
 fn four_ways_to_one_document(rt: HostRuntime) -> Result<(), Fail> {
-    let one = format!(in rt.alloc(); "[{START},{ONE_ORDER}]")?;
-    check(&rt, &Command::Replay, one.as_bytes(), END, 0);
-    let other = format!(in rt.alloc(); "[{START},{OTHER_ORDER}]")?;
-    check(&rt, &Command::Replay, other.as_bytes(), END, 0);
+    ends_well(&rt, &Command::Replay, ONE_ORDER)?;
+    ends_well(&rt, &Command::Replay, OTHER_ORDER)?;
     let patches = format!(in rt.alloc(); "[{OTHER_ORDER}]")?;
     let join = line(&rt, &Command::Join, patches.as_str())?;
+    ends_well(&rt, &Command::Merge, join.as_str())?;
     let merged = format!(in rt.alloc(); "[{START},{join}]")?;
-    check(&rt, &Command::Merge, merged.as_bytes(), END, 0);
     let edits = line(&rt, &Command::Rewrite, merged.as_str())?;
-    let patched = format!(in rt.alloc(); "[{START},{edits}]")?;
-    check(&rt, &Command::Patch, patched.as_bytes(), END, 0);
-    Ok(())
+    ends_well(&rt, &Command::Patch, edits.as_str())
+}
+
+/// The start and these give the end.
+fn ends_well<R: Abort + AllocGlobal>(rt: &R, command: &Command, rest: &str) -> Result<(), Fail> {
+    let input = format!(in rt.alloc(); "[{START},{rest}]")?;
+    check(rt, command, input.as_bytes(), END, 0)
 }
 
 /// A value of a rewriting stands three levels down in an input of `patch`: in its operation, in the JSON Patch, in
@@ -116,7 +118,7 @@ fn a_rewriting_that_is_too_deep_is_not_read(rt: HostRuntime) -> Result<(), Fail>
         let edits = line(&rt, &Command::Rewrite, input.as_str())?;
         let patched = format!(in rt.alloc(); "[{{}},{edits}]")?;
         if is_read {
-            check(&rt, &Command::Patch, patched.as_bytes(), set.as_str(), 0);
+            check(&rt, &Command::Patch, patched.as_bytes(), set.as_str(), 0)?;
         } else {
             check(
                 &rt,
@@ -124,7 +126,7 @@ fn a_rewriting_that_is_too_deep_is_not_read(rt: HostRuntime) -> Result<(), Fail>
                 patched.as_bytes(),
                 "input: not JSON",
                 2,
-            );
+            )?;
         }
     }
     Ok(())
@@ -137,6 +139,6 @@ pub fn line<R: Abort + AllocGlobal>(
     input: &str,
 ) -> Result<String, Fail> {
     let found = answer(rt.alloc(), command, input.as_bytes())?;
-    assert_eq!(rt; found.status, 0, "the status of {input}");
+    equal(rt, found.status, 0);
     Ok(found.text)
 }

@@ -81,12 +81,10 @@ const REPLAYS: &[Row] = &[
 
 #[test]
 fn lists_are_joined(rt: HostRuntime) -> Result<(), Fail> {
-    check_rows(&rt, &Command::Join, JOINS);
-    Ok(())
+    check_rows(&rt, &Command::Join, JOINS)
 }
 
 #[test]
 fn lists_are_replayed(rt: HostRuntime) -> Result<(), Fail> {
-    check_rows(&rt, &Command::Replay, REPLAYS);
-    Ok(())
+    check_rows(&rt, &Command::Replay, REPLAYS)
 }
