@@ -16,6 +16,14 @@ def is_proved():
     return False
 
 
+def has_library():
+    """Proves and builds the library where it must be, or waits for a check that does, and tells if it stands."""
+    if subprocess.run([TOP / "bin/library"], stdin=subprocess.DEVNULL).returncode == 0:
+        return True
+    print("nothing was run, since bin/library failed")
+    return False
+
+
 class Calls:
     """Counts what was looked at, and what of it was wrong."""
 
