@@ -18,59 +18,51 @@ fn faults_say_what_happened(rt: HostRuntime) -> Result<(), Fail> {
     for (fault, text) in RUN_FAULTS {
         says(&rt, fault, text)?;
     }
-    let help = CommandFault::Help(String::from_str(alloc, "how to")?);
-    says(&rt, &help, "how to")?;
-    let usage = CommandFault::Usage(String::from_str(alloc, "not so")?);
-    says(&rt, &usage, "not so")?;
+    let how_to = String::from_str(alloc, "how to")?;
+    says(&rt, &CommandFault::Help(how_to), "how to")?;
+    let not_so = String::from_str(alloc, "not so")?;
+    says(&rt, &CommandFault::Usage(not_so), "not so")?;
     says(&rt, &CommandFault::OutOfMemory, "out of memory")
 }
 
-fn command_asked_for(
-    alloc: Global,
-    line: &str,
-) -> Result<Result<Command, CommandFault>, AllocError> {
+fn words_of(alloc: Global, line: &str) -> Result<Vec<String>, AllocError> {
     let mut words = Vec::new(alloc);
     for word in line.split(' ') {
         words.push(String::from_str(alloc, word)?)?;
     }
-    Ok(command_of(alloc, words))
+    Ok(words)
 }
 
-/// What the words of a line ask for.
-#[derive(Clone, Copy, Debug, PartialEq, Eq)]
-enum Asked {
-    Merge,
-    Join,
-    Another,
-    Help,
-    Usage,
-    Memory,
-}
-
-fn kind_of(asked: &Result<Command, CommandFault>) -> Asked {
+/// What is asked for, in a word.
+fn kind_of(asked: &Result<Command, CommandFault>) -> &'static str {
     match asked {
-        Ok(Command::Merge) => Asked::Merge,
-        Ok(Command::Join) => Asked::Join,
-        Ok(_) => Asked::Another,
-        Err(CommandFault::Help(_)) => Asked::Help,
-        Err(CommandFault::Usage(_)) => Asked::Usage,
-        Err(CommandFault::OutOfMemory) => Asked::Memory,
+        Ok(Command::Merge) => "merge",
+        Ok(Command::Join) => "join",
+        Ok(_) => "another",
+        Err(CommandFault::Help(_)) => "help",
+        Err(CommandFault::Usage(_)) => "usage",
+        Err(CommandFault::OutOfMemory) => "no memory",
     }
 }
 
-fn asked_by(alloc: Global, line: &str) -> Result<Asked, AllocError> {
-    let asked = command_asked_for(alloc, line)?;
-    Ok(kind_of(&asked))
+fn asked_by(alloc: Global, line: &str) -> Result<&'static str, AllocError> {
+    let words = words_of(alloc, line)?;
+    Ok(kind_of(&command_of(alloc, words)))
 }
 
-fn pointer_asked_for(alloc: Global, line: &str) -> Result<Option<String>, AllocError> {
-    Ok(match command_asked_for(alloc, line)? {
+fn pointer_in(asked: Result<Command, CommandFault>) -> Option<String> {
+    match asked {
         Ok(command) => match command {
             Command::Get(pointer) => Some(pointer),
             _other => None,
         },
         Err(_fault) => None,
-    })
+    }
+}
+
+fn pointer_asked_for(alloc: Global, line: &str) -> Result<Option<String>, AllocError> {
+    let words = words_of(alloc, line)?;
+    Ok(pointer_in(command_of(alloc, words)))
 }
 
 /// Words that ask for `get`, and its pointer.
@@ -85,8 +77,8 @@ const POINTERS: &[(&str, &str)] = &[
 
 #[test]
 fn words_ask_for_commands(rt: HostRuntime) -> Result<(), Fail> {
-    equal(&rt, asked_by(rt.alloc(), "mergejoin merge")?, Asked::Merge);
-    equal(&rt, asked_by(rt.alloc(), "mergejoin join")?, Asked::Join);
+    equal(&rt, asked_by(rt.alloc(), "mergejoin merge")?, "merge");
+    equal(&rt, asked_by(rt.alloc(), "mergejoin join")?, "join");
     for (line, pointer) in POINTERS {
         let found = pointer_asked_for(rt.alloc(), line)?;
         equal(&rt, found.as_deref(), Some(*pointer));
@@ -110,7 +102,7 @@ const BAD_WORDS: &[&str] = &[
 #[test]
 fn words_that_ask_for_nothing(rt: HostRuntime) -> Result<(), Fail> {
     for line in BAD_WORDS {
-        equal(&rt, asked_by(rt.alloc(), line)?, Asked::Usage);
+        equal(&rt, asked_by(rt.alloc(), line)?, "usage");
     }
     Ok(())
 }
@@ -126,7 +118,7 @@ const HELP_WORDS: &[&str] = &[
 #[test]
 fn help_is_asked_for(rt: HostRuntime) -> Result<(), Fail> {
     for line in HELP_WORDS {
-        equal(&rt, asked_by(rt.alloc(), line)?, Asked::Help);
+        equal(&rt, asked_by(rt.alloc(), line)?, "help");
     }
     Ok(())
 }

@@ -1,5 +1,5 @@
 //! Worked values of the promise run: lists in several orders and with repeats, the first refusal, and the texts of the faults.
-use crate::written::{gives, holds, is_text, says};
+use crate::written::{gives, is_text, says};
 use mp_merge::{ConvergeFault, Converged, ListFault, converge};
 use mp_patch::{Cause, apply};
 use mp_tree::{Doc, read_doc, read_docs};
@@ -39,15 +39,24 @@ fn converged(alloc: Global, row: &Replicas) -> Result<(Doc, Converged), Fail> {
 }
 
 fn check_row<R: Abort + AllocGlobal>(rt: &R, row: &Replicas) -> Result<(), Fail> {
-    let (.., document, join) = row;
     let (start, end) = converged(rt.alloc(), row)?;
+    is_end(rt, row, &start, &end)
+}
+
+fn is_end<R: Abort + AllocGlobal>(
+    rt: &R,
+    row: &Replicas,
+    start: &Doc,
+    end: &Converged,
+) -> Result<(), Fail> {
+    let (.., document, join) = row;
     show(
         rt,
         &[&end.here, &end.there, &end.merged, &end.patched],
         document,
     )?;
     show(rt, &[&end.joined_here, &end.joined_there], join)?;
-    gives(rt, apply(rt.alloc(), &start, &end.edits), document)
+    gives(rt, apply(rt.alloc(), start, &end.edits), document)
 }
 
 fn show<R: Abort + AllocGlobal>(rt: &R, docs: &[&Doc], wanted: &str) -> Result<(), Fail> {
@@ -77,20 +86,20 @@ const REFUSED: &[(&str, &str, &str)] = &[
     (r#"[{"a":1}]"#, "[]", "no patches"),
 ];
 
-/// Why the replicas do not converge, if they do not.
-fn refusal_of(alloc: Global, here: &str, there: &str) -> Result<Option<ConvergeFault>, Fail> {
+/// Why the replicas do not converge.
+fn refusal_of(alloc: Global, here: &str, there: &str) -> Result<ConvergeFault, Fail> {
     let here = read_docs(alloc, here.as_bytes())?;
     let there = read_docs(alloc, there.as_bytes())?;
-    Ok(converge(alloc, &Doc::Null, here.as_slice(), there.as_slice()).err())
+    match converge(alloc, &Doc::Null, here.as_slice(), there.as_slice()) {
+        Err(fault) => Ok(fault),
+        Ok(_) => Err(Fail::new("they converge")),
+    }
 }
 
 #[test]
 fn the_first_refusal_is_told(rt: HostRuntime) -> Result<(), Fail> {
     for (here, there, wanted) in REFUSED {
-        match refusal_of(rt.alloc(), here, there)? {
-            Some(fault) => says(&rt, &fault, wanted)?,
-            None => holds(&rt, false, wanted),
-        }
+        says(&rt, &refusal_of(rt.alloc(), here, there)?, wanted)?;
     }
     Ok(())
 }

@@ -122,12 +122,17 @@ const COMPARED: &[(&str, &str, bool)] = &[
     ("{\"\\u00e9\":1}", "{\"e\\u0301\":1}", false),
 ];
 
+/// Whether the documents are equal, each compared with the other.
+fn are_same(alloc: Global, one: &str, two: &str) -> Result<(bool, bool), ReadFault> {
+    let one_doc = doc_of(alloc, one)?;
+    let two_doc = doc_of(alloc, two)?;
+    Ok((one_doc.same(&two_doc), two_doc.same(&one_doc)))
+}
+
 #[test]
 fn documents_are_compared(rt: HostRuntime) -> Result<(), Fail> {
     for (one, two, same) in COMPARED {
-        let (one_doc, two_doc) = (doc_of(rt.alloc(), one)?, doc_of(rt.alloc(), two)?);
-        holds(&rt, one_doc.same(&two_doc) == *same, one);
-        holds(&rt, two_doc.same(&one_doc) == *same, two);
+        equal(&rt, are_same(rt.alloc(), one, two)?, (*same, *same));
     }
     Ok(())
 }

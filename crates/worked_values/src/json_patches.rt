@@ -255,27 +255,31 @@ fn applied_alone(alloc: Global, op: Op) -> Result<Result<Doc, ApplyFault>, Fail>
 
 #[test]
 fn depths_have_a_limit(rt: HostRuntime) -> Result<(), Fail> {
-    let end = Pointer::parse(rt.alloc(), "/-")?;
-    let deepest = applied_alone(rt.alloc(), Op::Add(end, nested_doc(rt.alloc(), 125)?))??;
+    let deepest = applied_alone(rt.alloc(), addition(rt.alloc(), 125)?)??;
     holds(&rt, deepest.fits(126), "at most 126");
     holds(&rt, !deepest.fits(125), "126");
-
-    let end = Pointer::parse(rt.alloc(), "/-")?;
-    let deeper = applied_alone(rt.alloc(), Op::Add(end, nested_doc(rt.alloc(), 126)?))?;
+    let deeper = applied_alone(rt.alloc(), addition(rt.alloc(), 126)?)?;
     let too_deep = ApplyFault::Refused {
         op: 0,
         cause: Cause::TooDeep,
     };
     equal(&rt, deeper.err(), Some(too_deep));
-
-    let root = Pointer::empty(rt.alloc());
-    let replaced = applied_alone(rt.alloc(), Op::Replace(root, nested_doc(rt.alloc(), 126)?))??;
-    holds(
-        &rt,
-        replaced.same(&nested_doc(rt.alloc(), 126)?),
-        "the value",
-    );
+    let replaced = applied_alone(rt.alloc(), replacement(rt.alloc(), 126)?)??;
+    holds(&rt, replaced.fits(126), "the value");
     Ok(())
+}
+
+/// An `add` of a value of this depth at the end of an array.
+fn addition(alloc: Global, depth: u8) -> Result<Op, Fail> {
+    let value = nested_doc(alloc, depth)?;
+    let end = Pointer::parse(alloc, "/-")?;
+    Ok(Op::Add(end, value))
+}
+
+/// A `replace` of the whole document by a value of this depth.
+fn replacement(alloc: Global, depth: u8) -> Result<Op, Fail> {
+    let value = nested_doc(alloc, depth)?;
+    Ok(Op::Replace(Pointer::empty(alloc), value))
 }
 
 fn says_of_operation_7<R: Abort + AllocGlobal, D: Display>(

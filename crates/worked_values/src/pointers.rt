@@ -84,10 +84,20 @@ fn check_part<R: Abort + AllocGlobal>(
 ) -> Result<(), Fail> {
     let doc = read_doc(rt.alloc(), NESTED.as_bytes())?;
     let pointer = Pointer::parse(rt.alloc(), text)?;
-    is_spelled(rt, &pointer, text)?;
-    match (get(&doc, &pointer), wanted) {
+    is_part(rt, &doc, &pointer, wanted)?;
+    is_spelled(rt, &pointer, text)
+}
+
+/// The part that the pointer names is written as this text, or there is none.
+fn is_part<R: Abort + AllocGlobal>(
+    rt: &R,
+    doc: &Doc,
+    pointer: &Pointer,
+    wanted: Option<&str>,
+) -> Result<(), Fail> {
+    match (get(doc, pointer), wanted) {
         (Some(part), Some(wanted)) => is_text(rt, part, wanted)?,
-        (found, wanted) => holds(rt, found.is_some() == wanted.is_some(), text),
+        (found, wanted) => equal(rt, found.is_some(), wanted.is_some()),
     }
     Ok(())
 }
@@ -165,17 +175,22 @@ fn a_bad_tilde_is_told_by_its_offset(rt: HostRuntime) {
 #[test]
 fn tokens_are_those_of_a_list(rt: HostRuntime) -> Result<(), Fail> {
     let pointer = Pointer::parse(rt.alloc(), "/a~1b/~0")?;
+    is_spelled(&rt, &pointer.front(rt.alloc(), 1)?, "/a~1b")?;
     equal(&rt, pointer.len(), 2);
     equal(&rt, pointer.token(0), Some("a/b"));
     equal(&rt, pointer.token(1), Some("~"));
     equal(&rt, pointer.token(2), None);
-    is_spelled(&rt, &pointer, "/a~1b/~0")?;
-    is_spelled(&rt, &pointer.copy(rt.alloc())?, "/a~1b/~0")?;
-    is_spelled(&rt, &pointer.child(rt.alloc(), "x/")?, "/a~1b/~0/x~1")?;
+    are_spelled(&rt, &pointer)
+}
+
+/// The pointer, and what is made of it and of a token.
+fn are_spelled<R: Abort + AllocGlobal>(rt: &R, pointer: &Pointer) -> Result<(), Fail> {
+    is_spelled(rt, pointer, "/a~1b/~0")?;
+    is_spelled(rt, &pointer.copy(rt.alloc())?, "/a~1b/~0")?;
+    is_spelled(rt, &pointer.child(rt.alloc(), "x/")?, "/a~1b/~0/x~1")?;
     let copy = pointer.copy(rt.alloc())?;
-    is_spelled(&rt, &copy.under(rt.alloc(), "x/")?, "/x~1/a~1b/~0")?;
-    is_spelled(&rt, &pointer.front(rt.alloc(), 1)?, "/a~1b")?;
-    is_spelled(&rt, &Pointer::empty(rt.alloc()), "")
+    is_spelled(rt, &copy.under(rt.alloc(), "x/")?, "/x~1/a~1b/~0")?;
+    is_spelled(rt, &Pointer::empty(rt.alloc()), "")
 }
 
 /// Pointers, and whether `/a` is a proper prefix.

@@ -256,13 +256,17 @@ fn keeper_of_both<R: Abort + AllocGlobal>(rt: &R) -> Result<Keeper, Fail> {
 #[test]
 fn the_recipe_of_replicas(rt: HostRuntime) -> Result<(), Fail> {
     let mut keeper = keeper_of_both(&rt)?;
-    comes(&rt, &mut keeper, (1, BOB_AGAIN), LARGER, Arrival::Kept)?;
-    clash(&rt, &keeper, &[(ANN, BOB)])?;
-    shows(&rt, &keeper, r#"{"colour":"red","size":2}"#)?;
+    follows_recipe(&rt, &mut keeper)
+}
+
+fn follows_recipe<R: Abort + AllocGlobal>(rt: &R, keeper: &mut Keeper) -> Result<(), Fail> {
+    comes(rt, keeper, (1, BOB_AGAIN), LARGER, Arrival::Kept)?;
+    clash(rt, keeper, &[(ANN, BOB)])?;
+    shows(rt, keeper, r#"{"colour":"red","size":2}"#)?;
     keeper.decide(rt.alloc(), &[ANN, BOB_AGAIN])?;
-    shows(&rt, &keeper, r#"{"colour":"blue","size":2}"#)?;
-    clash(&rt, &keeper, &[])?;
-    equal(&rt, keeper.epoch(), 2);
+    shows(rt, keeper, r#"{"colour":"blue","size":2}"#)?;
+    clash(rt, keeper, &[])?;
+    equal(rt, keeper.epoch(), 2);
     Ok(())
 }
 
@@ -270,14 +274,18 @@ fn the_recipe_of_replicas(rt: HostRuntime) -> Result<(), Fail> {
 #[test]
 fn what_becomes_of_letters(rt: HostRuntime) -> Result<(), Fail> {
     let mut keeper = keeper_of_both(&rt)?;
-    comes(&rt, &mut keeper, (1, ANN), LARGER, Arrival::Repeat)?;
-    shows(&rt, &keeper, BOX)?;
+    receives_by_start(&rt, &mut keeper)
+}
+
+fn receives_by_start<R: Abort + AllocGlobal>(rt: &R, keeper: &mut Keeper) -> Result<(), Fail> {
+    comes(rt, keeper, (1, ANN), LARGER, Arrival::Repeat)?;
+    shows(rt, keeper, BOX)?;
     keeper.decide(rt.alloc(), &[ANN])?;
-    comes(&rt, &mut keeper, (1, BOB), GREEN, Arrival::Late)?;
-    comes(&rt, &mut keeper, (3, BOB), GREEN, Arrival::Early)?;
-    shows(&rt, &keeper, r#"{"colour":"blue","size":1}"#)?;
-    comes(&rt, &mut keeper, (2, BOB), GREEN, Arrival::Kept)?;
-    shows(&rt, &keeper, r#"{"colour":"green","size":1}"#)
+    comes(rt, keeper, (1, BOB), GREEN, Arrival::Late)?;
+    comes(rt, keeper, (3, BOB), GREEN, Arrival::Early)?;
+    shows(rt, keeper, r#"{"colour":"blue","size":1}"#)?;
+    comes(rt, keeper, (2, BOB), GREEN, Arrival::Kept)?;
+    shows(rt, keeper, r#"{"colour":"green","size":1}"#)
 }
 
 /// The decision is refused, with this text.

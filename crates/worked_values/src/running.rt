@@ -16,7 +16,7 @@ const INPUT: &str = r#"[{"a":"b","c":{"d":1}},{"a":null,"c":{"e":2}}]"#;
 const ANSWER: &str = "{\"c\":{\"d\":1,\"e\":2}}\n";
 
 /// How a call goes wrong.
-#[derive(Clone, Copy, Debug, PartialEq, Eq)]
+#[derive(Clone, Copy)]
 enum Mishap {
     Fails,
     IsInterrupted,
@@ -24,7 +24,7 @@ enum Mishap {
 }
 
 /// One call, counted from 1, and how it goes wrong. Number 0 is none.
-#[derive(Clone, Copy, Debug)]
+#[derive(Clone, Copy)]
 struct Odd {
     call: u64,
     mishap: Mishap,
@@ -433,11 +433,15 @@ fn long_inputs_are_refused(rt: HostRuntime) -> Result<(), Fail> {
     let longest = spaces_of_length(rt.alloc(), 1_048_576)?;
     expect_line(&rt, &Command::Merge, longest.as_slice(), (0, "5\n"));
     let longer = spaces_of_length(rt.alloc(), 1_048_577)?;
-    for piece in [1, 1000, usize::MAX] {
-        let told = merged(rt.alloc(), feed_of(longer.as_slice(), piece, NONE));
-        equal(&rt, told.status, Err(RunFault::TooLong));
-        equal(&rt, told.input.bytes, 1_048_577);
-        equal(&rt, (told.out, told.err), (UNTOUCHED, UNTOUCHED));
-    }
+    is_too_long(&rt, longer.as_slice());
     Ok(())
+}
+
+fn is_too_long<R: Abort + AllocGlobal>(rt: &R, input: &[u8]) {
+    for piece in [1, 1000, usize::MAX] {
+        let told = merged(rt.alloc(), feed_of(input, piece, NONE));
+        equal(rt, told.status, Err(RunFault::TooLong));
+        equal(rt, told.input.bytes, 1_048_577);
+        equal(rt, (told.out, told.err), (UNTOUCHED, UNTOUCHED));
+    }
 }

@@ -1,14 +1,11 @@
 //! Worked values of the calls over texts: the answers as texts, each fault that a call tells, and the texts of the faults.
 use crate::documents::nested_text;
 use crate::written::{equal, holds, says};
-use mp_merge::ListFault;
-use mp_patch::{ApplyFault, Cause, FormCause, FormFault};
-use mp_pointer::{Pointer, PointerFault};
+use mp_pointer::Pointer;
 use mp_texts::{
     TextsFault, join_texts, merge_texts, part_text, patch_text, replay_texts, rewrite_text,
     write_places,
 };
-use mp_tree::ReadFault;
 use std::alloc::{AllocError, Global};
 use std::process::Abort;
 use std::test::Fail;
@@ -131,6 +128,12 @@ const PATCHES: &[(&str, &str, Wanted<'static>)] = &[
         "1",
         r#"[{"op":"remove","path":"/a"},{}]"#,
         Err("operation 1: no op"),
+    ),
+    ("1", "[1]", Err("operation 0: not an object")),
+    (
+        "1",
+        r#"[{"op":"remove","path":""}]"#,
+        Err("operation 0: remove of root"),
     ),
     ("1", "{}", Err("not an array")),
     ("[", "{", Err("document: not JSON")),
@@ -286,73 +289,6 @@ fn a_join_takes_the_place_of_its_patches(rt: HostRuntime) -> Result<(), Fail> {
     )?;
     let edits = rewrite_text(rt.alloc(), start, join.as_bytes())?;
     is_told(&rt, patch_text(rt.alloc(), start, edits.as_bytes()), wanted)
-}
-
-/// The kind of a fault, and the fault within it.
-#[derive(Clone, Copy, Debug, PartialEq, Eq)]
-enum Kind {
-    Document(ReadFault),
-    Patch(usize, ReadFault),
-    NoPatches,
-    Clash,
-    Form(FormFault),
-    Refused(ApplyFault),
-    Pointer(PointerFault),
-    Missing,
-    NoMemory,
-}
-
-fn kind_of(fault: TextsFault) -> Kind {
-    match fault {
-        TextsFault::Document(fault) => Kind::Document(fault),
-        TextsFault::Patch { number, fault } => Kind::Patch(number, fault),
-        TextsFault::List(ListFault::NoPatches) => Kind::NoPatches,
-        TextsFault::List(_) => Kind::Clash,
-        TextsFault::Form(fault) => Kind::Form(fault),
-        TextsFault::Refused(fault) => Kind::Refused(fault),
-        TextsFault::Pointer(fault) => Kind::Pointer(fault),
-        TextsFault::Missing => Kind::Missing,
-        TextsFault::OutOfMemory => Kind::NoMemory,
-    }
-}
-
-fn is_refused(rt: &impl Abort, given: Result<String, TextsFault>, wanted: Kind) {
-    equal(rt, given.err().map(kind_of), Some(wanted));
-}
-
-#[test]
-fn faults_are_told_by_their_kind(rt: HostRuntime) {
-    let (alloc, none) = (rt.alloc(), b"[".as_slice());
-    let texts = [b"1".as_slice(), none];
-    is_refused(
-        &rt,
-        join_texts(alloc, &texts),
-        Kind::Patch(1, ReadFault::NotJson),
-    );
-    is_refused(&rt, join_texts(alloc, &[]), Kind::NoPatches);
-    is_refused(
-        &rt,
-        replay_texts(alloc, none, &[]),
-        Kind::Document(ReadFault::NotJson),
-    );
-    let no_slash = Kind::Pointer(PointerFault::NoSlash);
-    is_refused(&rt, part_text(alloc, b"1", "a"), no_slash);
-    is_refused(&rt, part_text(alloc, b"1", "/a"), Kind::Missing);
-}
-
-#[test]
-fn faults_of_json_patches_are_told_by_their_kind(rt: HostRuntime) {
-    let form = Kind::Form(FormFault::Form {
-        op: 0,
-        cause: FormCause::NotAnObject,
-    });
-    is_refused(&rt, patch_text(rt.alloc(), b"1", b"[1]"), form);
-    let removes = br#"[{"op":"remove","path":""}]"#;
-    let refused = Kind::Refused(ApplyFault::Refused {
-        op: 0,
-        cause: Cause::RemoveRoot,
-    });
-    is_refused(&rt, patch_text(rt.alloc(), b"1", removes), refused);
 }
 
 /// The places of a conflict, as an array of strings.

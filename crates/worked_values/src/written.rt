@@ -1,5 +1,5 @@
-//! How what a call gives is compared with what is wanted. Each stands in a function of its own, with no path of failure in
-//! the test that calls it, since a test is proved as any function is.
+//! How what a call gives is compared with what is wanted. Each stands in a function of its own, so that no test drops what
+//! it holds where a comparison fails, since a test is proved as any function is.
 use mp_tree::{Doc, write_doc};
 use std::fmt::{Debug, Display};
 use std::process::Abort;
