@@ -265,7 +265,7 @@ fn depths_have_a_limit(rt: HostRuntime) -> Result<(), Fail> {
     };
     equal(&rt, deeper.err(), Some(too_deep));
     let replaced = applied_alone(rt.alloc(), replacement(rt.alloc(), 126)?)??;
-    holds(&rt, replaced.fits(126), "the value");
+    holds(&rt, !replaced.fits(125), "the value");
     Ok(())
 }
 

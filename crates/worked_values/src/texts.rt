@@ -103,9 +103,10 @@ const REWRITINGS: &[(&str, &str, Wanted<'static>)] = &[
     (
         r#"{"a":1,"b":{"c":2}}"#,
         r#"{"a":1,"b":{"c":null,"d":{"e":null}},"x":null}"#,
-        Ok(
-            r#"[{"op":"test","path":"/b/c","value":2},{"op":"remove","path":"/b/c"},{"op":"add","path":"/b/d","value":{}}]"#,
-        ),
+        Ok(concat!(
+            r#"[{"op":"test","path":"/b/c","value":2},{"op":"remove","path":"/b/c"},"#,
+            r#"{"op":"add","path":"/b/d","value":{}}]"#,
+        )),
     ),
     ("null", "null", Ok("[]")),
     ("[", "[", Err("document: not JSON")),
