@@ -8,7 +8,7 @@ use Rattle.mp_tree.specs.Text.{items_data}
 use Rattle.mp_tree.specs.View.{document, items}
 use Rattle.mp_tree.specs.Private.Entries.{members}
 use Rattle.mp_tree.proofs.Texts.IntoData.{entries_data, items_len-items, members_len-entries, members_data-entries}
-use Rattle.mp_tree.proofs.Documents.Meaning.{document-Members}
+use Rattle.mp_tree.proofs.Documents.Meaning.{document-Flag, document-Members}
 use Rattle.mp_tree.proofs.serializing.+send.Goals as goal
 
 pub send-returns-in-Members : goal.send-returns-in-Members
@@ -46,3 +46,6 @@ send_members-returns g t c =
       subst (λ ms. SendsMembers ms first end) (ap entries_data all ∙ sym same)
           (c.loop-name.invariant end (subst (λ es. SendsMembers (entries_data es) (g.S.Serializer.written c.loop-name.out) end) (sym c.in-None.ensures.steps.0) e)),
     )) c.end_map.ensures
+
+pub send-returns-in-Flag : goal.send-returns-in-Flag
+send-returns-in-Flag g t c = rw (ap document c.in-Flag.is ∙ document-Flag c.in-Flag.flag) c.bool.ensures
