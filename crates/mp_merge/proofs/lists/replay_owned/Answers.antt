@@ -1,4 +1,4 @@
-use Rattle.std.proofs.Common.{map, sym, subst, arith}
+use Rattle.std.proofs.Common.{map, refl, sym, subst, arith}
 use Rattle.mp_tree.specs.View.{document}
 use Rattle.mp_tree.proofs.Facts.{IsDocument-document}
 use Rattle.mp_merge.specs.Outcome.{IsOutcome}
@@ -15,3 +15,6 @@ returns-clause-outcome c =
 pub returns-clause-depth : goal.returns-clause-depth
 returns-clause-depth c n short within =
     omega (arith, c.in_ok-merge_owned.ensures.depth, short, c.in_ok-joined.ensures.depth n within)
+
+pub returns-then-is_empty-clause-none : goal.returns-then-is_empty-clause-none
+returns-then-is_empty-clause-none c none = refl
