@@ -1,11 +1,11 @@
 """Rows for what calls the library: an export, the status, the numbers and the text of its reply, and the texts that it is
-given. They are those of the modules *_rows of crates/worked_values, each program's line told as a reply, and those below.
+given. They are the worked examples (`worked.py`), each program's line told as a reply, and those below.
 """
 
 import json
 import re
 
-from calls import TOP
+from worked import worked
 
 EXPORTS = ["join", "replay", "merge", "rewrite", "patch", "get"]
 
@@ -36,19 +36,6 @@ ROWS = [
     ("get", 8, 2, 0, "not UTF-8", [b"5", b"a~\xe2\x82"]),
 ]
 
-# The rows in their sources: a text or a raw text, and a number.
-TEXT = r'(?:r#"(.*?)"#|r"([^"]*)"|"((?:[^"\\]|\\.)*)")'
-ROW = re.compile(rf"\(\s*{TEXT},\s*{TEXT},\s*(\d),?\s*\)", re.S)
-POINTER_ROW = re.compile(rf"\(\s*{TEXT},\s*{TEXT},\s*{TEXT},\s*(\d),?\s*\)", re.S)
-PAIR = re.compile(rf"\(\s*{TEXT},\s*{TEXT},?\s*\)", re.S)
-
-
-def literals(found):
-    """Gives the texts of literals, each found as a raw text with or without a # around it, or as a plain one."""
-    for at in range(0, len(found) - 2, 3):
-        hashed, raw, plain = found[at:at + 3]
-        yield hashed or raw or json.loads(f'"{plain}"')
-
 
 def elements_of(text):
     """Gives the texts of the elements of a JSON array."""
@@ -78,21 +65,9 @@ def reply_of(line, status):
 
 
 def worked_rows():
-    """Gives the rows of the modules *_rows of crates/worked_values as those above."""
-    for path in sorted((TOP / "crates/worked_values/src").glob("*_rows.rt")):
-        source = path.read_text("utf-8")
-        tables = dict(re.findall(r"^const (\w+): &\[[^=\n]*\] = &\[\n(.*?)^\];", source, re.M | re.S))
-        for command, table in re.findall(r"check_rows\(&rt, &Command::(\w+), (\w+)\)", source):
-            for *words, status in ROW.findall(tables[table]):
-                yield from told(command.lower(), *literals(words), int(status), [])
-        if path.stem == "get_rows":
-            for *words, status in POINTER_ROW.findall(tables["PARTS"] + tables["FAULTS"]):
-                pointer, text, line = literals(words)
-                yield from told("get", text, line, int(status), [pointer.encode()])
-            example = re.search(r'^const EXAMPLE: &str =\s+r#"(.*?)"#;', source, re.M | re.S)[1]
-            for words in PAIR.findall(tables["EXAMPLES"]):
-                pointer, line = literals(words)
-                yield from told("get", example, line, 0, [pointer.encode()])
+    """Gives the worked examples as rows like those above."""
+    for (export, *pointer), text, line, status in worked():
+        yield from told(export, text, line, status, [word.encode() for word in pointer])
 
 
 def told(export, text, line, status, more):

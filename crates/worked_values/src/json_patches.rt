@@ -1,12 +1,12 @@
 //! Worked values: operations on documents, forms, and the texts of the faults.
-use crate::written::{equal, gives, holds, is_text, says};
+use crate::written::{equal, gives, is_text, says};
 use mp_patch::{
     ApplyFault, Cause, FormCause, FormFault, JsonPatch, Op, apply, apply_once, apply_owned,
     write_patch,
 };
 use mp_pointer::Pointer;
 use mp_tree::{Doc, read_doc};
-use std::alloc::{AllocError, Global};
+use std::alloc::Global;
 use std::fmt::Display;
 use std::process::Abort;
 use std::test::Fail;
@@ -126,17 +126,6 @@ const FORM_CAUSES: &[(FormCause, &str)] = &[
     (FormCause::NoValue, "no value"),
 ];
 
-// So many lists, one in another.
-fn nested_doc(alloc: Global, count: u8) -> Result<Doc, AllocError> {
-    let mut doc = Doc::Items(Vec::new(alloc));
-    for _ in 1..count {
-        let mut outer = Vec::new(alloc);
-        outer.push(doc)?;
-        doc = Doc::Items(outer);
-    }
-    Ok(doc)
-}
-
 fn patch_of(alloc: Global, form: &str) -> Result<JsonPatch, Fail> {
     Ok(JsonPatch::from_doc(alloc, &read_doc(alloc, form.as_bytes())?)?)
 }
@@ -244,42 +233,6 @@ fn a_patch_is_written_as_its_document(rt: HostRuntime) -> Result<(), Fail> {
     let none = write_patch(rt.alloc(), &JsonPatch::new(rt.alloc()))?;
     equal(&rt, none.as_str(), "[]");
     Ok(())
-}
-
-/// What this one operation makes of the empty list.
-fn applied_alone(alloc: Global, op: Op) -> Result<Result<Doc, ApplyFault>, Fail> {
-    let mut patch = JsonPatch::new(alloc);
-    patch.push(op)?;
-    Ok(apply(alloc, &Doc::Items(Vec::new(alloc)), &patch))
-}
-
-#[test]
-fn depths_have_a_limit(rt: HostRuntime) -> Result<(), Fail> {
-    let deepest = applied_alone(rt.alloc(), addition(rt.alloc(), 125)?)??;
-    holds(&rt, deepest.fits(126), "at most 126");
-    holds(&rt, !deepest.fits(125), "126");
-    let deeper = applied_alone(rt.alloc(), addition(rt.alloc(), 126)?)?;
-    let too_deep = ApplyFault::Refused {
-        op: 0,
-        cause: Cause::TooDeep,
-    };
-    equal(&rt, deeper.err(), Some(too_deep));
-    let replaced = applied_alone(rt.alloc(), replacement(rt.alloc(), 126)?)??;
-    holds(&rt, !replaced.fits(125), "the value");
-    Ok(())
-}
-
-/// An `add` of a value of this depth at the end of an array.
-fn addition(alloc: Global, depth: u8) -> Result<Op, Fail> {
-    let value = nested_doc(alloc, depth)?;
-    let end = Pointer::parse(alloc, "/-")?;
-    Ok(Op::Add(end, value))
-}
-
-/// A `replace` of the whole document by a value of this depth.
-fn replacement(alloc: Global, depth: u8) -> Result<Op, Fail> {
-    let value = nested_doc(alloc, depth)?;
-    Ok(Op::Replace(Pointer::empty(alloc), value))
 }
 
 fn says_of_operation_7<R: Abort + AllocGlobal, D: Display>(
