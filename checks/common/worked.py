@@ -21,6 +21,9 @@ EXAMPLES = [
     ("/m~0n", "8"),
 ]
 
+# Arrays and objects within one another, with names that are empty or need escapes.
+NESTED = '{"a/b":{"":[1,{"~":2}]}}'
+
 # Of `get`: a pointer, an input, the line, and the status.
 PARTS = [
     # What is there and what is not.
@@ -32,11 +35,23 @@ PARTS = [
     ("/foo/2", '[{"foo":["bar","baz"]}]', "missing", 1),
     ("/foo/01", '[{"foo":["bar","baz"]}]', "missing", 1),
     ("/foo/-", '[{"foo":["bar","baz"]}]', "missing", 1),
+    ("", f"[{NESTED}]", NESTED, 0),
+    ("/a~1b", f"[{NESTED}]", '{"":[1,{"~":2}]}', 0),
+    ("/a~1b/", f"[{NESTED}]", '[1,{"~":2}]', 0),
+    ("/a~1b//0", f"[{NESTED}]", "1", 0),
+    ("/a~1b//1/~0", f"[{NESTED}]", "2", 0),
+    ("/a~1b//0/x", f"[{NESTED}]", "missing", 1),
+    ("/a~1b//1/~1", f"[{NESTED}]", "missing", 1),
+    ("/a~1b//2", f"[{NESTED}]", "missing", 1),
+    ("/a~1b//01", f"[{NESTED}]", "missing", 1),
+    ("/a~1b//-", f"[{NESTED}]", "missing", 1),
+    ("/a/b", f"[{NESTED}]", "missing", 1),
     # Texts that are no pointer, and the checks that come before.
     ("foo", "[5]", "pointer: no slash", 2),
     ("foo~", "[5]", "pointer: no slash", 2),
     ("/a~2", "[5]", "pointer: bad tilde at 2", 2),
     ("/~", "[5]", "pointer: bad tilde at 1", 2),
+    ("/~0/é~/~2", "[5]", "pointer: bad tilde at 6", 2),
     ("foo", "[", "input: not JSON", 2),
     ("foo", "[1.5]", "input: number not whole", 2),
     ("foo", "[1,2]", "input: wrong shape", 2),
@@ -95,7 +110,23 @@ PATCHED = [
     ('[{"a":{"x":1,"y":2}},[{"op":"test","path":"/a","value":{"y":2,"x":1}}]]', '{"a":{"x":1,"y":2}}', 0),
     ('[{"a":1},[{"op":"add","path":"/b","value":2},{"op":"test","path":"/a","value":9}]]',
      "operation 1: test failed", 1),
+    # Several operations, values of each kind, and moves within an array and over another.
+    ('[{"a":[1,2]},[{"op":"add","path":"/a/-","value":3},{"op":"add","path":"/b","value":{}}]]', '{"a":[1,2,3],"b":{}}', 0),
+    ('[{"a":{"b":1,"c":2},"d":[3]},[{"op":"replace","path":"/a/b","value":null}]]', '{"a":{"b":null,"c":2},"d":[3]}', 0),
+    ('[{"a":1,"b":2},[{"op":"test","path":"","value":{"b":2,"a":1}}]]', '{"a":1,"b":2}', 0),
+    ('[{"a":{"x":[1]},"b":{}},[{"op":"copy","from":"/a/x","path":"/b/y"}]]', '{"a":{"x":[1]},"b":{"y":[1]}}', 0),
+    ('[{"a":{"x":1}},[{"op":"copy","from":"/a","path":"/a/y"}]]', '{"a":{"x":1,"y":{"x":1}}}', 0),
+    ('[[1,2,3],[{"op":"move","from":"/0","path":"/2"}]]', "[2,3,1]", 0),
+    ('[[1,2,3],[{"op":"move","from":"/2","path":"/0"}]]', "[3,1,2]", 0),
+    ('[{"a":[1],"b":2},[{"op":"move","from":"/b","path":"/a"}]]', '{"a":2}', 0),
+    ('[{"a":1},[{"from":"/a","op":"move","path":"/b"}]]', '{"b":1}', 0),
+    ('[{"a":true},[{"op":"test","path":"/a","value":1}]]', "operation 0: test failed", 1),
+    ('[{"a":0},[{"op":"test","path":"/a","value":false}]]', "operation 0: test failed", 1),
+    ('[{"a":1},[{"op":"remove","path":"/a"},{"op":"remove","path":"/a"}]]', "operation 1: missing", 1),
+    ('[{"a":{}},[{"op":"move","from":"/a","path":"/a/b"}]]', "operation 0: into itself", 1),
     # The form of all operations is checked before any is applied.
+    ("[1,{}]", "input: wrong shape", 2),
+    ('[1,[{"op":"remove","path":""},[]]]', "operation 1: not an object", 2),
     ("[1,2]", "input: wrong shape", 2),
     ("[1,[2]]", "operation 0: not an object", 2),
     ("[1,[{}]]", "operation 0: no op", 2),
@@ -120,6 +151,15 @@ MERGED = [
     ('[{"e":null},{"a":[null,{"b":null}],"z":null}]', '{"a":[null,{"b":null}],"e":null}', 0),
     ('[{"a":1},{"a":2},{"a":3}]', '{"a":3}', 0),
     ('[\n  {\n    "a": "b"\n  },\n  {\n    "b": "c"\n  }\n]\n', '{"a":"b","b":"c"}', 0),
+    # Names go by their UTF-8 bytes: neither by UTF-16 units nor after a normalisation. Texts are written as short as may be.
+    ('[{"b":1,"a":null}]', '{"a":null,"b":1}', 0),
+    ('[[ true , { "k" : "v" } ,\n{} , [] , false ] ]', '[true,{"k":"v"},{},[],false]', 0),
+    (r'[{"\u00e9":1,"e\u0301":2}]', '{"e\u0301":2,"\u00e9":1}', 0),
+    (r'[{"\ud83d\ude00":1,"\uffff":2}]', '{"\uffff":2,"\U0001f600":1}', 0),
+    (r'[{"b\u0001":1,"a\n":2,"a\u001f":3,"\"":4}]', r'{"\"":4,"a\n":2,"a\u001f":3,"b\u0001":1}', 0),
+    (r'["\u0000\u0008\t\n\u000c\r\u007f\u2028\/\\"]', '"\\u0000\\b\\t\\n\\f\\r\u007f\u2028/\\\\"', 0),
+    ('[{"a":{"x":[1],"y":2},"k":0},{"a":{"x":null}}]', '{"a":{"y":2},"k":0}', 0),
+    ('[{"a":5,"k":0},{"a":{"b":1,"c":null},"z":{"y":2}}]', '{"a":{"b":1},"k":0,"z":{"y":2}}', 0),
     # The number rule at its ends.
     ("[18446744073709551615]", "18446744073709551615", 0),
     ("[-9223372036854775808]", "-9223372036854775808", 0),
@@ -127,6 +167,8 @@ MERGED = [
     ("[-9223372036854775809]", "input: number not whole", 2),
     ("[1.5]", "input: number not whole", 2),
     ("1.5", "input: number not whole", 2),
+    ('[{"a":[1.0]}]', "input: number not whole", 2),
+    ("[1.5", "input: not JSON", 2),
     # Inputs that are no JSON array with an element.
     ("[]", "input: wrong shape", 2),
     ("5", "input: wrong shape", 2),
@@ -152,7 +194,37 @@ JOINED = [
     ("[]", "no patches", 1),
     (r'[{"a/b":{"\"":1}},{"a/b":{"\"":2}}]', r'conflict: patches 0 and 1 at "/a~1b/\""', 1),
     ('[{"a":{"x":1}},{"a":{"y":null}},{"k":null}]', '{"a":{"x":1,"y":null},"k":null}', 0),
+    ('[{"a":1},{"a":1}]', '{"a":1}', 0),
+    ('[{"a":[null]},{"b":null}]', '{"a":[null],"b":null}', 0),
     ("5", "input: wrong shape", 2),
+]
+
+# Two patches, and where they clash, whichever comes first.
+CLASHES = [
+    ('{"a":1}', '{"a":2}', '"/a"'),
+    ('{"x":1,"y":1}', '{"x":2,"y":1}', '"/x"'),
+    ('{"x":1,"y":1}', '{"x":2,"y":2}', '"/x", "/y"'),
+    # A name that is a prefix of another comes first.
+    ('{"ab":1,"a":1}', '{"a":2,"ab":2}', '"/a", "/ab"'),
+    # By their UTF-8 bytes, and not by their UTF-16 units.
+    ('{"😀":1,"～":1}', '{"😀":2,"～":2}', '"/～", "/😀"'),
+    # At several depths, beside what is equal and what one patch carries alone.
+    ('{"a":{"b":{"c":1,"d":[1]},"e":null},"f":{},"g":1}', '{"a":{"b":{"c":2,"d":[2]},"e":null},"f":0,"h":1}',
+     '"/a/b/c", "/a/b/d", "/f"'),
+]
+
+# Two documents, and whether they are equal, as `test` compares them.
+COMPARED = [
+    ('{"b":1,"a":null}', '{"a":null,"b":1}', True),
+    ("1", '"1"', False),
+    ("[1,2]", "[2,1]", False),
+    ("[1,2]", "[1]", False),
+    ("{}", "[]", False),
+    ('{"a":null}', "{}", False),
+    ('{"a":1}', '{"b":1}', False),
+    ('{"a":1}', '{"a":2}', False),
+    ("true", "false", False),
+    (r'{"\u00e9":1}', r'{"e\u0301":1}', False),
 ]
 
 REPLAYED = [
@@ -182,6 +254,10 @@ REWRITTEN = [
     ('[{"a":1,"b":2},{"a":null,"b":3,"c":4}]',
      '[{"op":"test","path":"/a","value":1},{"op":"test","path":"/b","value":2},{"op":"remove","path":"/a"},'
      '{"op":"replace","path":"/b","value":3},{"op":"add","path":"/c","value":4}]', 0),
+    # They go by the names, not by their spellings.
+    ('[{"ab":[],"a/b":{"~":1}},{"ab":[2],"a/b":{"~":null},"c":{"d":null}}]',
+     '[{"op":"test","path":"/a~1b/~0","value":1},{"op":"test","path":"/ab","value":[]},'
+     '{"op":"remove","path":"/a~1b/~0"},{"op":"replace","path":"/ab","value":[2]},{"op":"add","path":"/c","value":{}}]', 0),
     ("[5,5]", "[]", 0),
     ("[5]", "input: wrong shape", 2),
     ("[1,2,3]", "input: wrong shape", 2),
@@ -219,3 +295,10 @@ def worked():
             yield [command], *row
     for original, patch, result in APPENDIX:
         yield ["merge"], f"[{original},{patch}]", result, 0
+    for patch, other, places in CLASHES:
+        for pair in ((patch, other), (other, patch)):
+            yield ["join"], f"[{','.join(pair)}]", f"conflict: patches 0 and 1 at {places}", 1
+    for pair in COMPARED:
+        for doc, value in (pair[:2], pair[1::-1]):
+            line, status = (pair[1], 0) if pair[2] else ("operation 0: test failed", 1)
+            yield ["patch"], f'[{doc},[{{"op":"test","path":"","value":{value}}}]]', line, status

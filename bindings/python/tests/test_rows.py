@@ -56,7 +56,7 @@ class Rows(unittest.TestCase):
                 self.assertEqual(seen(call, *given(export, texts)), told)
                 if decoded(texts) is not None:
                     self.assertEqual(seen(call, *given(export, decoded(texts))), told)
-        self.assertGreaterEqual(len(self.rows), 135)
+        self.assertGreaterEqual(len(self.rows), 220)
         self.assertEqual({row[1] for row in self.rows}, set(range(9)))
 
     def test_objects(self):

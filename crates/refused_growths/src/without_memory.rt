@@ -11,6 +11,19 @@ use mp_tree::{Doc, Whole};
 use std::alloc::Global;
 use std::mem;
 
+/// Tokens, and the indices that they spell.
+const INDICES: &[(&str, Option<usize>)] = &[
+    ("0", Some(0)),
+    ("10", Some(10)),
+    ("01", None),
+    ("", None),
+    ("-", None),
+    ("+1", None),
+    ("1é", None),
+    ("18446744073709551615", Some(usize::MAX)),
+    ("18446744073709551616", None),
+];
+
 /// The names that `watch` takes.
 pub const CALLS: &[&str] = &[
     "compatible",
@@ -144,9 +157,9 @@ fn watch_pop(alloc: Global) -> Option<Seen> {
 }
 
 fn watch_index_of() -> Seen {
-    let mut holds = mp_pointer::index_of("0") == Some(0) && mp_pointer::index_of("10") == Some(10);
-    for token in ["01", "", "-", "+1"] {
-        holds = holds && mp_pointer::index_of(token).is_none();
+    let mut holds = true;
+    for (token, index) in INDICES {
+        holds = holds && mp_pointer::index_of(token) == *index;
     }
     Seen::answer_if(holds)
 }

@@ -1,7 +1,6 @@
-//! Worked values of the promise run: lists in several orders and with repeats, the first refusal, and the texts of the faults.
+//! Worked values of the promise run: lists in several orders and with repeats, and the first refusal.
 use crate::written::{is_text, says};
-use mp_merge::{ConvergeFault, Converged, ListFault, converge};
-use mp_patch::Cause;
+use mp_merge::{ConvergeFault, Converged, converge};
 use mp_tree::{Doc, read_doc, read_docs};
 use std::alloc::Global;
 use std::test::Fail;
@@ -64,19 +63,4 @@ fn the_first_refusal_is_told(rt: HostRuntime) -> Result<(), Fail> {
         says(&rt, &refusal_of(rt.alloc(), here, there)?, wanted)?;
     }
     Ok(())
-}
-
-#[test]
-fn faults_of_convergence_have_texts(rt: HostRuntime) -> Result<(), Fail> {
-    says(
-        &rt,
-        &ConvergeFault::Lists(ListFault::NoPatches),
-        "no patches",
-    )?;
-    let refused = ConvergeFault::Patch {
-        op: 1,
-        cause: Cause::Missing,
-    };
-    says(&rt, &refused, "operation 1: missing")?;
-    says(&rt, &ConvergeFault::OutOfMemory, "out of memory")
 }

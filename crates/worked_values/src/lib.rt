@@ -6,17 +6,13 @@ mod converging;
 #[cfg(test)]
 mod documents;
 #[cfg(test)]
-mod json_patches;
-#[cfg(test)]
-mod merges;
+mod fault_texts;
 #[cfg(test)]
 mod merges_in_place;
 #[cfg(test)]
 mod pointers;
 #[cfg(test)]
 mod replicas;
-#[cfg(test)]
-mod rewritings;
 #[cfg(test)]
 mod running;
 #[cfg(test)]

@@ -1,6 +1,5 @@
 //! Worked values of `library_example`: those of the README and of `docs/REPLICAS.md`, and the texts of the faults.
-use crate::pointers::is_spelled;
-use crate::written::{equal, holds, is_text, says};
+use crate::written::{equal, holds, is_spelled, is_text, says};
 use library_example::{
     Arrival, DecideFault, Envelope, Identity, Keeper, Letter, Received, Replica, at, for_a_peer,
     show, shown_after,
@@ -214,20 +213,38 @@ const GREEN: &str = r#"{"colour":"green"}"#;
 
 const LARGER: &str = r#"{"size":2}"#;
 
-/// A letter with this patch of that start comes to the keeper, and this becomes of it.
-fn comes<R: Abort + AllocGlobal>(
+/// A letter that comes to a keeper, what becomes of it, and what the keeper shows then.
+struct Coming {
+    epoch: u64,
+    identity: Identity,
+    patch: &'static str,
+    arrival: Arrival,
+    shown: &'static str,
+}
+
+fn letter_of(alloc: Global, coming: &Coming) -> Result<Letter, ReadFault> {
+    let patch = doc_of(alloc, coming.patch)?;
+    Ok(Letter {
+        epoch: coming.epoch,
+        identity: coming.identity,
+        patch,
+    })
+}
+
+fn comes<R: Abort + AllocGlobal>(rt: &R, keeper: &mut Keeper, coming: &Coming) -> Result<(), Fail> {
+    let letter = letter_of(rt.alloc(), coming)?;
+    equal(rt, keeper.receive(rt.alloc(), &letter)?, coming.arrival);
+    shows(rt, keeper, coming.shown)
+}
+
+fn all_come<R: Abort + AllocGlobal>(
     rt: &R,
     keeper: &mut Keeper,
-    (epoch, identity): (u64, Identity),
-    text: &str,
-    wanted: Arrival,
+    letters: &[Coming],
 ) -> Result<(), Fail> {
-    let letter = Letter {
-        epoch,
-        identity,
-        patch: doc_of(rt.alloc(), text)?,
-    };
-    equal(rt, keeper.receive(rt.alloc(), &letter)?, wanted);
+    for coming in letters {
+        comes(rt, keeper, coming)?;
+    }
     Ok(())
 }
 
@@ -245,47 +262,95 @@ fn clash<R: Abort + AllocGlobal>(
     Ok(())
 }
 
+/// Ann's first patch and Bob's, which clash.
+const BOTH: &[Coming] = &[
+    Coming {
+        epoch: 1,
+        identity: ANN,
+        patch: BLUE,
+        arrival: Arrival::Kept,
+        shown: r#"{"colour":"blue","size":1}"#,
+    },
+    Coming {
+        epoch: 1,
+        identity: BOB,
+        patch: GREEN,
+        arrival: Arrival::Kept,
+        shown: BOX,
+    },
+];
+
+const LARGER_COMES: Coming = Coming {
+    epoch: 1,
+    identity: BOB_AGAIN,
+    patch: LARGER,
+    arrival: Arrival::Kept,
+    shown: r#"{"colour":"red","size":2}"#,
+};
+
 /// A keeper of the box, to which Ann's first patch and Bob's have come.
 fn keeper_of_both<R: Abort + AllocGlobal>(rt: &R) -> Result<Keeper, Fail> {
     let mut keeper = Keeper::new(rt.alloc(), 1, doc_of(rt.alloc(), BOX)?);
-    comes(rt, &mut keeper, (1, ANN), BLUE, Arrival::Kept)?;
-    comes(rt, &mut keeper, (1, BOB), GREEN, Arrival::Kept)?;
+    all_come(rt, &mut keeper, BOTH)?;
     Ok(keeper)
 }
 
 #[test]
 fn the_recipe_of_replicas(rt: HostRuntime) -> Result<(), Fail> {
     let mut keeper = keeper_of_both(&rt)?;
-    follows_recipe(&rt, &mut keeper)
-}
-
-fn follows_recipe<R: Abort + AllocGlobal>(rt: &R, keeper: &mut Keeper) -> Result<(), Fail> {
-    comes(rt, keeper, (1, BOB_AGAIN), LARGER, Arrival::Kept)?;
-    clash(rt, keeper, &[(ANN, BOB)])?;
-    shows(rt, keeper, r#"{"colour":"red","size":2}"#)?;
+    comes(&rt, &mut keeper, &LARGER_COMES)?;
+    clash(&rt, &keeper, &[(ANN, BOB)])?;
     keeper.decide(rt.alloc(), &[ANN, BOB_AGAIN])?;
-    shows(rt, keeper, r#"{"colour":"blue","size":2}"#)?;
-    clash(rt, keeper, &[])?;
-    equal(rt, keeper.epoch(), 2);
-    Ok(())
+    is_decided(&rt, &keeper)
 }
 
-/// A repeat changes nothing, and a letter of another start is told as such. Bob makes his patch anew, for the new start.
+/// The recipe's decision was taken.
+fn is_decided<R: Abort + AllocGlobal>(rt: &R, keeper: &Keeper) -> Result<(), Fail> {
+    shows(rt, keeper, r#"{"colour":"blue","size":2}"#)?;
+    equal(rt, keeper.epoch(), 2);
+    clash(rt, keeper, &[])
+}
+
+/// A repeat changes nothing.
+const REPEAT: Coming = Coming {
+    epoch: 1,
+    identity: ANN,
+    patch: LARGER,
+    arrival: Arrival::Repeat,
+    shown: BOX,
+};
+
+/// Once Ann's first patch was chosen: a letter of another start is told as such, and Bob makes his patch anew.
+const AFTER: &[Coming] = &[
+    Coming {
+        epoch: 1,
+        identity: BOB,
+        patch: GREEN,
+        arrival: Arrival::Late,
+        shown: r#"{"colour":"blue","size":1}"#,
+    },
+    Coming {
+        epoch: 3,
+        identity: BOB,
+        patch: GREEN,
+        arrival: Arrival::Early,
+        shown: r#"{"colour":"blue","size":1}"#,
+    },
+    Coming {
+        epoch: 2,
+        identity: BOB,
+        patch: GREEN,
+        arrival: Arrival::Kept,
+        shown: r#"{"colour":"green","size":1}"#,
+    },
+];
+
 #[test]
 fn what_becomes_of_letters(rt: HostRuntime) -> Result<(), Fail> {
     let mut keeper = keeper_of_both(&rt)?;
-    receives_by_start(&rt, &mut keeper)
-}
-
-fn receives_by_start<R: Abort + AllocGlobal>(rt: &R, keeper: &mut Keeper) -> Result<(), Fail> {
-    comes(rt, keeper, (1, ANN), LARGER, Arrival::Repeat)?;
-    shows(rt, keeper, BOX)?;
+    comes(&rt, &mut keeper, &REPEAT)?;
     keeper.decide(rt.alloc(), &[ANN])?;
-    comes(rt, keeper, (1, BOB), GREEN, Arrival::Late)?;
-    comes(rt, keeper, (3, BOB), GREEN, Arrival::Early)?;
-    shows(rt, keeper, r#"{"colour":"blue","size":1}"#)?;
-    comes(rt, keeper, (2, BOB), GREEN, Arrival::Kept)?;
-    shows(rt, keeper, r#"{"colour":"green","size":1}"#)
+    all_come(&rt, &mut keeper, AFTER)
 }
 
 /// The decision is refused, with this text.
@@ -309,9 +374,9 @@ fn a_decision_waits_for_what_it_names(rt: HostRuntime) -> Result<(), Fail> {
     let mut keeper = keeper_of_both(&rt)?;
     let wanted = "Identity { sender: 2, number: 2 } has not come";
     is_refused(&rt, &mut keeper, &[ANN, BOB_AGAIN], wanted)?;
-    comes(&rt, &mut keeper, (1, BOB_AGAIN), LARGER, Arrival::Kept)?;
+    comes(&rt, &mut keeper, &LARGER_COMES)?;
     keeper.decide(rt.alloc(), &[ANN, BOB_AGAIN])?;
-    shows(&rt, &keeper, r#"{"colour":"blue","size":2}"#)
+    is_decided(&rt, &keeper)
 }
 
 #[test]

@@ -1,8 +1,8 @@
 //! Runs over a reader and writers of which one call goes wrong: what was counted is what the device saw. And runs on
-//! input at its longest, and the texts of the faults.
+//! input at its longest.
 
-use crate::written::{equal, holds, says};
-use mp_cli::{Command, CommandFault, Counted, INPUT_LIMIT, READ_LIMIT, RunFault, run};
+use crate::written::{equal, holds};
+use mp_cli::{Command, Counted, INPUT_LIMIT, READ_LIMIT, RunFault, run};
 use std::alloc::{AllocError, Global};
 use std::io;
 use std::io::{Read, Write};
@@ -444,28 +444,4 @@ fn is_too_long<R: Abort + AllocGlobal>(rt: &R, input: &[u8]) {
         equal(rt, told.input.bytes, 1_048_577);
         equal(rt, (told.out, told.err), (UNTOUCHED, UNTOUCHED));
     }
-}
-
-const RUN_FAULTS: &[(RunFault, &str)] = &[
-    (RunFault::ReadFailed, "read failed"),
-    (RunFault::WriteFailed, "write failed"),
-    (RunFault::TooLong, "input too long"),
-    (RunFault::OutOfMemory, "out of memory"),
-];
-
-#[test]
-fn run_faults_have_texts(rt: HostRuntime) -> Result<(), Fail> {
-    for (fault, text) in RUN_FAULTS {
-        says(&rt, fault, text)?;
-    }
-    Ok(())
-}
-
-#[test]
-fn command_faults_have_texts(rt: HostRuntime) -> Result<(), Fail> {
-    let help = CommandFault::Help(String::from_str(rt.alloc(), "how to")?);
-    says(&rt, &help, "how to")?;
-    let usage = CommandFault::Usage(String::from_str(rt.alloc(), "not so")?);
-    says(&rt, &usage, "not so")?;
-    says(&rt, &CommandFault::OutOfMemory, "out of memory")
 }

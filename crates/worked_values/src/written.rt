@@ -1,5 +1,6 @@
 //! How what a call gives is compared with what is wanted. Each stands in a function of its own, so that no test drops what
 //! it holds where a comparison fails, since a test is proved as any function is.
+use mp_pointer::Pointer;
 use mp_tree::{Doc, write_doc};
 use std::fmt::{Debug, Display};
 use std::process::Abort;
@@ -22,16 +23,15 @@ pub fn is_text<R: Abort + AllocGlobal>(rt: &R, doc: &Doc, wanted: &str) -> Resul
     Ok(())
 }
 
-/// The call gives a document that is written as this text.
-pub fn gives<R: Abort + AllocGlobal, E: Display + Drop>(
+/// The pointer is spelled so.
+pub fn is_spelled<R: Abort + AllocGlobal>(
     rt: &R,
-    given: Result<Doc, E>,
+    pointer: &Pointer,
     wanted: &str,
 ) -> Result<(), Fail> {
-    match given {
-        Ok(doc) => is_text(rt, &doc, wanted),
-        Err(fault) => Err(Fail::new(fault)),
-    }
+    let found = pointer.print(rt.alloc())?;
+    equal(rt, found.as_str(), wanted);
+    Ok(())
 }
 
 /// The value is displayed as this text.
