@@ -45,8 +45,8 @@ def gives_up_the_lock(text):
         took.append(time.monotonic() - begun)
 
     thread, gaps = threading.Thread(target=work), []
+    before = time.monotonic()  # where the call keeps the lock, the start may wait for its end
     thread.start()
-    before = time.monotonic()
     while thread.is_alive():
         time.sleep(0.001)
         now = time.monotonic()
