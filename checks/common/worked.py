@@ -213,7 +213,7 @@ CLASHES = [
      '"/a/b/c", "/a/b/d", "/f"'),
 ]
 
-# Two documents, and whether they are equal, as `test` compares them.
+# Two documents, the second as it is written, and whether they are equal, as `test` compares them.
 COMPARED = [
     ('{"b":1,"a":null}', '{"a":null,"b":1}', True),
     ("1", '"1"', False),
@@ -245,6 +245,7 @@ REWRITTEN = [
     ('[5,{"a":1}]', '[{"op":"test","path":"","value":5},{"op":"replace","path":"","value":{"a":1}}]', 0),
     ('[{"a":1},null]', '[{"op":"test","path":"","value":{"a":1}},{"op":"replace","path":"","value":null}]', 0),
     ("[null,null]", "[]", 0),
+    ("[5,5]", "[]", 0),
     ('[{"a":null},{"a":{"b":null}}]',
      '[{"op":"test","path":"/a","value":null},{"op":"replace","path":"/a","value":{}}]', 0),
     ('[{"a":[1]},{"a":[1,null]}]',
@@ -258,7 +259,7 @@ REWRITTEN = [
     ('[{"ab":[],"a/b":{"~":1}},{"ab":[2],"a/b":{"~":null},"c":{"d":null}}]',
      '[{"op":"test","path":"/a~1b/~0","value":1},{"op":"test","path":"/ab","value":[]},'
      '{"op":"remove","path":"/a~1b/~0"},{"op":"replace","path":"/ab","value":[2]},{"op":"add","path":"/c","value":{}}]', 0),
-    ("[5,5]", "[]", 0),
+    # Inputs that are not two.
     ("[5]", "input: wrong shape", 2),
     ("[1,2,3]", "input: wrong shape", 2),
 ]
@@ -298,7 +299,7 @@ def worked():
     for patch, other, places in CLASHES:
         for pair in ((patch, other), (other, patch)):
             yield ["join"], f"[{','.join(pair)}]", f"conflict: patches 0 and 1 at {places}", 1
-    for pair in COMPARED:
-        for doc, value in (pair[:2], pair[1::-1]):
-            line, status = (pair[1], 0) if pair[2] else ("operation 0: test failed", 1)
+    for one, other, are_equal in COMPARED:
+        line, status = (other, 0) if are_equal else ("operation 0: test failed", 1)
+        for doc, value in ((one, other), (other, one)):
             yield ["patch"], f'[{doc},[{{"op":"test","path":"","value":{value}}}]]', line, status
