@@ -15,6 +15,10 @@ module _ {T : Type 0} where
   abbrev pub failures_of : Counted T → ℕ
   failures_of c = c.failures
 
+  -- how many of those calls gave or took at least one byte
+  abbrev pub moving_calls_of : Counted T → ℕ
+  moving_calls_of c = c.moving_calls
+
   -- how many bytes those calls gave or took
   abbrev pub bytes_of : Counted T → ℕ
   bytes_of c = c.bytes

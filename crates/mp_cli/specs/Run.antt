@@ -1,21 +1,30 @@
 -- What a run reads, and what it writes.
-use Rattle.std.specs.Prelude.{◌≡◌, ◌≢◌, ◌+◌, ◌≤◌, ◌++◌, ℕ, List, Option, length}
+use Rattle.std.specs.Prelude.{◌≡◌, ◌≢◌, ◌+◌, ◌≤◌, ◌++◌, ℕ, List, [], Option, length}
 use Rattle.std.specs.Io.KnownBytes.{Appends, Consumes, IsAtEnd}
+use Rattle.std.specs.List.{All, concat}
 use Rattle.mp_cli.specs.declared.counted.Counted.{Counted}
 use Rattle.mp_cli.specs.Lines.{Answered, status_result}
-use Rattle.mp_cli.specs.Counted.{device_of, calls_of, failures_of, bytes_of, IsFlushed}
+use Rattle.mp_cli.specs.Counted.{device_of, calls_of, failures_of, moving_calls_of, bytes_of, IsFlushed}
 
 -- The most bytes that an input has. A run makes one read more at most, which finds the end.
 abbrev pub input_limit : ℕ
 input_limit = 1_048_576
 
--- The reads gave these bytes, and but for one each gave some. `remaining` says which bytes a reader
--- has left, where it says so.
+-- The calls moved these bytes in pieces, none of them empty: one piece for each call that moved a byte. There was at
+-- most one call more, which moved none: a read that finds the end, a flush, or a call that fails.
+pub record MovesInPieces {T : Type 0} (old new : Counted T) (bytes : List ℕ) : Type 0 where
+  pub pieces : List (List ℕ)
+  pub some : All (λ piece. piece ≢ []) pieces
+  pub whole : bytes ≡ concat pieces
+  pub moving : moving_calls_of new ≡ moving_calls_of old + length pieces
+  pub calls : calls_of new ≤ calls_of old + length pieces + 1
+  pub counted : bytes_of new ≡ bytes_of old + length bytes
+
+-- The reads gave these bytes. `remaining` says which bytes a reader has left, where it says so.
 pub record ReadsBytes {R : Type 0} (remaining : R → Option (List ℕ)) (old new : Counted R)
     (bytes : List ℕ) : Type 0 where
   pub consumed : Consumes (remaining (device_of old)) (remaining (device_of new)) bytes
-  pub counted : bytes_of new ≡ bytes_of old + length bytes
-  pub calls : calls_of new ≤ calls_of old + length bytes + 1
+  pub moved : MovesInPieces old new bytes
 
 -- The reads gave these bytes and then the end, none failed, and the bytes are within the limit. So
 -- where the reader says which bytes it has, they are these.
@@ -26,12 +35,10 @@ pub record ReadsWhole {R : Type 0} (remaining : R → Option (List ℕ)) (old ne
   pub failures : failures_of new ≡ failures_of old
   pub short : length bytes ≤ input_limit
 
--- The writes took this text, in at most as many calls as it has bytes, but for one more. `contents`
--- says which bytes a writer holds, where it says so.
+-- The writes took this text. `contents` says which bytes a writer holds, where it says so.
 pub record Writes {W : Type 0} (contents : W → Option (List ℕ)) (old new : Counted W) (text : List ℕ) : Type 0 where
   pub appended : Appends (contents (device_of old)) (contents (device_of new)) text
-  pub counted : bytes_of new ≡ bytes_of old + length text
-  pub calls : calls_of new ≤ calls_of old + length text + 1
+  pub moved : MovesInPieces old new text
 
 -- The whole text was written and then flushed, and no call failed.
 pub record WritesWhole {W : Type 0} (contents : W → Option (List ℕ)) (old new : Counted W)

@@ -4,8 +4,8 @@ ghost use Rattle.std.specs.Prelude.{◌≡◌, ◌≤◌};
 mod device;
 
 /// A reader or a writer, the device, with three counts: the calls that were made of it, how many
-/// of them failed, and how many bytes they gave or took. It also knows whether the last call was a
-/// flush that did not fail.
+/// of them failed, and how many bytes they gave or took. It also knows how many calls gave or took
+/// at least one byte, and whether the last call was a flush that did not fail.
 ///
 /// The calls are made by `run` alone. A call counts as failed where the device answered an error,
 /// also that it was interrupted, and where a write of at least one byte took none. No count goes
@@ -21,20 +21,24 @@ pub struct Counted<T> {
     device: T,
     calls: u64,
     failures: u64,
+    moving_calls: u64,
     bytes: u64,
     flushed: bool,
     ghost failures_within_calls: { failures ≤ calls },
+    ghost moving_within_calls: { moving_calls ≤ calls },
     ghost no_bytes_before_calls: { calls ≡ 0 → bytes ≡ 0 },
 }
 
 impl<T> Counted<T> {
-    ghost use Rattle.mp_cli.specs.Counted.{device_of, calls_of, failures_of, bytes_of, IsFlushed};
+    ghost use Rattle.mp_cli.specs.Counted.{device_of, calls_of, failures_of, moving_calls_of};
+    ghost use Rattle.mp_cli.specs.Counted.{bytes_of, IsFlushed};
 
     /// The device with all counts 0.
     pub fn new(device: T) -> Counted<T>
         ensures device { device_of result ≡ device }
         ensures calls { calls_of result ≡ 0 }
         ensures failures { failures_of result ≡ 0 }
+        ensures moving { moving_calls_of result ≡ 0 }
         ensures bytes { bytes_of result ≡ 0 }
         ensures unflushed { IsFlushed result → ⊥ }
     {
@@ -42,6 +46,7 @@ impl<T> Counted<T> {
             device,
             calls: 0,
             failures: 0,
+            moving_calls: 0,
             bytes: 0,
             flushed: false,
         }
@@ -78,6 +83,7 @@ impl<T> Counted<T> {
             device,
             calls: _,
             failures: _,
+            moving_calls: _,
             bytes: _,
             flushed: _,
         } = self;

@@ -1,13 +1,31 @@
 //! The calls of a counted reader or writer, each of which makes one call of its device.
-ghost use Rattle.std.specs.Prelude.{◌≡◌, ◌+◌, ◌^◌, ◌<◌, length, IfOk, OnOk, OnErr};
+ghost use Rattle.std.specs.Prelude.{◌≡◌, ◌+◌, ◌^◌, ◌<◌, ◌↔◌, length, IfOk, OnOk, OnErr};
 ghost use Rattle.std.specs.Io.{ReadsAtMost, WritesAtMost};
 ghost use Rattle.std.specs.Io.KnownBytes.{Keeps, ReadConsumes, WriteAppends};
-ghost use Rattle.mp_cli.specs.Counted.{device_of, calls_of, bytes_of, IsFlushed};
+ghost use Rattle.mp_cli.specs.Counted.{device_of, calls_of, failures_of, moving_calls_of, bytes_of, IsFlushed};
 ghost use Rattle.mp_cli.specs.Private.Counts.{CountsBytes, CountsFailure};
 
 use super::Counted;
 use std::io;
 use std::io::{Read, Write};
+
+impl<T> Counted<T> {
+    // The last call gave or took this many bytes.
+    fn count_moved(&mut self, count: usize)
+        requires some { 0 < count }
+        requires calls_fit { moving_calls_of self.old < calls_of self.old }
+        requires bytes_fit { bytes_of self.old + count < 2 ^ 64 }
+        ensures device { device_of self.new ≡ device_of self.old }
+        ensures calls { calls_of self.new ≡ calls_of self.old }
+        ensures failures { failures_of self.new ≡ failures_of self.old }
+        ensures moving { moving_calls_of self.new ≡ moving_calls_of self.old + 1 }
+        ensures bytes { bytes_of self.new ≡ bytes_of self.old + count }
+        ensures flushed { IsFlushed self.new ↔ IsFlushed self.old }
+    {
+        self.moving_calls += 1;
+        self.bytes += count as u64;
+    }
+}
 
 impl<T: Read> Counted<T> {
     /// One read of the device.
@@ -25,8 +43,9 @@ impl<T: Read> Counted<T> {
         self.flushed = false;
         let outcome = self.device.read(piece);
         match &outcome {
-            Ok(given) => self.bytes += *given as u64,
             Err(_) => self.failures += 1,
+            Ok(0) => (),
+            Ok(given) => self.count_moved(*given),
         }
         outcome
     }
@@ -51,7 +70,7 @@ impl<T: Write> Counted<T> {
         let outcome = self.device.write(text);
         match &outcome {
             Err(_) | Ok(0) => self.failures += 1,
-            Ok(taken) => self.bytes += *taken as u64,
+            Ok(taken) => self.count_moved(*taken),
         }
         outcome
     }

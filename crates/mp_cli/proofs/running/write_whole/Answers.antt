@@ -16,3 +16,7 @@ returns-in_default-clause-failed g c =
 
 pub returns-in_default-2-clause-failed : goal.returns-in_default-2-clause-failed
 returns-in_default-2-clause-failed g c = WritesPart-failed g.W.Write.contents _ _ _ _ _ c.requires c.loop-rest.invariant c.in_default.ensures.appended c.in_default.ensures.failed
+
+-- the flush that failed: all was written before
+pub returns-in-Err-clause-failed : goal.returns-in-Err-clause-failed
+returns-in-Err-clause-failed g c = WritesPart-failed g.W.Write.contents _ _ _ _ _ c.requires c.loop-rest.invariant c.flush.ensures.kept c.in-Err.ensures.failed
