@@ -1,6 +1,6 @@
 -- What a replica shows, from the bytes of its start and of its patches.
 use Rattle.std.specs.Prelude.{◌≡◌, ◌≢◌, ℕ, List, Ok, Err, ⊤}
-use Rattle.mp_tree.specs.Document.{Document}
+use Rattle.mp_tree.specs.Document.{Document, IsDocument}
 use Rattle.mp_tree.specs.Text.{document_in, documents_in, text as compact}
 use Rattle.mp_tree.specs.Elements.{items_of}
 use Rattle.mp_tree.specs.declared.fault.DocsFault.TheVariants as docs
@@ -20,6 +20,7 @@ pub record IsShown (start patches shown : List ℕ) : Type 0 where
   pub d : Document
   pub ps : List Document
   pub e : Document
+  pub is_document : IsDocument e
   pub are : AreRead start patches d ps
   pub outcome : IsOutcome d ps e
   pub text : shown ≡ compact e

@@ -1,6 +1,6 @@
 -- What `converge` gives of any two lists of patches, and which of its calls is the first to refuse.
 use Rattle.std.specs.Prelude.{◌≡◌, ◌⊎◌, ℕ, List, [], Some, ⊤}
-use Rattle.mp_tree.specs.Document.{Document}
+use Rattle.mp_tree.specs.Document.{Document, IsDocument}
 use Rattle.mp_tree.specs.View.{document}
 use Rattle.mp_patch.specs.Operation.{Operation}
 use Rattle.mp_patch.specs.Run.{Runs, RefusedAt}
@@ -30,8 +30,10 @@ pub record IsConverged (start : Document) (here there : List Document) (c : Conv
 -- both lists have a join, and the rewriting of the first is refused at this operation
 pub record IsRewritingRefused (start : Document) (here there : List Document) (op : ℕ) (cause : Cause) : Type 0 where
   pub joined : Document
+  pub joined_is_document : IsDocument joined
   pub joined_here : IsJoin here joined
   pub other : Document
+  pub other_is_document : IsDocument other
   pub joined_there : IsJoin there other
   pub operations : List Operation
   pub edits : IsRewriting start joined operations

@@ -33,6 +33,10 @@ AppliesAtEachName =
 abbrev pub OthersReplace : Type 0
 OthersReplace = (t : Option Document) (p : Document) → look p [] ≡ plain p → merge_patch t p ≡ p
 
+-- what a patch makes of a document is a document
+abbrev pub MergedIsDocument : Type 0
+MergedIsDocument = (d p : Document) → IsDocument d → IsDocument p → IsDocument (merge_patch (Some d) p)
+
 -- what a patch makes of a document can be read where both can
 abbrev pub MergedIsReadable : Type 0
 MergedIsReadable = (d p : Document) → IsReadable d → IsReadable p → IsReadable (merge_patch (Some d) p)

@@ -1,13 +1,14 @@
 //! Laws over documents and merge patches alone: each function runs nothing, and its contract is the law.
 ghost use Rattle.mp_merge.specs.Convergence.{ReplicasConverge};
-ghost use Rattle.mp_merge.specs.Laws.{JoinIsReadable, MergedIsReadable, RewritingIsNoDeeper, RewritingIsWritable, AppliesAtEachName, OthersReplace, MergesIntoNull, AppliedOnce, TriesResume, ApplicationIsOutcome, HasOneOutcome, AppliedInTurn, OutcomeExists, ReplicasAgree, Exchange, ClashesExist, HaveOneList, EmptyIfCompatible, CompatibleOrTold, CompatibleHaveNone, HasOneToldPair, ClashWithAJoin, CompatibleByNames, CompatibleIfEqual, JoinByNames, JoinOfEqual, JoinIsIdempotent, JoinIsCommutative, JoinIsAssociative, JoinGrows, HasOneJoin, EmptyHasNoJoin, JoinExists, PairHasJoin, JoinIsNoDeeper, JoinGivesOutcome, RewritingExists, HasOneRewriting, RewritingHasDocuments, GuardedList, RefusedGuardTells, EmptyRewriting, EditsInAnyOrder, RewritingRuns};
+ghost use Rattle.mp_merge.specs.Laws.{JoinIsReadable, MergedIsDocument, MergedIsReadable, RewritingIsNoDeeper, RewritingIsWritable, AppliesAtEachName, OthersReplace, MergesIntoNull, AppliedOnce, TriesResume, ApplicationIsOutcome, HasOneOutcome, AppliedInTurn, OutcomeExists, ReplicasAgree, Exchange, ClashesExist, HaveOneList, EmptyIfCompatible, CompatibleOrTold, CompatibleHaveNone, HasOneToldPair, ClashWithAJoin, CompatibleByNames, CompatibleIfEqual, JoinByNames, JoinOfEqual, JoinIsIdempotent, JoinIsCommutative, JoinIsAssociative, JoinGrows, HasOneJoin, EmptyHasNoJoin, JoinExists, PairHasJoin, JoinIsNoDeeper, JoinGivesOutcome, RewritingExists, HasOneRewriting, RewritingHasDocuments, GuardedList, RefusedGuardTells, EmptyRewriting, EditsInAnyOrder, RewritingRuns};
 
 /// Application in the words of RFC 7396 section 2: a patch that is no object is the result. An object makes an object of
 /// every target, in which a name that the patch does not carry stays as it was, a null removes it, and any other value
-/// is merged with what stood there.
+/// is merged with what stood there. The result of a document and a patch that is one is a document.
 pub fn applies_at_each_name()
     ensures objects { AppliesAtEachName }
     ensures others { OthersReplace }
+    ensures document { MergedIsDocument }
 {}
 
 /// Merging a patch into null gives what merging it into nothing gives, and applying it twice is applying it once. So a

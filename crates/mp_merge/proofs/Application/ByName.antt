@@ -2,7 +2,7 @@
 use Rattle.std.proofs.Common.{◌≡◌, ℕ, List, cond, Option, Some, None, IfSome, refl, sym, ap, ◌∙◌}
 use Rattle.mp_tree.specs.Document.{Document, null, flag, whole, string, list, object, Members, no_members, member, is_name, find, put, IsDocument, IsMap}
 use Rattle.mp_merge.specs.Application.{target_members, set_or_remove, merge_patch, merge_patch_members, unless_null, after_patch}
-use Rattle.mp_merge.specs.Laws.{AppliesAtEachName, OthersReplace}
+use Rattle.mp_merge.specs.Laws.{AppliesAtEachName, MergedIsDocument, OthersReplace}
 use Rattle.mp_tree.proofs.Facts.{IsDocument-find, find-put, find-without, find-below, IsMap-put, IsMap-without, members_same, cases_same, is_name-self}
 
 -- ---- the result is a document
@@ -40,6 +40,9 @@ mutual
   IsMap-merge_patch_members ts no_members targets good = targets
   IsMap-merge_patch_members ts (member n p ps) targets good =
       IsMap-set_or_remove n p (merge_patch (find n ts) p) (merge_patch_members ts ps) (IsDocument-merge_patch (find n ts) p (IsDocument-find n ts targets) good.0) (IsMap-merge_patch_members ts ps targets good.2)
+
+pub merged_is_document : MergedIsDocument
+merged_is_document d p good fine = IsDocument-merge_patch (Some d) p good fine
 
 -- ---- at each name
 

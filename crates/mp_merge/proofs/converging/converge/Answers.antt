@@ -113,18 +113,20 @@ module _ (start : Document) (here there : List Document) where
   other_refused (ConflictOf first second places) fine good told = inr (fine, told)
   other_refused ListFault.OutOfMemory fine good memory = tt
 
-  patch_refused : (fault : ApplyFault) (joined other : Document) (operations : List Operation) → IsJoin here joined → IsJoin there other → IsRewriting start joined operations
-      → IsApplyFault fault start operations → IsConvergeFault (told_of_patch fault) start here there
-  patch_refused (Refused op cause) joined other operations is was edits refused = record {
+  patch_refused : (fault : ApplyFault) (joined other : Document) (operations : List Operation) → IsDocument joined → IsDocument other
+      → IsJoin here joined → IsJoin there other → IsRewriting start joined operations → IsApplyFault fault start operations → IsConvergeFault (told_of_patch fault) start here there
+  patch_refused (Refused op cause) joined other operations fine good is was edits refused = record {
     joined = joined;
+    joined_is_document = fine;
     joined_here = is;
     other = other;
+    other_is_document = good;
     joined_there = was;
     operations = operations;
     edits = edits;
     refused = refused;
   }
-  patch_refused ApplyFault.OutOfMemory joined other operations is was edits memory = tt
+  patch_refused ApplyFault.OutOfMemory joined other operations fine good is was edits memory = tt
 
 -- ---- the calls of `converge`
 
@@ -180,7 +182,8 @@ returns-in_err-patched-clause-calls c =
     let is = MatchResult-at_ok _ _ c.in_ok-joined_here.joined_here c.in_ok-joined_here.was c.join_all.ensures.joined in
     let was = MatchResult-at_ok _ _ c.in_ok-joined_there.joined_there c.in_ok-joined_there.was c.join_all-2.ensures.joined in
     refused_by _ _ c.from_residual-in_err-patched.result c.from_residual-in_err-patched.ensures.1
-    (patch_refused _ _ _ c.in_err-patched.field-0.0 _ _ _ is was c.in_ok-edits.ensures.rewriting c.in_err-patched.ensures.runs)
+    (patch_refused _ _ _ c.in_err-patched.field-0.0 _ _ _ (c.docs_are_documents.ensures c.in_ok-joined_here.joined_here).0
+    (c.docs_are_documents.ensures c.in_ok-joined_there.joined_there).0 is was c.in_ok-edits.ensures.rewriting c.in_err-patched.ensures.runs)
 
 pub returns-in_err-patched-clause-refused : goal.returns-in_err-patched-clause-refused
 returns-in_err-patched-clause-refused c are within =
