@@ -1,22 +1,19 @@
 -- The patches of envelopes that come one after another.
-use Rattle.std.proofs.Common.{◌≡◌, ◌≢◌, ◌<◌, ℕ, suc, List, [], ◌∷◌, ◌++◌, length, take, drop, get_or, map, nat_eq, refl, sym, ap, ◌∙◌, subst, arith}
+use Rattle.std.proofs.Common.{◌≡◌, ◌<◌, ℕ, suc, List, ◌∷◌, ◌++◌, length, take, drop, get_or, map, nat_eq, Option, None, Some, refl, sym, ap, ◌∙◌, subst, arith}
 use Rattle.std.proofs.Math.Seq.{drop-cons}
 use Rattle.std.proofs.lemmas.Bool.{eq-eqb}
 use Rattle.std.proofs.lemmas.List.{map-append, take-append-drop}
-use Rattle.std.proofs.lemmas.List.Elements.{Contains-append_left, Contains-append_right, filter-append}
+use Rattle.std.proofs.lemmas.List.Elements.{filter-append}
 use Rattle.std.specs.List.{Contains, filter}
 use Rattle.mp_tree.specs.Document.{Document}
-use Rattle.mp_tree.specs.Look.{Path}
 use Rattle.mp_tree.specs.View.{document}
+use Rattle.mp_tree.specs.declared.doc.Doc.{Doc}
 use Rattle.mp_merge.specs.Lists.{PairwiseCompatible}
 use Rattle.mp_merge.specs.declared.fault.JoinFault.{JoinFault}
 use Rattle.mp_merge.specs.declared.fault.JoinFault.TheVariants.{Conflict, OutOfMemory}
-use Rattle.library_example.specs.Received.{IsClashWith, patches_of}
+use Rattle.library_example.specs.Received.{IsClashAmong, IsClashWith, patches_of}
 use Rattle.library_example.specs.declared.receiving.Envelope.{Envelope}
-
-some_member : {X : Type 0} (xs : List X) → xs ≢ [] → (x : X) × Contains xs x
-some_member [] some = absurd (some refl)
-some_member (x ∷ xs) some = (x, (0, omega arith, refl))
+use Rattle.library_example.proofs.Kept.{Keeps, no_element}
 
 patches-append : (n : ℕ) (es others : List Envelope) → patches_of n (es ++ others) ≡ patches_of n es ++ patches_of n others
 patches-append n es others =
@@ -30,11 +27,26 @@ patches-cons n e es same = rw (eq-eqb e.epoch n same) refl
 pub of_this_start : (m n : ℕ) → (m < n → ⊥) → (n < m → ⊥) → m ≡ n
 of_this_start m n late early = omega arith
 
--- a patch of this start clashes with one of those before it, so not all are compatible
+-- patches that a replica has received are compatible with one another: at a place where two of them say something, their
+-- join says what each says
+kept_are_compatible : (joined : Option Doc) (patches : List Document) → Keeps joined patches → PairwiseCompatible patches
+kept_are_compatible None patches none p q at there w clash = absurd (no_element p (subst (λ ps. Contains ps p) none at))
+kept_are_compatible (Some kept) patches is p q at there w clash =
+    clash.differ (sym (is.said p at w clash.first) ∙ is.said q there w clash.second)
+
+-- the patch of an envelope of this start, where it clashes with those before it, is the first that does
 pub refused_clash : (n : ℕ) (es : List Envelope) (i : ℕ) (e : Envelope) → i < length es → get_or es i e ≡ e → e.epoch ≡ n
-    → (fault : JoinFault) → IsClashWith fault (patches_of n (take i es)) (document e.patch) → fault ≢ OutOfMemory → ¬ PairwiseCompatible (patches_of n es)
-refused_clash n es i e below is same OutOfMemory clash told all = told refl
-refused_clash n es i e below is same (Conflict places) clash told all = clashes (some_member places.items clash.some)
+    → (joined : Option Doc) → Keeps joined (patches_of n (take i es))
+    → (fault : JoinFault) → IsClashWith fault (patches_of n (take i es)) (document e.patch) → IsClashAmong fault (patches_of n es)
+refused_clash n es i e below is same joined kept OutOfMemory clash = tt
+refused_clash n es i e below is same joined kept (Conflict places) clash = record {
+  before = before;
+  patch = document e.patch;
+  after = patches_of n rest;
+  are = split;
+  compatible = kept_are_compatible joined before kept;
+  clashes = clash;
+}
   where
     before : List Document
     before = patches_of n (take i es)
@@ -46,10 +58,3 @@ refused_clash n es i e below is same (Conflict places) clash told all = clashes 
     split =
         ap (patches_of n) (sym (take-append-drop i es) ∙ ap (λ back. take i es ++ back) (drop-cons es i e below ∙ ap (λ x. x ∷ rest) is))
         ∙ patches-append n (take i es) (e ∷ rest) ∙ ap (λ back. before ++ back) (patches-cons n e rest same)
-
-    clashes : (w : Path) × Contains places.items w → ⊥
-    clashes at =
-        let found = (clash.all at.0).0 at.1 in
-        let patch_there = subst (λ ps. Contains ps (document e.patch)) (sym split) (Contains-append_right before (document e.patch ∷ patches_of n rest) (document e.patch) (0, omega arith, refl)) in
-        let other_there = subst (λ ps. Contains ps found.0) (sym split) (Contains-append_left before (document e.patch ∷ patches_of n rest) found.0 found.1) in
-        all (document e.patch) found.0 patch_there other_there at.0 found.2

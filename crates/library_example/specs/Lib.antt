@@ -1,5 +1,6 @@
 pub mod Keeper
 pub mod Laws
+pub mod Peers
 pub mod Private
 pub mod Received
 pub mod Shown

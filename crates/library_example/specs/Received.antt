@@ -9,6 +9,7 @@ use Rattle.mp_tree.specs.declared.doc.Doc.{Doc}
 use Rattle.mp_merge.specs.Clash.{path_cmp}
 use Rattle.mp_merge.specs.Join.{IsJoin, IsJoinFault}
 use Rattle.mp_merge.specs.Laws.{ClashesWithAMember}
+use Rattle.mp_merge.specs.Lists.{PairwiseCompatible}
 use Rattle.mp_merge.specs.declared.fault.JoinFault.{JoinFault}
 use Rattle.mp_merge.specs.declared.fault.JoinFault.TheVariants.{Conflict, OutOfMemory}
 use Rattle.library_example.specs.declared.receiving.Envelope.{Envelope}
@@ -64,3 +65,17 @@ pub record ClashesAt (received : List Document) (patch : Document) (places : Lis
 abbrev pub IsClashWith : JoinFault → List Document → Document → Type 0
 IsClashWith (Conflict places) received patch = ClashesAt received patch places.items
 IsClashWith OutOfMemory received patch = ⊤
+
+-- the first patch of the list that clashes with one before it, and the places at which it clashes with any of these
+pub record IsFirstClash (patches : List Document) (places : List Path) : Type 0 where
+  pub before : List Document
+  pub patch : Document
+  pub after : List Document
+  pub are : patches ≡ before ++ patch ∷ after
+  pub compatible : PairwiseCompatible before
+  pub clashes : ClashesAt before patch places
+
+-- said of a list of patches; running out of memory says nothing of them
+abbrev pub IsClashAmong : JoinFault → List Document → Type 0
+IsClashAmong (Conflict places) patches = IsFirstClash patches places.items
+IsClashAmong OutOfMemory patches = ⊤

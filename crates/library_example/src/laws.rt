@@ -1,8 +1,9 @@
 //! Laws of replicas that keep the patches themselves: each function runs nothing, and its contract is the law.
 ghost use Rattle.library_example.specs.Laws.{KeepersBeginTheSame, KeepersShowTheSame};
 
-/// Replicas of one start to which the same patches came, with the same identities, in any order and with any repeats,
-/// show the same document; and after the same decision they have the same start again, and its number.
+/// Replicas of one start that store the same patches under the same identities, in any order, show the same document; and
+/// after the same decision they have the same start again, and its number. The law says nothing of messages: of two patches
+/// under one identity each stores the one that it received first, so they may store different patches.
 pub fn keepers_agree()
     ensures shown { KeepersShowTheSame }
     ensures begun { KeepersBeginTheSame }

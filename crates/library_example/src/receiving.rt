@@ -1,11 +1,10 @@
 //! What a replica does with each patch as it comes: it keeps the join of those of its start.
-ghost use Rattle.std.specs.Prelude.{◌≡◌, ◌≢◌, ◌<◌, List, [], Some, Ok, IfOk, IfErr, OnErr, MatchOption, option_map};
+ghost use Rattle.std.specs.Prelude.{◌≡◌, ◌<◌, List, [], Some, Ok, IfOk, IfErr, OnErr, MatchOption, option_map};
 ghost use Rattle.mp_tree.specs.Document.{Document};
 ghost use Rattle.mp_tree.specs.View.{document};
 ghost use Rattle.mp_merge.specs.Application.{merge_patch};
-ghost use Rattle.mp_merge.specs.Lists.{PairwiseCompatible};
 ghost use Rattle.mp_merge.specs.Outcome.{IsOutcome};
-ghost use Rattle.library_example.specs.Received.{GrowsBy, HasReceived, IsClashWith, IsRefusedBy, Receives, epoch_of, joined_of, patches_of, start_of};
+ghost use Rattle.library_example.specs.Received.{GrowsBy, HasReceived, IsClashAmong, IsClashWith, IsRefusedBy, Receives, epoch_of, joined_of, patches_of, start_of};
 
 use mp_merge::{JoinFault, join, laws, merge};
 use mp_tree::Doc;
@@ -114,7 +113,8 @@ impl Replica {
 }
 
 /// The document of a replica that began with the start, once these envelopes came, in whatever order and with whatever
-/// repeats; or the first clash.
+/// repeats. If two of their patches conflict, it stops at the first that conflicts with one before it, and returns all the
+/// places at which it conflicts with any of those before it.
 pub fn shown_after(
     alloc: Global,
     epoch: u64,
@@ -123,8 +123,8 @@ pub fn shown_after(
 ) -> Result<Doc, JoinFault>
     ensures outcome { IfOk result (λ shown.
         IsOutcome (document start) (patches_of epoch envelopes.now) (document shown)) }
-    ensures refused { IfErr result (λ fault. fault ≢ JoinFault.OutOfMemory
-        → ¬ PairwiseCompatible (patches_of epoch envelopes.now)) }
+    ensures refused { IfErr result (λ fault.
+        IsClashAmong fault (patches_of epoch envelopes.now)) }
 {
     let mut replica = Replica::new(epoch, start);
     for envelope in envelopes {

@@ -1,13 +1,12 @@
 //! What a replica does with its start and the patches that it received, in whatever order they came.
 ghost use Rattle.std.specs.Prelude.{◌≡◌, map, option_map, IfOk, IfErr, MatchResult, string_bytes};
-ghost use Rattle.mp_tree.specs.Document.{Document, depth_limit};
+ghost use Rattle.mp_tree.specs.Document.{depth_limit};
 ghost use Rattle.mp_tree.specs.View.{document};
 ghost use Rattle.mp_pointer.specs.Part.{part};
 ghost use Rattle.mp_pointer.specs.Spelling.{Tokens, IsPointerFault, spell};
-ghost use Rattle.mp_patch.specs.Run.{Runs};
 ghost use Rattle.mp_patch.specs.View.{operations_of};
 ghost use Rattle.mp_merge.specs.Lists.{AreWithin, IsJoinAllFault};
-ghost use Rattle.mp_merge.specs.Outcome.{IsOutcome};
+ghost use Rattle.library_example.specs.Peers.{LeadsToOutcome, RewritesJoin};
 ghost use Rattle.library_example.specs.Shown.{IsNotShown, IsShown};
 
 use crate::fault::ShowFault;
@@ -22,6 +21,8 @@ pub fn show(alloc: Global, start: &[u8], patches: &[u8]) -> Result<String, ShowF
     ensures { MatchResult result (λ text. IsShown start.now patches.now (string_bytes text))
         (λ fault. IsNotShown fault start.now patches.now) }
 {
+    // A law is a call that runs nothing.
+    mp_tree::laws::docs_are_documents();
     let start = read_doc(alloc, start)?;
     let patches = read_docs(alloc, patches)?;
     let document = replay(alloc, &start, patches.as_slice())?;
@@ -30,14 +31,15 @@ pub fn show(alloc: Global, start: &[u8], patches: &[u8]) -> Result<String, ShowF
 
 /// A JSON Patch that leads a peer from the start to that document.
 pub fn for_a_peer(alloc: Global, start: &Doc, patches: &[Doc]) -> Result<JsonPatch, ListFault>
+    ensures rewriting { IfOk result (λ edits. RewritesJoin (document start.now)
+        (map document patches.now) (operations_of edits)) }
     ensures runs { AreWithin depth_limit (map document patches.now) → IfOk result (λ edits.
-        (shown : Document) × IsOutcome (document start.now) (map document patches.now) shown
-        × Runs (document start.now) (operations_of edits) shown) }
+        LeadsToOutcome (document start.now) (map document patches.now) (operations_of edits)) }
     ensures refused { IfErr result (λ fault. IsJoinAllFault fault (map document patches.now)) }
 {
-    // A law is a call that runs nothing.
     mp_tree::laws::docs_are_documents();
     laws::join_gives_outcome();
+    laws::applies_at_each_name();
     let joined = join_all(alloc, patches)?;
     Ok(rewrite(alloc, start, &joined)?)
 }
