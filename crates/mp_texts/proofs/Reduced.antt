@@ -5,12 +5,12 @@ use Rattle.mp_tree.specs.Document.{Document}
 use Rattle.mp_tree.specs.Text.{document_in}
 use Rattle.mp_merge.specs.Lists.{PairwiseCompatible}
 use Rattle.mp_texts.specs.Answers.{IsJoinText}
-use Rattle.mp_texts.specs.Laws.{ReducesAgree, ReducesExist, ReducesGiveTheJoin}
+use Rattle.mp_texts.specs.Laws.{ReducesAgree, ReducesDecide, ReducesExist, ReducesGiveTheJoin}
 use Rattle.mp_texts.specs.Private.LawsBelow.{JoinLaws}
 use Rattle.mp_texts.specs.Reduces.{Part, leaf, group, Parts, last, next, texts_at, texts_in, Gives, AllGive, JoinsThrough}
 use Rattle.mp_texts.specs.Texts.{AreRead}
 use Rattle.mp_texts.proofs.Joins.{carried, compatible_from_join, join_of_read, join_text, join_texts_are_shared, one_join_text}
-use Rattle.mp_texts.proofs.Readings.{AreRead-cons, AreRead-split, one_reading}
+use Rattle.mp_texts.proofs.Readings.{AreRead-append, AreRead-cons, AreRead-split, one_reading}
 use Rattle.mp_texts.proofs.Sayings.{SaySame, SaySame-append, SaySame-members, SaySame-trans, join_says, same_compatible, turned}
 
 -- ---- what a part gives says what the texts at its leaves say
@@ -71,6 +71,36 @@ pub reduces_give_the_join : ReducesGiveTheJoin
 reduces_give_the_join ts ps a same through =
     (join_texts_are_shared ts (texts_in ps) a same).1 (through_join ps a same.other_documents same.others_read through)
 
+-- ---- what is joined through is read: each text at its leaves is a document
+
+record Read (texts : List (List ℕ)) : Type 0 where
+  documents : List Document
+  read : AreRead texts documents
+
+mutual
+  read_by : (p : Part) (a : List ℕ) (d : Document) → Gives p a → document_in a ≡ Ok d → Read (texts_at p)
+  read_by (leaf t) a d is read =
+      let itself_read = subst (λ (s : List ℕ). document_in s ≡ Ok d) is read in
+      record { documents = d ∷ []; read = AreRead-cons t [] d [] itself_read refl }
+  read_by (group ps) a d (answers, all, is) read = all_read ps answers is.documents all is.read
+
+  all_read : (ps : Parts) (answers : List (List ℕ)) (ds : List Document) → AllGive ps answers → AreRead answers ds → Read (texts_in ps)
+  all_read (last p) [] ds all read = absurd all
+  all_read (last p) (a ∷ []) [] all read = absurd (cc)
+  all_read (last p) (a ∷ []) (d ∷ ds) all read = let here : document_in a ≡ Ok d = cc in read_by p a d all here
+  all_read (last p) (a ∷ b ∷ more) ds all read = absurd all
+  all_read (next p ps) [] ds all read = absurd all
+  all_read (next p ps) (a ∷ answers) [] all read = absurd (cc)
+  all_read (next p ps) (a ∷ answers) (d ∷ ds) (first, rest) read =
+      let here : document_in a ≡ Ok d = cc in
+      let later : AreRead answers ds = cc in
+      let one = read_by p a d first here in
+      let others = all_read ps answers ds rest later in
+      record {
+        documents = one.documents ++ others.documents;
+        read = AreRead-append (texts_at p) (texts_in ps) one.documents others.documents one.read others.read;
+      }
+
 -- ---- compatible texts are joined through
 
 some_given : (ps : Parts) (answers : List (List ℕ)) → AllGive ps answers → answers ≢ []
@@ -120,4 +150,13 @@ module _ (laws : JoinLaws) where
     λ free.
         let here = subst PairwiseCompatible (one_reading ts free.documents same.documents free.read same.read) free.compatible in
         part_gives (group ps) same.other_documents same.others_read (same_compatible same.documents same.other_documents (SaySame-members same.same) here),
+  )
+
+  pub reduces_decide : ReducesDecide
+  reduces_decide ps = (
+    λ (a, through).
+        let leaves = all_read ps through.0 through.2.documents through.1 through.2.read in
+        let is = through_join ps a leaves.documents leaves.read through in
+        record { documents = is.documents; read = is.read; compatible = compatible_from_join laws (texts_in ps) a is },
+    λ free. part_gives (group ps) free.documents free.read free.compatible,
   )

@@ -53,6 +53,10 @@ abbrev pub ReducesExist : Type 0
 ReducesExist = (texts : List (List ℕ)) (parts : Parts) → ReadTheSame texts (texts_in parts)
     → ((answer : List ℕ) × JoinsThrough parts answer) ↔ AreCompatible texts
 
+-- whatever the texts of a tree are, it is joined through exactly if all of them are documents, no two of which clash
+abbrev pub ReducesDecide : Type 0
+ReducesDecide = (parts : Parts) → ((answer : List ℕ) × JoinsThrough parts answer) ↔ AreCompatible (texts_in parts)
+
 -- ---- replays
 
 -- replays of one start and of patches that read as the same documents are one text

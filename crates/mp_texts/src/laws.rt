@@ -1,5 +1,5 @@
 //! Laws over texts alone: each function runs nothing, and its contract is the law.
-ghost use Rattle.mp_texts.specs.Laws.{EachPartHasAJoin, JoinOfTwoJoins, JoinTextsAreShared, OneJoinText, OneReplayText, ReducesAgree, ReducesExist, ReducesGiveTheJoin, ReplayIsMerge, ReplayIsPatch};
+ghost use Rattle.mp_texts.specs.Laws.{EachPartHasAJoin, JoinOfTwoJoins, JoinTextsAreShared, OneJoinText, OneReplayText, ReducesAgree, ReducesDecide, ReducesExist, ReducesGiveTheJoin, ReplayIsMerge, ReplayIsPatch};
 ghost use Rattle.mp_texts.specs.Private.LawsBelow.{JoinLaws, ReplayLaws};
 
 use mp_merge::laws as merge;
@@ -25,12 +25,15 @@ pub fn joins_of_joins()
 }
 
 /// Reduces agree: however texts are shared out, repeated, grouped and joined in a tree, each tree that is joined through
-/// gives the join text of all, the same byte for byte; and each is joined through exactly if no two of the texts clash.
-/// This is what a parallel reduce, a combiner and a stored aggregate ask for.
+/// gives the join text of all its texts, and two trees whose texts read as the same documents give the same text, byte for
+/// byte. Every tree, whatever bytes it has, is joined through exactly if all of its texts are documents and no two of them
+/// conflict as patches; any list of texts that read as the same documents decides it as well. This is what a parallel reduce,
+/// a combiner and a stored aggregate ask for.
 pub fn reduces_agree()
     ensures agree { ReducesAgree }
     ensures all { ReducesGiveTheJoin }
     ensures exists { ReducesExist }
+    ensures decide { ReducesDecide }
 {
     join_laws();
 }

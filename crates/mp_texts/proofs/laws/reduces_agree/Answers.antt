@@ -9,3 +9,6 @@ returns-clause-all c = reduced.reduces_give_the_join
 
 pub returns-clause-exists : goal.returns-clause-exists
 returns-clause-exists c = reduced.reduces_exist c.join_laws.ensures
+
+pub returns-clause-decide : goal.returns-clause-decide
+returns-clause-decide c = reduced.reduces_decide c.join_laws.ensures
