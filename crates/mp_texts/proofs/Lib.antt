@@ -1,8 +1,10 @@
 pub mod Joins
 pub mod Merging
+pub mod OneAnswer
 pub mod Places
 pub mod Readings
 pub mod Reduced
 pub mod Replays
 pub mod Sayings
+pub mod Steps
 pub mod Unread

@@ -5,8 +5,11 @@ use Rattle.mp_tree.specs.Document.{depth_limit}
 use Rattle.mp_tree.specs.Text.{document_in}
 use Rattle.mp_patch.specs.Form.{deepest}
 use Rattle.mp_texts.specs.Answers.{IsJoinText, IsMergeText, IsPatchText, IsReplayText, IsRewriteText}
+use Rattle.mp_texts.specs.Calls.{Call, CallAnswer, IsCallAnswer, MayFail, seen_of}
 use Rattle.mp_texts.specs.Reduces.{Parts, JoinsThrough, texts_in}
 use Rattle.mp_texts.specs.Texts.{AreCompatible, ReadTheSame}
+use Rattle.mp_texts.specs.declared.fault.TextsFault.{TextsFault}
+use Rattle.mp_texts.specs.declared.fault.TextsFault.TheVariants.{OutOfMemory}
 
 -- ---- one join
 
@@ -77,3 +80,15 @@ ReplayIsPatch = (start : List ℕ) (texts : List (List ℕ)) (answer joined edit
     → IsReplayText start texts answer → IsJoinText texts joined
     → (rewritten : IsRewriteText start joined edits) → 2 + deepest rewritten.operations ≤ depth_limit
     → IsPatchText start edits patched ↔ (patched ≡ answer)
+
+-- ---- one answer
+
+-- a call has one answer alone: it is a function of the call's arguments
+abbrev pub CallHasOneAnswer : Type 0
+CallHasOneAnswer = (call : Call) (answer other : CallAnswer)
+    → IsCallAnswer call answer → IsCallAnswer call other → answer ≡ other
+
+-- and what is seen of a fault that its contract admits is that answer, unless memory ran out; so is a text
+abbrev pub FaultsShowTheAnswer : Type 0
+FaultsShowTheAnswer = (call : Call) (fault : TextsFault) → MayFail call fault → fault ≢ OutOfMemory
+    → IsCallAnswer call (seen_of fault)

@@ -1,9 +1,10 @@
 //! Laws over texts alone: each function runs nothing, and its contract is the law.
-ghost use Rattle.mp_texts.specs.Laws.{EachPartHasAJoin, JoinOfTwoJoins, JoinTextsAreShared, OneJoinText, OneReplayText, ReducesAgree, ReducesDecide, ReducesExist, ReducesGiveTheJoin, ReplayIsMerge, ReplayIsPatch};
-ghost use Rattle.mp_texts.specs.Private.LawsBelow.{JoinLaws, ReplayLaws};
+ghost use Rattle.mp_texts.specs.Laws.{CallHasOneAnswer, EachPartHasAJoin, FaultsShowTheAnswer, JoinOfTwoJoins, JoinTextsAreShared, OneJoinText, OneReplayText, ReducesAgree, ReducesDecide, ReducesExist, ReducesGiveTheJoin, ReplayIsMerge, ReplayIsPatch};
+ghost use Rattle.mp_texts.specs.Private.LawsBelow.{AnswerLaws, JoinLaws, ReplayLaws};
 
 use mp_merge::laws as merge;
 use mp_patch::laws as patch;
+use mp_pointer::laws as pointer;
 use mp_tree::laws as tree;
 
 /// One join: lists whose texts read as the same documents, in any order and with any repeats, have one join text, byte for
@@ -50,6 +51,16 @@ pub fn replays_agree()
     replay_laws();
 }
 
+/// One answer: unless memory runs out, what a call answers is a function of its arguments. Two answers to the same call with
+/// the same arguments are both texts and equal byte for byte, or both errors of the same kind, with the same numbers and, of
+/// a conflict, the same places. `IsCallAnswer` says of each of the six calls which answers its contract admits.
+pub fn one_answer()
+    ensures one { CallHasOneAnswer }
+    ensures faults { FaultsShowTheAnswer }
+{
+    answer_laws();
+}
+
 fn join_laws()
     ensures { JoinLaws }
 {
@@ -73,4 +84,27 @@ fn replay_laws()
     patch::one_reading();
     patch::one_end();
     patch::shapes_are_forms();
+}
+
+fn answer_laws()
+    ensures { AnswerLaws }
+{
+    tree::readings_are_documents();
+    pointer::one_spelling();
+    pointer::spellings_have_no_fault();
+    pointer::one_fault();
+    patch::one_reading();
+    patch::forms_have_documents();
+    patch::forms_have_no_fault();
+    patch::one_fault();
+    patch::one_end();
+    patch::runs_are_not_refused();
+    patch::one_refusal();
+    merge::one_outcome();
+    merge::outcome_exists();
+    merge::told_pair();
+    merge::empty_has_no_join();
+    merge::one_join();
+    merge::join_exists();
+    merge::one_rewriting();
 }

@@ -1,5 +1,6 @@
 -- The laws of the crates below that those over texts rest on. Only private clauses cite it.
 use Rattle.mp_tree.specs.Laws.{ReadsReadable, ReadsBack}
+use Rattle.mp_pointer.specs.Laws as pointer
 use Rattle.mp_patch.specs.Laws as patch
 use Rattle.mp_merge.specs.Laws as merge
 
@@ -23,3 +24,25 @@ pub record ReplayLaws : Type 0 where
   pub one_reading : patch.HasOneReading
   pub one_end : patch.HasOneEnd
   pub shapes_are_forms : patch.ShapesAreForms
+
+-- of what has one answer alone
+pub record AnswerLaws : Type 0 where
+  pub readable : ReadsReadable
+  pub one_spelling : pointer.HasOneSpelling
+  pub spelling_unfaulty : pointer.SpellingsHaveNoFault
+  pub one_pointer_fault : pointer.HasOneFault
+  pub one_reading : patch.HasOneReading
+  pub form_documents : patch.FormsHaveDocuments
+  pub form_unfaulty : patch.FormsHaveNoFault
+  pub one_form_fault : patch.HasOneFault
+  pub one_end : patch.HasOneEnd
+  pub unrefused : patch.RunsUnrefused
+  pub one_refusal : patch.HasOneRefusal
+  pub one_outcome : merge.HasOneOutcome
+  pub outcome_exists : merge.OutcomeExists
+  pub told_is_incompatible : merge.CompatibleHaveNone
+  pub one_told_pair : merge.HasOneToldPair
+  pub none_has_no_join : merge.EmptyHasNoJoin
+  pub one_join : merge.HasOneJoin
+  pub join_exists : merge.JoinExists
+  pub one_rewriting : merge.HasOneRewriting
