@@ -1,10 +1,10 @@
--- A law over replies. It is the contract of a function of the module `laws` that runs nothing.
-use Rattle.std.specs.Prelude.{◌≡◌, ◌≤◌, ℕ, List, length, take}
+-- Laws over replies. Each is the contract of a function of the module `laws` that runs nothing.
+use Rattle.std.specs.Prelude.{◌≡◌, ◌≢◌, ◌≤◌, ℕ, List, length, take}
 use Rattle.mp_tree.specs.Text.{document_in}
 use Rattle.mp_texts.specs.Texts.{ReadTheSame}
-use Rattle.mp_c.specs.Answered.{IsReplayed}
-use Rattle.mp_c.specs.Replies.{Replies}
-use Rattle.mp_c.specs.Told.{status_result}
+use Rattle.mp_c.specs.Answered.{Answered, IsJoined, IsMerged, IsPart, IsPatched, IsReplayed, IsRewritten}
+use Rattle.mp_c.specs.Replies.{Replies, room_after}
+use Rattle.mp_c.specs.Told.{status_no_memory, status_result}
 use Rattle.mp_c.specs.declared.replying.Reply.{Reply}
 
 -- a call that replayed these texts on this start had a result, which its room holds
@@ -21,3 +21,32 @@ ReplaysAgreeInTheirRooms = (start other_start : List ℕ) (texts others : List (
     (room other_room : List ℕ) → document_in start ≡ document_in other_start → ReadTheSame texts others
     → HasReplayed start texts reply room → HasReplayed other_start others other other_room
     → (reply.length ≡ other.length) × (take reply.length room ≡ take other.length other_room)
+
+-- ---- one reply
+
+-- what holds of what each of the six exports may answer, whatever its arguments are
+pub record OfEachExport (Holds : (Answered → Type 0) → Type 0) : Type 0 where
+  pub join : (patches : List (List ℕ)) → Holds (IsJoined patches)
+  pub replay : (start : List ℕ) (patches : List (List ℕ)) → Holds (IsReplayed start patches)
+  pub merge : (document : List ℕ) (patches : List (List ℕ)) → Holds (IsMerged document patches)
+  pub rewrite : (document patch : List ℕ) → Holds (IsRewritten document patch)
+  pub patch : (document json_patch : List ℕ) → Holds (IsPatched document json_patch)
+  pub get : (document pointer : List ℕ) → Holds (IsPart document pointer)
+
+-- the replies have the same status, numbers and length, and one text was written to both buffers, as much as each holds
+pub record ReportTheSame (reply other : Reply) (before after other_before other_after : List ℕ) : Type 0 where
+  pub same : reply ≡ other
+  pub text : List ℕ
+  pub whole : reply.length ≡ length text
+  pub buffer : after ≡ room_after before text
+  pub other_buffer : other_after ≡ room_after other_before text
+
+-- so do any two replies to a call with the same arguments, whatever their buffers, unless memory ran out in one
+abbrev pub HasOneReply : (Answered → Type 0) → Type 0
+HasOneReply IsAnswer = (reply other : Reply) (before after other_before other_after : List ℕ)
+    → Replies IsAnswer reply before after → Replies IsAnswer other other_before other_after
+    → reply.status ≢ status_no_memory → other.status ≢ status_no_memory
+    → ReportTheSame reply other before after other_before other_after
+
+abbrev pub EachHasOneReply : Type 0
+EachHasOneReply = OfEachExport HasOneReply

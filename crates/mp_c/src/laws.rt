@@ -1,5 +1,5 @@
-//! A law over replies: the function runs nothing, and its contract is the law.
-ghost use Rattle.mp_c.specs.Laws.{ReplaysAgreeInTheirRooms};
+//! Laws over replies: each function runs nothing, and its contract is the law.
+ghost use Rattle.mp_c.specs.Laws.{EachHasOneReply, ReplaysAgreeInTheirRooms};
 
 use mp_texts::laws as texts;
 
@@ -9,4 +9,14 @@ pub fn replays_agree_in_their_rooms()
     ensures { ReplaysAgreeInTheirRooms }
 {
     texts::replays_agree();
+}
+
+/// One reply: of each of the six exports, two calls with the same arguments have the same status, numbers, length and text,
+/// unless memory runs out in one of them. What a buffer has afterwards depends on nothing but that text, on its capacity and
+/// on what it had before: each has the text's first bytes, as many as it holds. So a caller whose buffer was too small may
+/// call again with one of `length` bytes, and has the whole of the text whose beginning it saw.
+pub fn one_reply()
+    ensures { EachHasOneReply }
+{
+    texts::one_answer();
 }

@@ -1,0 +1,172 @@
+-- An export has one reply to its arguments, unless memory runs out.
+use Rattle.std.proofs.Common.{◌≡◌, ◌≢◌, ◌≤◌, ◌∙◌, ℕ, List, Ok, Err, length, take, refl, sym, ap, subst, arith}
+use Rattle.std.proofs.lemmas.Str.{utf8_valid_len-IsValidUpTo}
+use Rattle.std.proofs.lemmas.List.{take_all}
+use Rattle.std.specs.Str.{IsUtf8, IsValidUpTo}
+use Rattle.mp_tree.specs.Text.{document_in, text as compact}
+use Rattle.mp_tree.specs.Document.{Document}
+use Rattle.mp_tree.specs.declared.fault.ReadFault.{ReadFault}
+use Rattle.mp_merge.specs.declared.fault.ListFault.TheVariants as list
+use Rattle.mp_texts.specs.Answers.{places_list}
+use Rattle.mp_texts.specs.Calls.{Call, join_texts, replay_texts, merge_texts, rewrite_text, patch_text, part_text, CallAnswer, returned, conflicting, failed, IsCallAnswer, MayFail, MayReturn, seen_of}
+use Rattle.mp_texts.specs.Laws.{CallHasOneAnswer, FaultsShowTheAnswer}
+use Rattle.mp_texts.specs.declared.fault.TextsFault.{TextsFault}
+use Rattle.mp_texts.specs.declared.fault.TextsFault.TheVariants.{Document as NoDocument, Patch, List as OfList, Form, Refused, Pointer, Missing, OutOfMemory}
+use Rattle.mp_c.specs.Answered.{Answered, text, fault, not_utf8, IsJoined, IsReplayed, IsMerged, IsRewritten, IsPatched, IsPart, IsPartFault}
+use Rattle.mp_c.specs.Laws.{EachHasOneReply, HasOneReply, ReportTheSame}
+use Rattle.mp_c.specs.Replies.{IsReply, Replies}
+use Rattle.mp_c.specs.Told.{Told, plain, status_conflict, status_no_memory, status_result, told_of, told_of_fault}
+use Rattle.mp_c.specs.declared.replying.Reply.{Reply}
+
+-- ---- what is reported of an answer as its caller sees it
+
+told_of_seen : CallAnswer → Told
+told_of_seen (returned result) = plain status_result result
+told_of_seen (conflicting first second places) = record { status = status_conflict; first = first; second = second; text = compact (places_list places) }
+told_of_seen (failed why) = told_of_fault why
+
+fault_seen : (why : TextsFault) → told_of_fault why ≡ told_of_seen (seen_of why)
+unfolding told_of_seen
+fault_seen (NoDocument why) = refl
+fault_seen (Patch number why) = refl
+fault_seen (OfList list.NoPatches) = refl
+fault_seen (OfList (list.ConflictOf first second places)) = refl
+fault_seen (OfList list.OutOfMemory) = refl
+fault_seen (Form why) = refl
+fault_seen (Refused why) = refl
+fault_seen (Pointer why) = refl
+fault_seen Missing = refl
+fault_seen OutOfMemory = refl
+
+-- an answer of the call is reported so
+record Seen (call : Call) (told : Told) : Type 0 where
+  answer : CallAnswer
+  is : IsCallAnswer call answer
+  shows : told ≡ told_of_seen answer
+
+abbrev HasMemory : Told → Type 0
+HasMemory told = told.status ≢ status_no_memory
+
+text_seen : (call : Call) (result : List ℕ) → MayReturn call result → Seen call (plain status_result result)
+unfolding told_of_seen
+text_seen call result may = record { answer = returned result; is = may; shows = refl }
+
+is_seen : FaultsShowTheAnswer → (call : Call) (why : TextsFault) → MayFail call why → HasMemory (told_of_fault why) → Seen call (told_of_fault why)
+is_seen faults call why may memory = record {
+  answer = seen_of why;
+  is = faults call why may (λ none. memory (ap (λ f. (told_of_fault f).status) none));
+  shows = fault_seen why;
+}
+
+one_seen : CallHasOneAnswer → (call : Call) (told other : Told) → Seen call told → Seen call other → told ≡ other
+one_seen answers call told other one also = one.shows ∙ ap told_of_seen (answers call one.answer also.answer one.is also.is) ∙ sym also.shows
+
+-- ---- replies that report the same
+
+reply_of : ℕ → ℕ → ℕ → ℕ → Reply
+reply_of whole first second status = record { length = whole; first = first; second = second; status = status }
+
+same_reply : (told : Told) (reply other : Reply) (before after other_before other_after : List ℕ) → IsReply told reply before after → IsReply told other other_before other_after
+    → ReportTheSame reply other before after other_before other_after
+unfolding reply_of
+same_reply told reply other before after other_before other_after one also = record {
+  same =
+      ap (λ (n : ℕ). reply_of n reply.first reply.second reply.status) (one.whole ∙ sym also.whole)
+      ∙ ap (λ (n : ℕ). reply_of other.length n reply.second reply.status) (one.first ∙ sym also.first)
+      ∙ ap (λ (n : ℕ). reply_of other.length other.first n reply.status) (one.second ∙ sym also.second)
+      ∙ ap (λ (n : ℕ). reply_of other.length other.first other.second n) (one.status ∙ sym also.status);
+  text = told.text;
+  whole = one.whole;
+  buffer = one.room;
+  other_buffer = also.room;
+}
+
+-- what is reported of the answers of an export, one and all
+abbrev OneIsTold : (Answered → Type 0) → Type 0
+OneIsTold IsAnswer = (a b : Answered) → IsAnswer a → IsAnswer b → HasMemory (told_of a) → HasMemory (told_of b) → told_of a ≡ told_of b
+
+replied_once : (IsAnswer : Answered → Type 0) → OneIsTold IsAnswer → HasOneReply IsAnswer
+replied_once IsAnswer one reply other before after other_before other_after (a, is, replied) (b, was, other_replied) memory other_memory =
+    let same = one a b is was (λ none. memory (replied.status ∙ none)) (λ none. other_memory (other_replied.status ∙ none)) in
+    same_reply (told_of a) reply other before after other_before other_after replied
+    (subst (λ (told : Told). IsReply told other other_before other_after) (sym same) other_replied)
+
+-- ---- the exports that answer as the call over texts does
+
+module _ (answers : CallHasOneAnswer) (faults : FaultsShowTheAnswer) where
+  module _ (call : Call) (IsAnswer : Answered → Type 0) (texts : (t : List ℕ) → IsAnswer (text t) → MayReturn call t) (whys : (why : TextsFault) → IsAnswer (fault why) → MayFail call why)
+      (no_offset : (offset : ℕ) → IsAnswer (not_utf8 offset) → ⊥) where
+    all_seen : (a : Answered) → IsAnswer a → HasMemory (told_of a) → Seen call (told_of a)
+    all_seen (text t) is memory = text_seen call t (texts t is)
+    all_seen (fault why) is memory = is_seen faults call why (whys why is) memory
+    all_seen (not_utf8 offset) is memory = absurd (no_offset offset is)
+
+    as_over_texts : HasOneReply IsAnswer
+    as_over_texts =
+        replied_once IsAnswer
+        (λ a b is was memory other_memory. one_seen answers call (told_of a) (told_of b) (all_seen a is memory) (all_seen b was other_memory))
+
+  -- ---- parts
+
+  utf8_or_not : (pointer : List ℕ) (offset : ℕ) → IsUtf8 pointer → IsValidUpTo pointer offset → ⊥
+  utf8_or_not pointer offset utf8 valid =
+      let whole : take (length pointer) pointer ≡ pointer = take_all (length pointer) pointer (omega arith) in
+      valid.longest (length pointer) valid.short (subst IsUtf8 (sym whole) utf8)
+
+  one_offset : (pointer : List ℕ) (offset other : ℕ) → IsValidUpTo pointer offset → IsValidUpTo pointer other → offset ≡ other
+  one_offset pointer offset other one also = sym (utf8_valid_len-IsValidUpTo pointer offset one) ∙ utf8_valid_len-IsValidUpTo pointer other also
+
+  part_fails : (document pointer : List ℕ) (why : TextsFault) → IsPartFault why document pointer → MayFail (part_text document pointer) why
+  part_fails document pointer (NoDocument why) is = is
+  part_fails document pointer (Patch number why) is = is.1
+  part_fails document pointer (OfList why) is = is.1
+  part_fails document pointer (Form why) is = is.1
+  part_fails document pointer (Refused why) is = is.1
+  part_fails document pointer (Pointer why) is = is.1
+  part_fails document pointer Missing is = is.1
+  part_fails document pointer OutOfMemory is = tt
+
+  unread : (document : List ℕ) (d : Document) (why : ReadFault) → document_in document ≡ Ok d → document_in document ≡ Err why → ⊥
+  unread document d why one other = cc
+
+  -- a pointer that is not UTF-8 has no other fault
+  no_other_fault : (document pointer : List ℕ) (why : TextsFault) (offset : ℕ) → IsPartFault why document pointer → HasMemory (told_of_fault why) → IsPart document pointer (not_utf8 offset) → ⊥
+  no_other_fault document pointer (NoDocument why) offset is memory not = unread document not.0.0 why not.0.1 is
+  no_other_fault document pointer (Patch number why) offset is memory not = utf8_or_not pointer offset is.0 not.1
+  no_other_fault document pointer (OfList why) offset is memory not = utf8_or_not pointer offset is.0 not.1
+  no_other_fault document pointer (Form why) offset is memory not = utf8_or_not pointer offset is.0 not.1
+  no_other_fault document pointer (Refused why) offset is memory not = utf8_or_not pointer offset is.0 not.1
+  no_other_fault document pointer (Pointer why) offset is memory not = utf8_or_not pointer offset is.0 not.1
+  no_other_fault document pointer Missing offset is memory not = utf8_or_not pointer offset is.0 not.1
+  no_other_fault document pointer OutOfMemory offset is memory not = memory refl
+
+  one_part : (document pointer : List ℕ) → OneIsTold (IsPart document pointer)
+  one_part document pointer (text v) (text w) is was memory other =
+      let call = part_text document pointer in
+      one_seen answers call (told_of (text v)) (told_of (text w)) (text_seen call v is.1) (text_seen call w was.1)
+  one_part document pointer (text v) (fault why) is was memory other =
+      let call = part_text document pointer in
+      one_seen answers call (told_of (text v)) (told_of_fault why) (text_seen call v is.1) (is_seen faults call why (part_fails document pointer why was) other)
+  one_part document pointer (text v) (not_utf8 offset) is was memory other = absurd (utf8_or_not pointer offset is.0 was.1)
+  one_part document pointer (fault why) (text w) is was memory other =
+      let call = part_text document pointer in
+      one_seen answers call (told_of_fault why) (told_of (text w)) (is_seen faults call why (part_fails document pointer why is) memory) (text_seen call w was.1)
+  one_part document pointer (fault why) (fault also) is was memory other =
+      let call = part_text document pointer in
+      one_seen answers call (told_of_fault why) (told_of_fault also) (is_seen faults call why (part_fails document pointer why is) memory) (is_seen faults call also (part_fails document pointer also was) other)
+  one_part document pointer (fault why) (not_utf8 offset) is was memory other = absurd (no_other_fault document pointer why offset is memory was)
+  one_part document pointer (not_utf8 offset) (text w) is was memory other = absurd (utf8_or_not pointer offset was.0 is.1)
+  one_part document pointer (not_utf8 offset) (fault also) is was memory other = absurd (no_other_fault document pointer also offset was other is)
+  one_part document pointer (not_utf8 offset) (not_utf8 also) is was memory other = ap (λ (n : ℕ). told_of (not_utf8 n)) (one_offset pointer offset also is.1 was.1)
+
+  -- ---- all six
+
+  pub each_has_one_reply : EachHasOneReply
+  each_has_one_reply = record {
+    join = λ patches. as_over_texts (join_texts patches) (IsJoined patches) (λ t is. is) (λ why is. is) (λ offset is. is);
+    replay = λ start patches. as_over_texts (replay_texts start patches) (IsReplayed start patches) (λ t is. is) (λ why is. is) (λ offset is. is);
+    merge = λ document patches. as_over_texts (merge_texts document patches) (IsMerged document patches) (λ t is. is) (λ why is. is) (λ offset is. is);
+    rewrite = λ document patch. as_over_texts (rewrite_text document patch) (IsRewritten document patch) (λ t is. is) (λ why is. is) (λ offset is. is);
+    patch = λ document json_patch. as_over_texts (patch_text document json_patch) (IsPatched document json_patch) (λ t is. is) (λ why is. is) (λ offset is. is);
+    get = λ document pointer. replied_once (IsPart document pointer) (one_part document pointer);
+  }
