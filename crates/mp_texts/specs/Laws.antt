@@ -83,7 +83,11 @@ ReplayIsPatch = (start : List ℕ) (texts : List (List ℕ)) (answer joined edit
 
 -- ---- one answer
 
--- a call has one answer alone: it is a function of the call's arguments
+-- a call has an answer, whatever bytes it is given
+abbrev pub CallHasAnswer : Type 0
+CallHasAnswer = (call : Call) → (answer : CallAnswer) × IsCallAnswer call answer
+
+-- and one alone: it is a function of the call's arguments
 abbrev pub CallHasOneAnswer : Type 0
 CallHasOneAnswer = (call : Call) (answer other : CallAnswer)
     → IsCallAnswer call answer → IsCallAnswer call other → answer ≡ other

@@ -1,6 +1,6 @@
 //! Laws over texts alone: each function runs nothing, and its contract is the law.
-ghost use Rattle.mp_texts.specs.Laws.{CallHasOneAnswer, EachPartHasAJoin, FaultsShowTheAnswer, JoinOfTwoJoins, JoinTextsAreShared, OneJoinText, OneReplayText, ReducesAgree, ReducesDecide, ReducesExist, ReducesGiveTheJoin, ReplayIsMerge, ReplayIsPatch};
-ghost use Rattle.mp_texts.specs.Private.LawsBelow.{AnswerLaws, JoinLaws, ReplayLaws};
+ghost use Rattle.mp_texts.specs.Laws.{CallHasAnswer, CallHasOneAnswer, EachPartHasAJoin, FaultsShowTheAnswer, JoinOfTwoJoins, JoinTextsAreShared, OneJoinText, OneReplayText, ReducesAgree, ReducesDecide, ReducesExist, ReducesGiveTheJoin, ReplayIsMerge, ReplayIsPatch};
+ghost use Rattle.mp_texts.specs.Private.LawsBelow.{AnswerLaws, ExistenceLaws, JoinLaws, ReplayLaws};
 
 use mp_merge::laws as merge;
 use mp_patch::laws as patch;
@@ -49,6 +49,14 @@ pub fn replays_agree()
 {
     join_laws();
     replay_laws();
+}
+
+/// An answer exists: each of the six calls, whatever bytes its arguments are, has an answer that its contract admits and that
+/// is not out of memory. Texts that are not UTF-8 or not JSON have one too, an error.
+pub fn answer_exists()
+    ensures { CallHasAnswer }
+{
+    existence_laws();
 }
 
 /// One answer: unless memory runs out, what a call answers is a function of its arguments. Two answers to the same call with
@@ -107,4 +115,25 @@ fn answer_laws()
     merge::one_join();
     merge::join_exists();
     merge::one_rewriting();
+}
+
+fn existence_laws()
+    ensures { ExistenceLaws }
+{
+    join_laws();
+    pointer::spells_or_is_faulty();
+    pointer::parts_are_readable();
+    patch::is_form_or_faulty();
+    patch::shapes_are_readable();
+    patch::forms_have_documents();
+    patch::one_end();
+    patch::operations_are_taken();
+    patch::runs_or_is_refused();
+    patch::runs_are_not_refused();
+    patch::runs_stay_shallow();
+    merge::told_pair();
+    merge::applied_in_turn();
+    merge::merged_is_readable();
+    merge::rewriting_exists();
+    merge::rewritings_are_writable();
 }

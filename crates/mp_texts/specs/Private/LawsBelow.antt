@@ -46,3 +46,26 @@ pub record AnswerLaws : Type 0 where
   pub one_join : merge.HasOneJoin
   pub join_exists : merge.JoinExists
   pub one_rewriting : merge.HasOneRewriting
+
+-- of JSON Patches that run, and lead to what can be read
+pub record RunLaws : Type 0 where
+  pub documents : patch.FormsHaveDocuments
+  pub one_end : patch.HasOneEnd
+  pub taken : patch.OperationsAreTaken
+  pub runs_or_refused : patch.RunsOrIsRefused
+  pub unrefused : patch.RunsUnrefused
+  pub shallow : patch.StaysShallow
+
+-- of what has an answer
+pub record ExistenceLaws : Type 0 where
+  pub joins : JoinLaws
+  pub runs : RunLaws
+  pub spelled_or_faulty : pointer.SpellsOrIsFaulty
+  pub readable_parts : pointer.PartsAreReadable
+  pub form_or_faulty : patch.IsFormOrFaulty
+  pub readable_shapes : patch.ShapesAreReadable
+  pub compatible_or_told : merge.CompatibleOrTold
+  pub applied_in_turn : merge.AppliedInTurn
+  pub readable_merge : merge.MergedIsReadable
+  pub rewriting_exists : merge.RewritingExists
+  pub writable_rewriting : merge.RewritingIsWritable

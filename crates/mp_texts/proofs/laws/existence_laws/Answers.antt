@@ -1,0 +1,23 @@
+use Rattle.mp_texts.proofs.laws.existence_laws.Goals as goal
+
+pub returns : goal.returns
+returns c = record {
+  joins = c.join_laws.ensures;
+  runs = record {
+    documents = c.forms_have_documents.ensures;
+    one_end = c.one_end.ensures;
+    taken = c.operations_are_taken.ensures;
+    runs_or_refused = c.runs_or_is_refused.ensures;
+    unrefused = c.runs_are_not_refused.ensures;
+    shallow = c.runs_stay_shallow.ensures;
+  };
+  spelled_or_faulty = c.spells_or_is_faulty.ensures;
+  readable_parts = c.parts_are_readable.ensures;
+  form_or_faulty = c.is_form_or_faulty.ensures;
+  readable_shapes = c.shapes_are_readable.ensures;
+  compatible_or_told = c.told_pair.ensures.exists;
+  applied_in_turn = c.applied_in_turn.ensures;
+  readable_merge = c.merged_is_readable.ensures;
+  rewriting_exists = c.rewriting_exists.ensures;
+  writable_rewriting = c.rewritings_are_writable.ensures.writable;
+}
