@@ -10,8 +10,9 @@
  *   reads    the texts it is given, as UTF-8 bytes without a terminating 0, while it runs and no longer; of any length. They
  *            may be one another, and may not change meanwhile.
  *   writes   the first min(length, room) bytes of the room, where length is that of the whole text, and nothing behind them:
- *            no terminating 0 either. Where reply.length > room the text is cut: call again with room for it. A room of 0
- *            asks for the length alone. The room may not overlap what is read.
+ *            no terminating 0 either. Where reply.length > room the text is cut: call again with room for it. That rests
+ *            on this: unless memory runs out, the same arguments give the same reply and the same text. A room of 0 asks
+ *            for the length alone. The room may not overlap what is read.
  *   owns     nothing when it returns. Meanwhile it takes memory by malloc and realloc, and gives it back by free: for each
  *            byte that is read mostly 15 to 50 bytes at the peak and never more than 360, and beside them what the answer
  *            takes. Of n bytes that are read the places of a clash and the edits of a rewriting may have n * n / 15, and a

@@ -25,7 +25,7 @@ replied IsAnswer (Err why) reply before after is memory (inr told) = (fault OutO
 
 -- ---- parts
 
-part_fault : (why : TextsFault) (document pointer : List ℕ) → IsUtf8 pointer → IsPartTextFault why document pointer → IsPartFault why document pointer
+pub part_fault : (why : TextsFault) (document pointer : List ℕ) → IsUtf8 pointer → IsPartTextFault why document pointer → IsPartFault why document pointer
 part_fault (NoDocument why) document pointer utf8 is = is
 part_fault (Patch number why) document pointer utf8 is = (utf8, is)
 part_fault (OfList why) document pointer utf8 is = (utf8, is)

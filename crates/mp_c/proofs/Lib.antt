@@ -1,3 +1,4 @@
 pub mod Exports
 pub mod OneReply
 pub mod Rooms
+pub mod SomeReply

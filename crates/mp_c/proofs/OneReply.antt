@@ -1,32 +1,30 @@
 -- An export has one reply to its arguments, unless memory runs out.
-use Rattle.std.proofs.Common.{◌≡◌, ◌≢◌, ◌≤◌, ◌∙◌, ℕ, List, Ok, Err, length, take, refl, sym, ap, subst, arith}
+use Rattle.std.proofs.Common.{◌≡◌, ◌≢◌, ◌∙◌, ℕ, List, Ok, Err, length, take, refl, sym, ap, subst, arith}
 use Rattle.std.proofs.lemmas.Str.{utf8_valid_len-IsValidUpTo}
 use Rattle.std.proofs.lemmas.List.{take_all}
 use Rattle.std.specs.Str.{IsUtf8, IsValidUpTo}
-use Rattle.mp_tree.specs.Text.{document_in, text as compact}
+use Rattle.mp_tree.specs.Text.{document_in}
 use Rattle.mp_tree.specs.Document.{Document}
 use Rattle.mp_tree.specs.declared.fault.ReadFault.{ReadFault}
 use Rattle.mp_merge.specs.declared.fault.ListFault.TheVariants as list
-use Rattle.mp_texts.specs.Answers.{places_list}
 use Rattle.mp_texts.specs.Calls.{Call, join_texts, replay_texts, merge_texts, rewrite_text, patch_text, part_text, CallAnswer, returned, conflicting, failed, IsCallAnswer, MayFail, MayReturn, seen_of}
 use Rattle.mp_texts.specs.Laws.{CallHasOneAnswer, FaultsShowTheAnswer}
 use Rattle.mp_texts.specs.declared.fault.TextsFault.{TextsFault}
 use Rattle.mp_texts.specs.declared.fault.TextsFault.TheVariants.{Document as NoDocument, Patch, List as OfList, Form, Refused, Pointer, Missing, OutOfMemory}
 use Rattle.mp_c.specs.Answered.{Answered, text, fault, not_utf8, IsJoined, IsReplayed, IsMerged, IsRewritten, IsPatched, IsPart, IsPartFault}
 use Rattle.mp_c.specs.Laws.{EachHasOneReply, HasOneReply, ReportTheSame}
-use Rattle.mp_c.specs.Replies.{IsReply, Replies}
-use Rattle.mp_c.specs.Told.{Told, plain, status_conflict, status_no_memory, status_result, told_of, told_of_fault}
+use Rattle.mp_c.specs.Replies.{IsReply}
+use Rattle.mp_c.specs.Told.{Told, plain, status_no_memory, status_result, told_of, told_of_conflict, told_of_fault}
 use Rattle.mp_c.specs.declared.replying.Reply.{Reply}
 
 -- ---- what is reported of an answer as its caller sees it
 
-told_of_seen : CallAnswer → Told
+abbrev pub told_of_seen : CallAnswer → Told
 told_of_seen (returned result) = plain status_result result
-told_of_seen (conflicting first second places) = record { status = status_conflict; first = first; second = second; text = compact (places_list places) }
+told_of_seen (conflicting first second places) = told_of_conflict first second places
 told_of_seen (failed why) = told_of_fault why
 
 fault_seen : (why : TextsFault) → told_of_fault why ≡ told_of_seen (seen_of why)
-unfolding told_of_seen
 fault_seen (NoDocument why) = refl
 fault_seen (Patch number why) = refl
 fault_seen (OfList list.NoPatches) = refl
@@ -39,16 +37,15 @@ fault_seen Missing = refl
 fault_seen OutOfMemory = refl
 
 -- an answer of the call is reported so
-record Seen (call : Call) (told : Told) : Type 0 where
-  answer : CallAnswer
-  is : IsCallAnswer call answer
-  shows : told ≡ told_of_seen answer
+pub record Seen (call : Call) (told : Told) : Type 0 where
+  pub answer : CallAnswer
+  pub is : IsCallAnswer call answer
+  pub shows : told ≡ told_of_seen answer
 
-abbrev HasMemory : Told → Type 0
+abbrev pub HasMemory : Told → Type 0
 HasMemory told = told.status ≢ status_no_memory
 
 text_seen : (call : Call) (result : List ℕ) → MayReturn call result → Seen call (plain status_result result)
-unfolding told_of_seen
 text_seen call result may = record { answer = returned result; is = may; shows = refl }
 
 is_seen : FaultsShowTheAnswer → (call : Call) (why : TextsFault) → MayFail call why → HasMemory (told_of_fault why) → Seen call (told_of_fault why)
@@ -58,7 +55,7 @@ is_seen faults call why may memory = record {
   shows = fault_seen why;
 }
 
-one_seen : CallHasOneAnswer → (call : Call) (told other : Told) → Seen call told → Seen call other → told ≡ other
+pub one_seen : CallHasOneAnswer → (call : Call) (told other : Told) → Seen call told → Seen call other → told ≡ other
 one_seen answers call told other one also = one.shows ∙ ap told_of_seen (answers call one.answer also.answer one.is also.is) ∙ sym also.shows
 
 -- ---- replies that report the same
@@ -82,7 +79,7 @@ same_reply told reply other before after other_before other_after one also = rec
 }
 
 -- what is reported of the answers of an export, one and all
-abbrev OneIsTold : (Answered → Type 0) → Type 0
+abbrev pub OneIsTold : (Answered → Type 0) → Type 0
 OneIsTold IsAnswer = (a b : Answered) → IsAnswer a → IsAnswer b → HasMemory (told_of a) → HasMemory (told_of b) → told_of a ≡ told_of b
 
 replied_once : (IsAnswer : Answered → Type 0) → OneIsTold IsAnswer → HasOneReply IsAnswer
@@ -96,7 +93,7 @@ replied_once IsAnswer one reply other before after other_before other_after (a, 
 module _ (answers : CallHasOneAnswer) (faults : FaultsShowTheAnswer) where
   module _ (call : Call) (IsAnswer : Answered → Type 0) (texts : (t : List ℕ) → IsAnswer (text t) → MayReturn call t) (whys : (why : TextsFault) → IsAnswer (fault why) → MayFail call why)
       (no_offset : (offset : ℕ) → IsAnswer (not_utf8 offset) → ⊥) where
-    all_seen : (a : Answered) → IsAnswer a → HasMemory (told_of a) → Seen call (told_of a)
+    pub all_seen : (a : Answered) → IsAnswer a → HasMemory (told_of a) → Seen call (told_of a)
     all_seen (text t) is memory = text_seen call t (texts t is)
     all_seen (fault why) is memory = is_seen faults call why (whys why is) memory
     all_seen (not_utf8 offset) is memory = absurd (no_offset offset is)
@@ -140,7 +137,7 @@ module _ (answers : CallHasOneAnswer) (faults : FaultsShowTheAnswer) where
   no_other_fault document pointer Missing offset is memory not = utf8_or_not pointer offset is.0 not.1
   no_other_fault document pointer OutOfMemory offset is memory not = memory refl
 
-  one_part : (document pointer : List ℕ) → OneIsTold (IsPart document pointer)
+  pub one_part : (document pointer : List ℕ) → OneIsTold (IsPart document pointer)
   one_part document pointer (text v) (text w) is was memory other =
       let call = part_text document pointer in
       one_seen answers call (told_of (text v)) (told_of (text w)) (text_seen call v is.1) (text_seen call w was.1)

@@ -1,10 +1,13 @@
 -- Laws over replies. Each is the contract of a function of the module `laws` that runs nothing.
-use Rattle.std.specs.Prelude.{◌≡◌, ◌≢◌, ◌≤◌, ℕ, List, length, take}
+use Rattle.std.specs.Prelude.{◌≡◌, ◌≢◌, ◌≤◌, ◌⊎◌, ℕ, List, length, take}
 use Rattle.mp_tree.specs.Text.{document_in}
+use Rattle.mp_pointer.specs.Spelling.{Tokens}
+use Rattle.mp_texts.specs.Calls.{Call, MayConflict, join_texts, merge_texts, part_text, patch_text, replay_texts}
+use Rattle.mp_texts.specs.Calls.{rewrite_text}
 use Rattle.mp_texts.specs.Texts.{ReadTheSame}
 use Rattle.mp_c.specs.Answered.{Answered, IsJoined, IsMerged, IsPart, IsPatched, IsReplayed, IsRewritten}
-use Rattle.mp_c.specs.Replies.{Replies, room_after}
-use Rattle.mp_c.specs.Told.{status_no_memory, status_result}
+use Rattle.mp_c.specs.Replies.{IsReply, Replies, room_after}
+use Rattle.mp_c.specs.Told.{Told, status_no_memory, status_result, told_of, told_of_conflict}
 use Rattle.mp_c.specs.declared.replying.Reply.{Reply}
 
 -- a call that replayed these texts on this start had a result, which its room holds
@@ -24,16 +27,20 @@ ReplaysAgreeInTheirRooms = (start other_start : List ℕ) (texts others : List (
 
 -- ---- one reply
 
--- what holds of what each of the six exports may answer, whatever its arguments are
-pub record OfEachExport (Holds : (Answered → Type 0) → Type 0) : Type 0 where
-  pub join : (patches : List (List ℕ)) → Holds (IsJoined patches)
-  pub replay : (start : List ℕ) (patches : List (List ℕ)) → Holds (IsReplayed start patches)
-  pub merge : (document : List ℕ) (patches : List (List ℕ)) → Holds (IsMerged document patches)
-  pub rewrite : (document patch : List ℕ) → Holds (IsRewritten document patch)
-  pub patch : (document json_patch : List ℕ) → Holds (IsPatched document json_patch)
-  pub get : (document pointer : List ℕ) → Holds (IsPart document pointer)
+-- what holds of each of the six exports, whatever its arguments: of the call over texts that it makes, and of what it
+-- may answer
+pub record OfEachExport (Holds : Call → (Answered → Type 0) → Type 0) : Type 0 where
+  pub join : (patches : List (List ℕ)) → Holds (join_texts patches) (IsJoined patches)
+  pub replay : (start : List ℕ) (patches : List (List ℕ))
+      → Holds (replay_texts start patches) (IsReplayed start patches)
+  pub merge : (document : List ℕ) (patches : List (List ℕ))
+      → Holds (merge_texts document patches) (IsMerged document patches)
+  pub rewrite : (document patch : List ℕ) → Holds (rewrite_text document patch) (IsRewritten document patch)
+  pub patch : (document json_patch : List ℕ)
+      → Holds (patch_text document json_patch) (IsPatched document json_patch)
+  pub get : (document pointer : List ℕ) → Holds (part_text document pointer) (IsPart document pointer)
 
--- the replies have the same status, numbers and length, and one text was written to both buffers, as much as each holds
+-- the replies have the same status, numbers and length, and one text was written to both buffers, as much as fits
 pub record ReportTheSame (reply other : Reply) (before after other_before other_after : List ℕ) : Type 0 where
   pub same : reply ≡ other
   pub text : List ℕ
@@ -49,4 +56,24 @@ HasOneReply IsAnswer = (reply other : Reply) (before after other_before other_af
     → ReportTheSame reply other before after other_before other_after
 
 abbrev pub EachHasOneReply : Type 0
-EachHasOneReply = OfEachExport HasOneReply
+EachHasOneReply = OfEachExport (λ call. HasOneReply)
+
+-- ---- a reply exists
+
+-- an export may report this: an answer of its own, or a conflict of the call over texts, whatever vector has its places
+abbrev pub MayReport : Call → (Answered → Type 0) → Told → Type 0
+MayReport call IsAnswer told =
+    ((answer : Answered) × IsAnswer answer × (told ≡ told_of answer))
+    ⊎ ((first : ℕ) × (second : ℕ) × (places : List Tokens)
+    × MayConflict call first second places × (told ≡ told_of_conflict first second places))
+
+-- it may report something that is not out of memory, and every reply reports that, unless memory runs out
+pub record HasReport (call : Call) (IsAnswer : Answered → Type 0) : Type 0 where
+  pub told : Told
+  pub may : MayReport call IsAnswer told
+  pub has_memory : told.status ≢ status_no_memory
+  pub each : (reply : Reply) (before after : List ℕ) → Replies IsAnswer reply before after
+      → reply.status ≢ status_no_memory → IsReply told reply before after
+
+abbrev pub EachHasReport : Type 0
+EachHasReport = OfEachExport HasReport

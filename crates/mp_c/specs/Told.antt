@@ -3,6 +3,7 @@ use Rattle.std.specs.Prelude.{ℕ, List, [], codes}
 use Rattle.mp_tree.specs.Text.{text as compact}
 use Rattle.mp_tree.specs.declared.fault.ReadFault.{ReadFault}
 use Rattle.mp_tree.specs.declared.fault.ReadFault.TheVariants as read
+use Rattle.mp_pointer.specs.Spelling.{Tokens}
 use Rattle.mp_pointer.specs.declared.fault.PointerFault.{PointerFault}
 use Rattle.mp_pointer.specs.declared.fault.PointerFault.TheVariants as pointer
 use Rattle.mp_patch.specs.Texts.{cause_text, form_text}
@@ -86,10 +87,13 @@ told_of_unread status number read.TooDeep = numbered status number (codes "too d
 told_of_unread status number read.OutOfMemory = no_memory
 
 -- the numbers of two patches that clash, and all their places
+abbrev pub told_of_conflict : ℕ → ℕ → List Tokens → Told
+told_of_conflict first second places =
+    record { status = status_conflict; first = first; second = second; text = compact (places_list places) }
+
 abbrev pub told_of_list : ListFault → Told
 told_of_list list.NoPatches = plain status_no_patches (codes "no patches")
-told_of_list (list.ConflictOf first second places) =
-    record { status = status_conflict; first = first; second = second; text = compact (places_list places.items) }
+told_of_list (list.ConflictOf first second places) = told_of_conflict first second places.items
 told_of_list list.OutOfMemory = no_memory
 
 -- the number of the operation

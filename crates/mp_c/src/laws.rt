@@ -1,7 +1,9 @@
 //! Laws over replies: each function runs nothing, and its contract is the law.
-ghost use Rattle.mp_c.specs.Laws.{EachHasOneReply, ReplaysAgreeInTheirRooms};
+ghost use Rattle.mp_c.specs.Laws.{EachHasOneReply, EachHasReport, ReplaysAgreeInTheirRooms};
+ghost use Rattle.mp_c.specs.Private.LawsOfTexts.{LawsOfTexts};
 
 use mp_texts::laws as texts;
+use mp_tree::laws as tree;
 
 /// Replays agree: two callers that replay texts of the same documents, in any order and with any repeats, on texts of one
 /// start, and that have a result and room enough for it, have the same bytes.
@@ -13,10 +15,26 @@ pub fn replays_agree_in_their_rooms()
 
 /// One reply: of each of the six exports, two calls with the same arguments have the same status, numbers, length and text,
 /// unless memory runs out in one of them. What a buffer has afterwards depends on nothing but that text, on its capacity and
-/// on what it had before: each has the text's first bytes, as many as it holds. So a caller whose buffer was too small may
-/// call again with one of `length` bytes, and has the whole of the text whose beginning it saw.
+/// on what it had before: each has the text's first bytes, as many as fit. So a caller whose buffer was too small may call
+/// again with one of `length` bytes, and has the whole of the text whose beginning it saw.
 pub fn one_reply()
     ensures { EachHasOneReply }
 {
+    texts::one_answer();
+}
+
+/// A reply exists: each of the six exports, whatever bytes its arguments are, may report something other than out of memory,
+/// as the contract of its call over texts has it; and every reply reports that, unless memory runs out.
+pub fn reply_exists()
+    ensures { EachHasReport }
+{
+    laws_of_texts();
+}
+
+fn laws_of_texts()
+    ensures { LawsOfTexts }
+{
+    tree::bytes_have_faults();
+    texts::answer_exists();
     texts::one_answer();
 }

@@ -4,11 +4,10 @@ use Rattle.std.proofs.lemmas.List.Elements.{All-contains, All-cons, All-nil, Con
 use Rattle.std.specs.List.{All, Contains}
 use Rattle.std.specs.Prelude.{⊤}
 use Rattle.std.specs.Str.{bytes_eq}
-use Rattle.mp_tree.specs.Document.{Document, null, flag, whole, string, list, object, Items, no_items, item, Members, no_members, member, find, put, IsDocument, AreDocuments, IsMap, IsReadable, IsWhole, HasTexts, IsInRange, Throughout, ThroughoutItems, ThroughoutMembers}
+use Rattle.mp_tree.specs.Document.{Document, null, flag, whole, string, list, object, Items, no_items, item, Members, no_members, member, find, IsDocument, AreDocuments, IsMap, IsReadable, IsWhole, Throughout, ThroughoutItems, ThroughoutMembers}
 use Rattle.mp_tree.specs.Elements.{append, nth}
 use Rattle.mp_tree.proofs.Facts.{Contains-head, Throughout-find, Throughout-put, Throughout-without, cases_same, decide_name, find-below, is_name-self}
 use Rattle.mp_pointer.specs.Difference.{DifferOnlyAt, Kind, absent, scalar, names, elements, kind, kind_of, names_of}
-use Rattle.mp_pointer.specs.Laws.{PartsAreDocuments}
 use Rattle.mp_pointer.specs.Part.{child, element_from, numeral, part}
 use Rattle.mp_pointer.specs.Spelling.{BeginsWith, Tokens, spell}
 use Rattle.mp_pointer.proofs.Facts.{child-numeral, child-object}

@@ -1,7 +1,7 @@
 -- A call over texts has an answer.
-use Rattle.std.proofs.Common.{◌≡◌, ◌≢◌, ◌⊎◌, ◌≤◌, ◌+◌, ℕ, suc, List, [], ◌∷◌, Option, None, Some, Result, Ok, Err, take, inl, inr, refl}
+use Rattle.std.proofs.Common.{◌≡◌, ◌⊎◌, ◌≤◌, ◌+◌, ℕ, suc, List, [], ◌∷◌, Option, None, Some, Result, Ok, Err, take, inl, inr, refl}
 use Rattle.std.specs.List.{All}
-use Rattle.mp_tree.specs.Document.{Document, IsDocument, IsReadable, depth_limit}
+use Rattle.mp_tree.specs.Document.{Document, IsReadable, depth_limit}
 use Rattle.mp_tree.specs.Text.{document_in, text as compact}
 use Rattle.mp_tree.specs.declared.fault.ReadFault.{ReadFault}
 use Rattle.mp_tree.proofs.Facts.{document_in-read}
@@ -134,8 +134,8 @@ module _ (laws : ExistenceLaws) where
       let writable = laws.writable_rewriting d p operations (readable document d document_read) fine rewriting in
       let answer = compact (shapes operations) in
       let back : 2 + deepest operations ≤ depth_limit → document_in answer ≡ Ok (shapes operations) = λ within.
-          let can = laws.readable_shapes operations writable within in
-          document_in-read answer (shapes operations) (laws.joins.reads_back (shapes operations) can) can.within in
+      let can = laws.readable_shapes operations writable within in
+      document_in-read answer (shapes operations) (laws.joins.reads_back (shapes operations) can) can.within in
       let is : IsRewriteText document patch answer = record {
         from = d;
         document_read = document_read;

@@ -1,12 +1,12 @@
 -- The tokens of a pointer whose spelling is UTF-8 are UTF-8.
-use Rattle.std.proofs.Common.{◌≡◌, ◌<◌, ◌+◌, ◌==◌, ℕ, zero, suc, Bool, true, false, cond, List, [], ◌∷◌, ◌++◌, length, get_or, take, drop, IsUtf8, refl, sym, ap, ◌∙◌, subst, arith, append_assoc, append-nil}
+use Rattle.std.proofs.Common.{◌≡◌, ◌<◌, ◌+◌, ◌==◌, ℕ, suc, Bool, true, false, cond, List, [], ◌∷◌, ◌++◌, length, get_or, take, drop, IsUtf8, refl, sym, ap, ◌∙◌, subst, arith, append_assoc, append-nil}
 use Rattle.std.proofs.lemmas.Bool.{eqb-true}
 use Rattle.std.proofs.lemmas.List.Elements.{All-cons, All-nil}
 use Rattle.std.proofs.lemmas.Str.{IsUtf8-append, IsUtf8-drop, IsUtf8-take, IsCharBoundary-after_ascii, IsCharBoundary-before_ascii}
 use Rattle.std.specs.List.{All}
 use Rattle.mp_tree.proofs.Facts.{IsUtf8-ascii}
 use Rattle.mp_pointer.specs.Bytes.{slash, tilde}
-use Rattle.mp_pointer.specs.Spelling.{Tokens, escape, escaped_byte, spell}
+use Rattle.mp_pointer.specs.Spelling.{Tokens, escape, spell}
 
 -- ---- a text cut at an ASCII byte
 

@@ -1,5 +1,5 @@
 -- A call over texts in steps: each finds what the next one needs, or fails. The steps that read are here.
-use Rattle.std.proofs.Common.{◌≡◌, ◌≢◌, ℕ, zero, suc, List, [], ◌∷◌, Option, None, Some, Result, Ok, Err, take, slice_get, refl, sym, ap, ap₂, ◌∙◌, subst}
+use Rattle.std.proofs.Common.{◌≡◌, ℕ, zero, suc, List, [], ◌∷◌, None, Some, Result, Ok, Err, take, slice_get, refl, sym, ap, ap₂, ◌∙◌, subst}
 use Rattle.mp_tree.specs.Document.{Document}
 use Rattle.mp_tree.specs.Text.{document_in}
 use Rattle.mp_tree.specs.declared.fault.ReadFault.{ReadFault}

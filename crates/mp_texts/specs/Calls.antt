@@ -20,7 +20,7 @@ pub data Call : Type 0 where
   patch_text : List ℕ → List ℕ → Call
   part_text : List ℕ → List ℕ → Call
 
--- ---- what the contract of the call says of a text, and of a fault
+-- ---- what the contract of the call says of a text, and of an error
 
 abbrev pub MayReturn : Call → List ℕ → Type 0
 MayReturn (join_texts patches) text = IsJoinText patches text
@@ -40,13 +40,13 @@ MayFail (part_text document pointer) fault = IsPartTextFault fault document poin
 
 -- ---- the answer, as its caller sees it
 
--- a text; of a conflict the two numbers and the places, whatever vector has them; or another fault
+-- a text; of a conflict the two numbers and the places, whatever vector has them; or another error
 pub data CallAnswer : Type 0 where
   returned : List ℕ → CallAnswer
   conflicting : ℕ → ℕ → List Tokens → CallAnswer
   failed : TextsFault → CallAnswer
 
--- what is seen of a fault
+-- what is seen of an error
 abbrev pub seen_of : TextsFault → CallAnswer
 seen_of (OfList (ConflictOf first second places)) = conflicting first second places.items
 seen_of fault = failed fault
@@ -62,7 +62,7 @@ MayConflict (replay_texts start patches) first second places =
     IsRead start × HaveConflict patches first second places
 MayConflict call first second places = ⊥
 
--- an answer that the call may give, unless memory runs out
+-- an answer that the call may give, unless memory runs out; a conflict is seen as one, whatever vector has its places
 abbrev pub IsCallAnswer : Call → CallAnswer → Type 0
 IsCallAnswer call (returned text) = MayReturn call text
 IsCallAnswer call (conflicting first second places) = MayConflict call first second places

@@ -56,7 +56,7 @@ abbrev pub ReducesExist : Type 0
 ReducesExist = (texts : List (List ℕ)) (parts : Parts) → ReadTheSame texts (texts_in parts)
     → ((answer : List ℕ) × JoinsThrough parts answer) ↔ AreCompatible texts
 
--- whatever the texts of a tree are, it is joined through exactly if all of them are documents, no two of which clash
+-- whatever the texts of a tree are, it is joined through exactly if all of them are documents, no two of which conflict
 abbrev pub ReducesDecide : Type 0
 ReducesDecide = (parts : Parts) → ((answer : List ℕ) × JoinsThrough parts answer) ↔ AreCompatible (texts_in parts)
 
@@ -92,7 +92,7 @@ abbrev pub CallHasOneAnswer : Type 0
 CallHasOneAnswer = (call : Call) (answer other : CallAnswer)
     → IsCallAnswer call answer → IsCallAnswer call other → answer ≡ other
 
--- and what is seen of a fault that its contract admits is that answer, unless memory ran out; so is a text
+-- what its contract admits shows that answer, unless memory ran out: a text is one by definition, and so is each error
 abbrev pub FaultsShowTheAnswer : Type 0
 FaultsShowTheAnswer = (call : Call) (fault : TextsFault) → MayFail call fault → fault ≢ OutOfMemory
     → IsCallAnswer call (seen_of fault)
