@@ -1,7 +1,7 @@
 -- An export has one reply to its arguments, unless memory runs out.
-use Rattle.std.proofs.Common.{◌≡◌, ◌≢◌, ◌∙◌, ℕ, List, Ok, Err, length, take, refl, sym, ap, subst, arith}
+use Rattle.std.proofs.Common.{◌≡◌, ◌≢◌, ◌≤◌, ◌∙◌, ℕ, List, ◌++◌, Ok, Err, length, take, drop, append-nil, refl, sym, ap, subst, arith}
 use Rattle.std.proofs.lemmas.Str.{utf8_valid_len-IsValidUpTo}
-use Rattle.std.proofs.lemmas.List.{take_all}
+use Rattle.std.proofs.lemmas.List.{drop_all, take-append-le, take_all}
 use Rattle.std.specs.Str.{IsUtf8, IsValidUpTo}
 use Rattle.mp_tree.specs.Text.{document_in}
 use Rattle.mp_tree.specs.Document.{Document}
@@ -12,8 +12,8 @@ use Rattle.mp_texts.specs.Laws.{CallHasOneAnswer, FaultsShowTheAnswer}
 use Rattle.mp_texts.specs.declared.fault.TextsFault.{TextsFault}
 use Rattle.mp_texts.specs.declared.fault.TextsFault.TheVariants.{Document as NoDocument, Patch, List as OfList, Form, Refused, Pointer, Missing, OutOfMemory}
 use Rattle.mp_c.specs.Answered.{Answered, text, fault, not_utf8, IsJoined, IsReplayed, IsMerged, IsRewritten, IsPatched, IsPart, IsPartFault}
-use Rattle.mp_c.specs.Laws.{EachHasOneReply, HasOneReply, ReportTheSame}
-use Rattle.mp_c.specs.Replies.{IsReply}
+use Rattle.mp_c.specs.Laws.{BeginsTheLarger, EachBeginsTheLarger, EachHasOneReply, HasOneReply, ReportTheSame}
+use Rattle.mp_c.specs.Replies.{IsReply, room_after}
 use Rattle.mp_c.specs.Told.{Told, plain, status_no_memory, status_result, told_of, told_of_conflict, told_of_fault}
 use Rattle.mp_c.specs.declared.replying.Reply.{Reply}
 
@@ -87,6 +87,25 @@ replied_once IsAnswer one reply other before after other_before other_after (a, 
     let same = one a b is was (λ none. memory (replied.status ∙ none)) (λ none. other_memory (other_replied.status ∙ none)) in
     same_reply (told_of a) reply other before after other_before other_after replied
     (subst (λ (told : Told). IsReply told other other_before other_after) (sym same) other_replied)
+
+-- ---- a text that is cut
+
+begins : (before other_before written : List ℕ) → length before ≤ length written → length written ≤ length other_before
+    → room_after before written ≡ take (length before) (room_after other_before written)
+begins before other_before written short enough =
+    let n = length before in
+    let rest = drop (length written) other_before in
+    ap (λ (t : List ℕ). take n written ++ t) (drop_all (length written) before short)
+    ∙ append-nil (take n written)
+    ∙ sym (take-append-le n written rest short)
+    ∙ sym (ap (λ (t : List ℕ). take n (t ++ rest)) (take_all (length other_before) written enough))
+
+begins_the_larger : (IsAnswer : Answered → Type 0) → HasOneReply IsAnswer → BeginsTheLarger IsAnswer
+begins_the_larger IsAnswer one reply other before after other_before other_after replied other_replied memory other_memory short enough =
+    let same = one reply other before after other_before other_after replied other_replied memory other_memory in
+    let cut : length before ≤ length same.text = subst (λ (n : ℕ). length before ≤ n) same.whole short in
+    let whole : length same.text ≤ length other_before = subst (λ (n : ℕ). n ≤ length other_before) same.whole enough in
+    same.buffer ∙ begins before other_before same.text cut whole ∙ sym (ap (take (length before)) same.other_buffer)
 
 -- ---- the exports that answer as the call over texts does
 
@@ -167,3 +186,15 @@ module _ (answers : CallHasOneAnswer) (faults : FaultsShowTheAnswer) where
     patch = λ document json_patch. as_over_texts (patch_text document json_patch) (IsPatched document json_patch) (λ t is. is) (λ why is. is) (λ offset is. is);
     get = λ document pointer. replied_once (IsPart document pointer) (one_part document pointer);
   }
+
+  pub each_begins_the_larger : EachBeginsTheLarger
+  each_begins_the_larger =
+      let all = each_has_one_reply in
+      record {
+        join = λ patches. begins_the_larger (IsJoined patches) (all.join patches);
+        replay = λ start patches. begins_the_larger (IsReplayed start patches) (all.replay start patches);
+        merge = λ document patches. begins_the_larger (IsMerged document patches) (all.merge document patches);
+        rewrite = λ document patch. begins_the_larger (IsRewritten document patch) (all.rewrite document patch);
+        patch = λ document json_patch. begins_the_larger (IsPatched document json_patch) (all.patch document json_patch);
+        get = λ document pointer. begins_the_larger (IsPart document pointer) (all.get document pointer);
+      }

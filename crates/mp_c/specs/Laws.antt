@@ -58,6 +58,16 @@ HasOneReply IsAnswer = (reply other : Reply) (before after other_before other_af
 abbrev pub EachHasOneReply : Type 0
 EachHasOneReply = OfEachExport (λ call. HasOneReply)
 
+-- so a buffer in which the text is cut is the beginning of a larger one that has the whole text
+abbrev pub BeginsTheLarger : (Answered → Type 0) → Type 0
+BeginsTheLarger IsAnswer = (reply other : Reply) (before after other_before other_after : List ℕ)
+    → Replies IsAnswer reply before after → Replies IsAnswer other other_before other_after
+    → reply.status ≢ status_no_memory → other.status ≢ status_no_memory
+    → length before ≤ reply.length → reply.length ≤ length other_before → after ≡ take (length before) other_after
+
+abbrev pub EachBeginsTheLarger : Type 0
+EachBeginsTheLarger = OfEachExport (λ call. BeginsTheLarger)
+
 -- ---- a reply exists
 
 -- an export may report this: an answer of its own, or a conflict of the call over texts, whatever vector has its places

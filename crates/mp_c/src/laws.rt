@@ -1,5 +1,5 @@
 //! Laws over replies: each function runs nothing, and its contract is the law.
-ghost use Rattle.mp_c.specs.Laws.{EachHasOneReply, EachHasReport, ReplaysAgreeInTheirRooms};
+ghost use Rattle.mp_c.specs.Laws.{EachBeginsTheLarger, EachHasOneReply, EachHasReport, ReplaysAgreeInTheirRooms};
 ghost use Rattle.mp_c.specs.Private.LawsOfTexts.{LawsOfTexts};
 
 use mp_texts::laws as texts;
@@ -18,7 +18,8 @@ pub fn replays_agree_in_their_rooms()
 /// on what it had before: each has the text's first bytes, as many as fit. So a caller whose buffer was too small may call
 /// again with one of `length` bytes, and has the whole of the text whose beginning it saw.
 pub fn one_reply()
-    ensures { EachHasOneReply }
+    ensures one { EachHasOneReply }
+    ensures again { EachBeginsTheLarger }
 {
     texts::one_answer();
 }

@@ -92,7 +92,7 @@ abbrev pub CallHasOneAnswer : Type 0
 CallHasOneAnswer = (call : Call) (answer other : CallAnswer)
     → IsCallAnswer call answer → IsCallAnswer call other → answer ≡ other
 
--- what its contract admits shows that answer, unless memory ran out: a text is one by definition, and so is each error
+-- a text that its contract admits is that answer by definition; so is what is seen of an error, unless memory ran out
 abbrev pub FaultsShowTheAnswer : Type 0
 FaultsShowTheAnswer = (call : Call) (fault : TextsFault) → MayFail call fault → fault ≢ OutOfMemory
     → IsCallAnswer call (seen_of fault)
