@@ -8,7 +8,7 @@ use Rattle.mp_texts.specs.Answers.{IsJoinText}
 use Rattle.mp_texts.specs.Laws.{ReducesAgree, ReducesDecide, ReducesExist, ReducesGiveTheJoin}
 use Rattle.mp_texts.specs.Private.LawsBelow.{JoinLaws}
 use Rattle.mp_texts.specs.Reduces.{Part, leaf, group, Parts, last, next, texts_at, texts_in, Gives, AllGive, JoinsThrough}
-use Rattle.mp_texts.specs.Texts.{AreRead}
+use Rattle.mp_texts.specs.Texts.{AreCompatible, AreRead}
 use Rattle.mp_texts.proofs.Joins.{carried, compatible_from_join, join_of_read, join_text, join_texts_are_shared, one_join_text}
 use Rattle.mp_texts.proofs.Readings.{AreRead-append, AreRead-cons, AreRead-split, one_reading}
 use Rattle.mp_texts.proofs.Sayings.{SaySame, SaySame-append, SaySame-members, SaySame-trans, join_says, same_compatible, turned}
@@ -152,11 +152,14 @@ module _ (laws : JoinLaws) where
         part_gives (group ps) same.other_documents same.others_read (same_compatible same.documents same.other_documents (SaySame-members same.same) here),
   )
 
+  through_compatible : (ps : Parts) (a : List ℕ) → JoinsThrough ps a → AreCompatible (texts_in ps)
+  through_compatible ps a through =
+      let leaves = all_read ps through.0 through.2.documents through.1 through.2.read in
+      let is = through_join ps a leaves.documents leaves.read through in
+      record { documents = is.documents; read = is.read; compatible = compatible_from_join laws (texts_in ps) a is }
+
   pub reduces_decide : ReducesDecide
   reduces_decide ps = (
-    λ (a, through).
-        let leaves = all_read ps through.0 through.2.documents through.1 through.2.read in
-        let is = through_join ps a leaves.documents leaves.read through in
-        record { documents = is.documents; read = is.read; compatible = compatible_from_join laws (texts_in ps) a is },
+    λ (a, through). through_compatible ps a through,
     λ free. part_gives (group ps) free.documents free.read free.compatible,
   )
