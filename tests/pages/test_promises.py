@@ -1,0 +1,96 @@
+"""Each row of docs/PROMISES.md that says "proved" names its contract and a mutant that the prover refused; each row that says
+"tested" names its test; and what is named is there.
+"""
+
+import pathlib
+import re
+
+import pytest
+
+TOP = pathlib.Path(__file__).resolve().parents[2]
+PAGE = TOP / "docs/PROMISES.md"
+LOG = TOP / "out/gate.log"  # of `rt ci`, which bin/test writes
+FEWEST = 100  # rows
+NOT_WRITTEN = 5  # rows that may say why no mutant can be written
+MUTANTS = {path.stem for path in TOP.glob("crates/*/must-fail/*.edit")}
+QUOTED = re.compile(r"`([^`]+)`")
+TRIED = re.compile(r"^(?:rt: )?must-fail \w+/([\w.-]+)\.edit: (.*)$", re.M)
+
+
+def rows():
+    """Gives the three cells of each row of the tables of promises."""
+    found, inside = [], False
+    for line in PAGE.read_text("utf-8").splitlines():
+        inside = line == "| promise | contract | state |" or inside and line.startswith("|")
+        if inside and not line.startswith(("| promise |", "|---")):
+            found.append(tuple(cell.strip() for cell in line.strip("|").split(" | ")))
+    return found
+
+
+def words_of_sources():
+    """Gives every word of the sources, definitions, checks and tests, and the names of their files."""
+    words = set()
+    for folder in ("crates", "checks", "tests", "bindings"):
+        for path in (TOP / folder).rglob("*"):
+            if {"out", "target", "__pycache__"} & set(path.relative_to(TOP).parts):
+                continue
+            words |= {str(path.relative_to(TOP)), path.name}
+            if path.is_file():
+                words |= set(re.findall(r"[^\W\d]\w*", path.read_text("utf-8", "replace")))
+    return words
+
+
+def unrefused(log, mutants):
+    """Gives those of the mutants that the log of `rt ci` does not say were refused."""
+    tried = dict(TRIED.findall(log))
+    return sorted(name for name in mutants if not tried.get(name, "").startswith("refused"))
+
+
+ROWS = rows()
+WORDS = words_of_sources()
+PROVED = [row for row in ROWS if row[-1].startswith("proved")]
+TESTED = [row for row in ROWS if row[-1].startswith("tested")]
+
+
+def last_words(names):
+    """Gives of each name in backquotes its last word: `laws::one_join` is a function, `Cause::as_str` a method."""
+    return [re.split(r"::|/crates/", name)[-1] for name in names]
+
+
+def test_each_row_has_three_cells_and_a_state():
+    assert len(ROWS) >= FEWEST
+    for row in ROWS:
+        assert len(row) == 3 and row[2].startswith(("proved: ", "tested: ", "neither: ")), row
+
+
+@pytest.mark.parametrize("row", PROVED, ids=lambda row: row[0][:50])
+def test_a_proved_row_names_its_contract_and_a_mutant(row):
+    contracts, mutants = QUOTED.findall(row[1]), QUOTED.findall(row[2])
+    assert contracts or "contract" in row[1], "it names no contract"
+    assert [name for name in last_words(contracts) if name not in WORDS and name != "=="] == [], "a contract that is not there"
+    assert mutants, "it names no mutant"
+    if not row[2].startswith("proved: no mutant"):
+        assert [name for name in mutants if name not in MUTANTS] == [], "a mutant that is not there"
+
+
+def test_few_rows_have_no_mutant():
+    assert sum(row[2].startswith("proved: no mutant") for row in PROVED) <= NOT_WRITTEN
+
+
+@pytest.mark.parametrize("row", TESTED, ids=lambda row: row[0][:50])
+def test_a_tested_row_names_its_test(row):
+    tests = QUOTED.findall(row[2])
+    assert tests, "it names no test"
+    assert [name for name in last_words(tests) if name not in WORDS] == [], "a test that is not there"
+
+
+def test_each_mutant_that_is_named_was_refused():
+    if not LOG.is_file():
+        pytest.skip(f"{LOG.relative_to(TOP)} is not there, which bin/test writes")
+    named = {name for row in PROVED for name in QUOTED.findall(row[2]) if name in MUTANTS}
+    assert unrefused(LOG.read_text("utf-8", "replace"), named) == []
+
+
+def test_what_a_log_does_not_say_was_not_refused():
+    log = "must-fail mp_tree/copies-few.edit: refused, as it should be: ..\nmust-fail mp_c/is-empty.edit: NOT REFUSED\n"
+    assert unrefused(log, {"copies-few", "is-empty", "is-gone"}) == ["is-empty", "is-gone"]
