@@ -14,10 +14,10 @@
  *            on this: unless memory runs out, the same arguments give the same reply and the same text. A room of 0 asks
  *            for the length alone. The room may not overlap what is read.
  *   owns     nothing when it returns. Meanwhile it takes memory by malloc and realloc, and gives it back by free: for each
- *            byte that is read mostly 15 to 50 bytes at the peak and never more than 360, and beside them what the answer
- *            takes. Of n bytes that are read the places of a clash and the edits of a rewriting may have n * n / 15, and a
- *            JSON Patch may double a document with each copy: bound the texts of strangers. Where malloc or realloc
- *            refuses, the status is MERGEJOIN_NO_MEMORY.
+ *            byte that is read mostly 10 to 100 bytes at the peak (most for many small patches) and never more than 360,
+ *            and in addition what the answer takes. Of n bytes that are read the places of a clash and the edits of a
+ *            rewriting may have n * n / 15, and a JSON Patch may double a document with each copy: bound the texts of
+ *            strangers. Where malloc or realloc refuses, the status is MERGEJOIN_NO_MEMORY.
  *   needs    256 KiB of stack: the deepest documents take up to 176 KiB of them.
  *
  * No pointer may be null, also where its length, count or room is 0. No length is more than PTRDIFF_MAX. No function may be
