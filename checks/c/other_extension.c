@@ -1,0 +1,43 @@
+// Another extension for PostgreSQL, whose functions have the names of ours and answer nonsense: checks/postgresql loads it before
+// ours and after, and wants our answers. LOAD finds it by what PG_MODULE_MAGIC says.
+#include "postgres.h"
+
+#include "fmgr.h"
+#include "utils/builtins.h"
+
+PG_MODULE_MAGIC;
+
+// Each takes whatever it is given, and says that it was called.
+#define ANSWERS_NONSENSE(name) \
+  extern Datum name(void);     \
+  Datum name(void) {           \
+    elog(WARNING, "the other extension answers in the place of " #name); \
+    return CStringGetTextDatum("\"nonsense\""); \
+  }
+
+ANSWERS_NONSENSE(answer_of)
+ANSWERS_NONSENSE(combine)
+ANSWERS_NONSENSE(deserialize)
+ANSWERS_NONSENSE(first_clash)
+ANSWERS_NONSENSE(joined_json)
+ANSWERS_NONSENSE(joined_jsonb)
+ANSWERS_NONSENSE(joined_or_null_json)
+ANSWERS_NONSENSE(joined_or_null_jsonb)
+ANSWERS_NONSENSE(lent)
+ANSWERS_NONSENSE(mergejoin_get)
+ANSWERS_NONSENSE(mergejoin_join)
+ANSWERS_NONSENSE(mergejoin_merge)
+ANSWERS_NONSENSE(mergejoin_patch)
+ANSWERS_NONSENSE(mergejoin_replay)
+ANSWERS_NONSENSE(mergejoin_rewrite)
+ANSWERS_NONSENSE(refuse)
+ANSWERS_NONSENSE(result_of)
+ANSWERS_NONSENSE(serialize)
+ANSWERS_NONSENSE(sql_get)
+ANSWERS_NONSENSE(sql_join)
+ANSWERS_NONSENSE(sql_merge)
+ANSWERS_NONSENSE(sql_patch)
+ANSWERS_NONSENSE(sql_replay)
+ANSWERS_NONSENSE(sql_rewrite)
+ANSWERS_NONSENSE(take_json)
+ANSWERS_NONSENSE(take_jsonb)
