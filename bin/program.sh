@@ -3,41 +3,93 @@
 
 top=$(CDPATH='' cd -- "${BASH_SOURCE[0]%/*}/.." && pwd -P) || exit # of the repository
 program=$top/out/mergejoin         # the proved program that bin/mergejoin runs
-built_from=$top/out/mergejoin.sum  # the checksum of the sources that it was built from
+built_from=$top/out/mergejoin.sum  # the checksums of the sources that it was built from, and of its own bytes
 built_by=$top/out/mergejoin.kit    # the toolchain that proved and built it
-unchanged=$top/out/mergejoin.list  # their names, times and sizes when they were seen to have it
+unchanged=$top/out/mergejoin.list  # the names, times and sizes of all these when they were seen to have those checksums
+facts='%p %T@ %C@ %s\n'            # of a file. A program can set the time of a file's text, but not that of its last change (%C@)
+kinds=(-name '*.rt' -o -name '*.antt' -o -name crates.txt)
 
-# Runs find, with these last words, over the sources, specs and proofs of every crate, and crates.txt.
-sources() (
-  CDPATH='' cd -- "$top" || exit
-  find crates.txt crates -name out -prune -o \
-    -type f \( -name '*.rt' -o -name '*.antt' -o -name crates.txt \) "$@"
+# Standard error may be closed.
+say() { printf 'mergejoin: %s\n' "$1" >&2 || true; }
+
+# One checksum over the sources, specs and proofs of every crate, and crates.txt, in a directory: the repository, or a copy.
+sources_sum() (
+  CDPATH='' cd -- "$1" || exit
+  find crates.txt crates -name out -prune -o -type f \( "${kinds[@]}" \) -print0 | LC_ALL=C sort -z | xargs -0 sha256sum | sum_of
 )
 
-# One checksum over them.
-sources_sum() { sources -print0 | LC_ALL=C sort -z | (CDPATH='' cd -- "$top" && xargs -0 sha256sum) | sha256sum; }
-
-# Their names, times and sizes: where these are as they were, nothing was changed, and no file is read. A program can set
-# the time of a file's text, but not the time of its last change (%C@).
-sources_list() { sources -printf '%p %T@ %C@ %s\n'; }
-
-# Whether the program is there, and was built from the sources as they are.
-is_built() {
-  [[ -x $program && -r $built_from ]] || return
-  local list
-  list=$(sources_list)
-  if [[ -r $unchanged && $(<"$unchanged") == "$list" ]]; then return; fi
-  [[ $(<"$built_from") == "$(sources_sum)" ]] || return
-  # A folder that can't be written to is no fault here.
-  { printf '%s\n' "$list" >"$unchanged.new" && mv -f -- "$unchanged.new" "$unchanged"; } 2>/dev/null || true
+# The checksum of standard input.
+sum_of() {
+  local sum
+  sum=$(sha256sum)
+  printf '%s\n' "${sum%% *}"
 }
 
-# Keeps the program that rt has just proved and linked, with its sources' checksum.
+# The names, times and sizes of the sources and of the program: if these are as they were, nothing was changed, and no file is
+# read.
+built_list() (
+  CDPATH='' cd -- "$top" || exit
+  find crates.txt crates out/mergejoin -name out -prune -o -type f \( "${kinds[@]}" -o -path out/mergejoin \) -printf "$facts"
+)
+
+# Those of the sources and of all directories in which they are: they show whether something was changed or moved meanwhile, also
+# if it was put back. The directories of the crates themselves are left out, since rt makes and moves out/ there.
+sources_state() (
+  CDPATH='' cd -- "$top" || exit
+  find crates.txt crates -name out -prune -o \( -type f \( "${kinds[@]}" \) -o -path crates -o -type d -path 'crates/*/*' \) \
+    -printf "%i $facts"
+)
+
+# Writes the checksums of the sources, which are given, and of what was built of them.
+write_sums() { printf '%s  sources\n%s  %s\n' "$1" "$(sum_of <"$2")" "${2##*/}"; }
+
+# The checksum of what was built, of such a file.
+built_sum() {
+  local sum
+  { read -r _ && read -r sum _; } <"$1" && printf '%s\n' "$sum"
+}
+
+# The text of a file of the sources' checksum, which is given, and that of the libraries that stand in the crates: each has a file
+# of the checksums of its others.
+gate_sums() (
+  CDPATH='' cd -- "$top" || exit
+  printf '%s  sources\n' "$1"
+  printf '%s  libraries\n' "$(find crates -path 'crates/*/out/rlib/*.rlib/format' -print0 | LC_ALL=C sort -z | xargs -0r sha256sum | sum_of)"
+)
+
+# Whether such a file has the checksum of the sources as they are, and that of what was built.
+has_sums() {
+  local from built
+  { read -r from _ && read -r built _; } <"$1" || return
+  [[ $from == "$(sources_sum "$top")" ]] || return
+  [[ $built == "$(sum_of <"$2")" ]] || {
+    say "$2 is not what was built there, and is not used: its checksum differs"
+    return 1
+  }
+}
+
+# Whether the program is there as it was built, and of the sources as they are.
+is_built() {
+  [[ -x $program && ! -L $program && -r $built_from ]] || return
+  local list
+  list=$(built_list)
+  if [[ -r $unchanged && $(<"$unchanged") == "$list" ]]; then return; fi
+  has_sums "$built_from" "$program" || return
+  # A folder that can't be written to is no fault here.
+  { printf '%s\n' "$list" >"$unchanged.$BASHPID" && mv -f -- "$unchanged.$BASHPID" "$unchanged"; } 2>/dev/null || true
+}
+
+# Keeps the program that rt has just proved and linked in a directory, with the given checksum of its sources and its own. All is
+# made whole in a directory apart, and the checksums come last.
 keep_program() {
-  mkdir -p -- "$top/out"
+  local made
+  made=$(mktemp -d -- "$top/out/keep.XXXXXX")
+  cp -- "$2/crates/mergejoin/out/mergejoin" "$made/mergejoin"
+  rt version >"$made/kit"
+  write_sums "$1" "$made/mergejoin" >"$made/sum"
   rm -f -- "$built_from" "$unchanged"
-  cp -- "$top/crates/mergejoin/out/mergejoin" "$program.new"
-  mv -f -- "$program.new" "$program"
-  rt version >"$built_by"
-  printf '%s\n' "$1" >"$built_from"
+  mv -fT -- "$made/mergejoin" "$program"
+  mv -fT -- "$made/kit" "$built_by"
+  mv -fT -- "$made/sum" "$built_from"
+  rmdir -- "$made"
 }

@@ -5,9 +5,6 @@
 
 LONGEST=1048576 # bytes of the input: what is beyond one more changes no answer
 
-# Standard error may be closed.
-say() { printf 'mergejoin: %s\n' "$1" >&2 || true; }
-
 # Ends with the program's own status.
 end() { trap - EXIT; rm -rf -- "$folder"; exit "$1"; }
 

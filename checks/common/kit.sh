@@ -1,17 +1,30 @@
 #!/usr/bin/env bash
 # A toolchain that proves nothing, for the checks of the scripts: what it builds and what it tries print their words and
-# what they read. It fails at mp_patch where FAILS is set, and at a try where REFUSES is; where SLOW names a file it makes
-# it and waits, until it is told to stop, and then takes the file away. Its gate says what is in GATE, and ends with ENDS.
+# what they read. A program with a stamp beside it is taken as built. It fails at mp_patch where FAILS is set, and at a try
+# where REFUSES is; where SLOW names a file it makes it and waits, until it is told to stop, and then takes the file away. If
+# EDITS names a source of mp_tree, that is edited just before mp_tree is proved, and put back at the end unless STAYS is set;
+# what is built says which text was read. Its gate says what is in GATE, and ends with ENDS; if TOUCHES names a file or a
+# directory, it changes or moves that, and puts it back.
 case $1 in
 version) echo 'a kit for checks' ;;
 lib)
   if [[ -n ${FAILS-} && $PWD == */mp_patch ]]; then echo 'not proved' && exit 1; fi
   echo "${PWD##*/}" >>"$LOG"
+  if [[ -n ${EDITS-} && $PWD == */mp_tree ]]; then
+    printf '//! Two.\n' >"$EDITS"
+    mkdir -p out && cp src/lib.rt out/read
+  fi
   ;;
 run)
   echo "${PWD##*/}" >>"$LOG"
+  if [[ -e out/mergejoin.stamp ]]; then exit 0; fi
+  of=
+  if [[ -n ${EDITS-} ]]; then
+    of=" of $(<../mp_tree/out/read)"
+    [[ -n ${STAYS-} ]] || printf '//! One.\n' >"$EDITS"
+  fi
   # shellcheck disable=SC2016
-  mkdir -p out && printf '%s\n' '#!/usr/bin/env bash' 'echo "proved $*"' >out/mergejoin && chmod +x out/mergejoin
+  mkdir -p out && printf '%s\n' '#!/usr/bin/env bash' 'echo "proved $*'"$of\"" >out/mergejoin && chmod +x out/mergejoin
   ;;
 try)
   while [[ $1 != -- ]]; do shift; done
@@ -36,6 +49,11 @@ try)
   exit "$status"
   ;;
 ci)
+  if [[ -d ${TOUCHES-} ]]; then
+    mv "$TOUCHES" "$TOUCHES.away" && cp -rp "$TOUCHES.away" "$TOUCHES" && rm -r "$TOUCHES" && mv "$TOUCHES.away" "$TOUCHES"
+  elif [[ -n ${TOUCHES-} ]]; then
+    was=$(mktemp) && cp -p "$TOUCHES" "$was" && echo '# more' >>"$TOUCHES" && cp -p "$was" "$TOUCHES" && rm "$was"
+  fi
   mkdir -p crates/mergejoin/out && printf '%s\n' '#!/usr/bin/env bash' 'echo proved' >crates/mergejoin/out/mergejoin
   chmod +x crates/mergejoin/out/mergejoin
   printf '%b\n' "proving ..\n${GATE-3 passed, 0 failed}"
