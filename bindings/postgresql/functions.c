@@ -11,13 +11,13 @@
 
 PG_MODULE_MAGIC;
 
-PG_FUNCTION_INFO_V1(sql_join);
-PG_FUNCTION_INFO_V1(sql_replay);
-PG_FUNCTION_INFO_V1(sql_merge);
-PG_FUNCTION_INFO_V1(sql_rewrite);
-PG_FUNCTION_INFO_V1(sql_patch);
-PG_FUNCTION_INFO_V1(sql_get);
-PG_FUNCTION_INFO_V1(first_clash);
+PG_FUNCTION_INFO_V1(mergejoin_sql_join);
+PG_FUNCTION_INFO_V1(mergejoin_sql_replay);
+PG_FUNCTION_INFO_V1(mergejoin_sql_merge);
+PG_FUNCTION_INFO_V1(mergejoin_sql_rewrite);
+PG_FUNCTION_INFO_V1(mergejoin_sql_patch);
+PG_FUNCTION_INFO_V1(mergejoin_sql_get);
+PG_FUNCTION_INFO_V1(mergejoin_first_clash);
 
 /*
  * Lends the elements of an array of json, which is the caller's, to a request, whose list of them is made in the current
@@ -60,25 +60,25 @@ static Datum of_two(FunctionCallInfo fcinfo, Export export) {
   PG_RETURN_TEXT_P(answer.value);
 }
 
-Datum sql_join(PG_FUNCTION_ARGS) {
+Datum mergejoin_sql_join(PG_FUNCTION_ARGS) {
   Request request = {EXPORT_JOIN};
 
   lend_elements(&request, PG_GETARG_ARRAYTYPE_P(0), false);
   PG_RETURN_TEXT_P(result_of(&request));
 }
 
-Datum sql_replay(PG_FUNCTION_ARGS) { return of_patches(fcinfo, EXPORT_REPLAY); }
+Datum mergejoin_sql_replay(PG_FUNCTION_ARGS) { return of_patches(fcinfo, EXPORT_REPLAY); }
 
-Datum sql_merge(PG_FUNCTION_ARGS) { return of_patches(fcinfo, EXPORT_MERGE); }
+Datum mergejoin_sql_merge(PG_FUNCTION_ARGS) { return of_patches(fcinfo, EXPORT_MERGE); }
 
-Datum sql_rewrite(PG_FUNCTION_ARGS) { return of_two(fcinfo, EXPORT_REWRITE); }
+Datum mergejoin_sql_rewrite(PG_FUNCTION_ARGS) { return of_two(fcinfo, EXPORT_REWRITE); }
 
-Datum sql_patch(PG_FUNCTION_ARGS) { return of_two(fcinfo, EXPORT_PATCH); }
+Datum mergejoin_sql_patch(PG_FUNCTION_ARGS) { return of_two(fcinfo, EXPORT_PATCH); }
 
-Datum sql_get(PG_FUNCTION_ARGS) { return of_two(fcinfo, EXPORT_GET); }
+Datum mergejoin_sql_get(PG_FUNCTION_ARGS) { return of_two(fcinfo, EXPORT_GET); }
 
 /* Ends mergejoin_clash_agg: gives the first two of an array of patches that clash, and where, or NULL where none do. */
-Datum first_clash(PG_FUNCTION_ARGS) {
+Datum mergejoin_first_clash(PG_FUNCTION_ARGS) {
   Request request = {EXPORT_JOIN};
   Answer answer;
   StringInfoData told;

@@ -32,15 +32,15 @@ typedef struct Patches {
   bool is_clash;
 } Patches;
 
-PG_FUNCTION_INFO_V1(take_json);
-PG_FUNCTION_INFO_V1(take_jsonb);
-PG_FUNCTION_INFO_V1(combine);
-PG_FUNCTION_INFO_V1(serialize);
-PG_FUNCTION_INFO_V1(deserialize);
-PG_FUNCTION_INFO_V1(joined_json);
-PG_FUNCTION_INFO_V1(joined_jsonb);
-PG_FUNCTION_INFO_V1(joined_or_null_json);
-PG_FUNCTION_INFO_V1(joined_or_null_jsonb);
+PG_FUNCTION_INFO_V1(mergejoin_take_json);
+PG_FUNCTION_INFO_V1(mergejoin_take_jsonb);
+PG_FUNCTION_INFO_V1(mergejoin_combine);
+PG_FUNCTION_INFO_V1(mergejoin_serialize);
+PG_FUNCTION_INFO_V1(mergejoin_deserialize);
+PG_FUNCTION_INFO_V1(mergejoin_joined_json);
+PG_FUNCTION_INFO_V1(mergejoin_joined_jsonb);
+PG_FUNCTION_INFO_V1(mergejoin_joined_or_null_json);
+PG_FUNCTION_INFO_V1(mergejoin_joined_or_null_jsonb);
 
 /* Gives a Patches of no text, which the memory context owns. */
 static Patches *new_patches(MemoryContext context) {
@@ -151,14 +151,14 @@ static Datum passed_over(FunctionCallInfo fcinfo) {
   return PG_GETARG_DATUM(0);
 }
 
-Datum take_json(PG_FUNCTION_ARGS) {
+Datum mergejoin_take_json(PG_FUNCTION_ARGS) {
   MemoryContext context = context_of(fcinfo);
 
   if (PG_ARGISNULL(1)) return passed_over(fcinfo);
   return taken(fcinfo, context, lent(PG_GETARG_TEXT_PP(1)));
 }
 
-Datum take_jsonb(PG_FUNCTION_ARGS) {
+Datum mergejoin_take_jsonb(PG_FUNCTION_ARGS) {
   MemoryContext context = context_of(fcinfo);
   StringInfoData written;
   mergejoin_text text;
@@ -172,7 +172,7 @@ Datum take_jsonb(PG_FUNCTION_ARGS) {
 }
 
 /* Takes all that another state was given, which stays as it is. */
-Datum combine(PG_FUNCTION_ARGS) {
+Datum mergejoin_combine(PG_FUNCTION_ARGS) {
   MemoryContext context = context_of(fcinfo);
   Patches *patches = patches_of(fcinfo, 0), *other = patches_of(fcinfo, 1);
   size_t offset = 0;
@@ -190,7 +190,7 @@ Datum combine(PG_FUNCTION_ARGS) {
 }
 
 /* Gives a state as bytes: the join of its texts, or that two clash. */
-Datum serialize(PG_FUNCTION_ARGS) {
+Datum mergejoin_serialize(PG_FUNCTION_ARGS) {
   Patches *patches = patches_of(fcinfo, 0);
 
   context_of(fcinfo);
@@ -199,7 +199,7 @@ Datum serialize(PG_FUNCTION_ARGS) {
 }
 
 /* Gives the state of bytes. */
-Datum deserialize(PG_FUNCTION_ARGS) {
+Datum mergejoin_deserialize(PG_FUNCTION_ARGS) {
   bytea *written = PG_GETARG_BYTEA_P(0);
   Patches *patches;
 
@@ -237,15 +237,15 @@ static Datum as_jsonb(FunctionCallInfo fcinfo, const text *joined) {
   return DirectFunctionCall1(jsonb_in, CStringGetDatum(text_to_cstring(joined)));
 }
 
-Datum joined_json(PG_FUNCTION_ARGS) { PG_RETURN_TEXT_P(wanted_of(fcinfo)); }
+Datum mergejoin_joined_json(PG_FUNCTION_ARGS) { PG_RETURN_TEXT_P(wanted_of(fcinfo)); }
 
-Datum joined_jsonb(PG_FUNCTION_ARGS) { return as_jsonb(fcinfo, wanted_of(fcinfo)); }
+Datum mergejoin_joined_jsonb(PG_FUNCTION_ARGS) { return as_jsonb(fcinfo, wanted_of(fcinfo)); }
 
-Datum joined_or_null_json(PG_FUNCTION_ARGS) {
+Datum mergejoin_joined_or_null_json(PG_FUNCTION_ARGS) {
   text *joined = joined_of(fcinfo);
 
   if (!joined) PG_RETURN_NULL();
   PG_RETURN_TEXT_P(joined);
 }
 
-Datum joined_or_null_jsonb(PG_FUNCTION_ARGS) { return as_jsonb(fcinfo, joined_of(fcinfo)); }
+Datum mergejoin_joined_or_null_jsonb(PG_FUNCTION_ARGS) { return as_jsonb(fcinfo, joined_of(fcinfo)); }
