@@ -8,7 +8,7 @@ ghost use Rattle.mp_patch.specs.View.{operations_of};
 use crate::fault::FormFault;
 use crate::making::docs_of;
 use crate::op::Op;
-use crate::reading::{read_ops, read_owned_ops};
+use crate::reading::read_ops;
 use mp_tree::Doc;
 use std::alloc::{AllocError, Global};
 use std::marker::Model;
@@ -74,6 +74,7 @@ impl JsonPatch {
 
     /// The patch that the document is a form of (RFC 6902 section 3): an array of objects, one for each operation, with
     /// the members `op`, `path` and, where the operation needs it, `value` or `from`. Further members are ignored.
+    /// The document is copied once: `from_doc_owned` copies nothing.
     ///
     /// `NotAnArray` where the document is no array; `Form` with the first element that is no operation, counted from
     /// 0, and its first cause; `OutOfMemory` may come at any point.
@@ -86,10 +87,7 @@ impl JsonPatch {
         ensures { MatchResult result (λ p. AreForms (document doc.now) (operations_of p))
             (λ fault. IsFormFault fault (document doc.now)) }
     {
-        match doc {
-            Doc::Items(elements) => read_ops(elements.as_slice(), alloc),
-            _ => Err(FormFault::NotAnArray),
-        }
+        JsonPatch::from_doc_owned(alloc, doc.copy(alloc)?)
     }
 
     /// As `from_doc`, of a document that is owned: the values are moved out of it and not copied.
@@ -100,7 +98,7 @@ impl JsonPatch {
         let Doc::Items(elements) = doc else {
             return Err(FormFault::NotAnArray);
         };
-        read_owned_ops(elements, alloc)
+        read_ops(elements, alloc)
     }
 
     /// The array of objects with exactly the members that the operations need (RFC 6902 sections 3 and 4).

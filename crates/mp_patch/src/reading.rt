@@ -34,28 +34,14 @@ enum Draft {
     Test(Pointer),
 }
 
-pub(crate) fn read_ops(elements: &[Doc], alloc: Global) -> Result<JsonPatch, FormFault>
-    ensures { MatchResult result (λ p. EachForm (items elements.now) (operations_of p))
-        (λ fault. IsFormFault fault (list (items elements.now))) }
-{
-    let mut patch = JsonPatch::new(alloc);
-    for (number, element) in elements.iter().enumerate() {
-        match read_op(element, alloc) {
-            Ok(op) => patch.push(op)?,
-            Err(refusal) => return Err(refusal.of_element(number)),
-        }
-    }
-    Ok(patch)
-}
-
-// The same of an array that is owned: the values are moved out of it.
-pub(crate) fn read_owned_ops(elements: Vec<Doc>, alloc: Global) -> Result<JsonPatch, FormFault>
+// The values are moved out of the array.
+pub(crate) fn read_ops(elements: Vec<Doc>, alloc: Global) -> Result<JsonPatch, FormFault>
     ensures { MatchResult result (λ p. EachForm (items elements.items) (operations_of p))
         (λ fault. IsFormFault fault (list (items elements.items))) }
 {
     let mut patch = JsonPatch::new(alloc);
     for element in elements {
-        match read_owned_op(element, alloc) {
+        match read_op(element, alloc) {
             Ok(op) => patch.push(op)?,
             Err(refusal) => return Err(refusal.of_element(patch.ops().len())),
         }
@@ -63,9 +49,9 @@ pub(crate) fn read_owned_ops(elements: Vec<Doc>, alloc: Global) -> Result<JsonPa
     Ok(patch)
 }
 
-fn read_op(element: &Doc, alloc: Global) -> Result<Op, Refusal<FormCause>>
-    ensures { MatchResult result (λ op. IsForm (document element.now) (operation_of op))
-        (λ fault. IsElementFault fault (document element.now)) }
+fn read_op(element: Doc, alloc: Global) -> Result<Op, Refusal<FormCause>>
+    ensures { MatchResult result (λ op. IsForm (document element) (operation_of op))
+        (λ fault. IsElementFault fault (document element)) }
 {
     match element {
         Doc::Members(entries) => read_members(entries, alloc),
@@ -73,42 +59,16 @@ fn read_op(element: &Doc, alloc: Global) -> Result<Op, Refusal<FormCause>>
     }
 }
 
-fn read_members(entries: &BTreeMap<String, Doc>, alloc: Global) -> Result<Op, Refusal<FormCause>>
-    ensures { MatchResult result
-        (λ op. Carries (members entries.now.entries) (needed_members (operation_of op)))
-        (λ fault. IsMapFault fault (object (members entries.now.entries))) }
-{
-    match read_draft(entries, alloc)? {
-        Draft::Whole(op) => Ok(op),
-        Draft::Add(path) => Ok(Op::Add(path, value_in(entries, alloc)?)),
-        Draft::Replace(path) => Ok(Op::Replace(path, value_in(entries, alloc)?)),
-        Draft::Test(path) => Ok(Op::Test(path, value_in(entries, alloc)?)),
-    }
-}
-
-fn read_owned_op(element: Doc, alloc: Global) -> Result<Op, Refusal<FormCause>>
-    ensures { MatchResult result (λ op. IsForm (document element) (operation_of op))
-        (λ fault. IsElementFault fault (document element)) }
-{
-    match element {
-        Doc::Members(entries) => read_owned_members(entries, alloc),
-        _ => Err(Refusal::By(FormCause::NotAnObject)),
-    }
-}
-
-fn read_owned_members(
-    entries: BTreeMap<String, Doc>,
-    alloc: Global,
-) -> Result<Op, Refusal<FormCause>>
+fn read_members(entries: BTreeMap<String, Doc>, alloc: Global) -> Result<Op, Refusal<FormCause>>
     ensures { MatchResult result
         (λ op. Carries (members entries.entries) (needed_members (operation_of op)))
         (λ fault. IsMapFault fault (object (members entries.entries))) }
 {
     match read_draft(&entries, alloc)? {
         Draft::Whole(op) => Ok(op),
-        Draft::Add(path) => Ok(Op::Add(path, value_out(entries)?)),
-        Draft::Replace(path) => Ok(Op::Replace(path, value_out(entries)?)),
-        Draft::Test(path) => Ok(Op::Test(path, value_out(entries)?)),
+        Draft::Add(path) => Ok(Op::Add(path, value_of(entries)?)),
+        Draft::Replace(path) => Ok(Op::Replace(path, value_of(entries)?)),
+        Draft::Test(path) => Ok(Op::Test(path, value_of(entries)?)),
     }
 }
 
@@ -175,19 +135,7 @@ fn pointer_of(spelling: &str, alloc: Global) -> Result<Pointer, Refusal<FormCaus
     }
 }
 
-fn value_in(entries: &BTreeMap<String, Doc>, alloc: Global) -> Result<Doc, Refusal<FormCause>>
-    ensures { MatchResult result
-        (λ v. find (codes "value") (members entries.now.entries) ≡ Some (document v))
-        (λ fault. IsValueFault fault (object (members entries.now.entries))) }
-{
-    match entries.get("value") {
-        Some(value) => Ok(value.copy(alloc)?),
-        None => Err(Refusal::By(FormCause::NoValue)),
-    }
-}
-
-// The same, moved out of an object that is owned.
-fn value_out(mut entries: BTreeMap<String, Doc>) -> Result<Doc, Refusal<FormCause>>
+fn value_of(mut entries: BTreeMap<String, Doc>) -> Result<Doc, Refusal<FormCause>>
     ensures { MatchResult result
         (λ v. find (codes "value") (members entries.entries) ≡ Some (document v))
         (λ fault. IsValueFault fault (object (members entries.entries))) }

@@ -1,6 +1,6 @@
 -- Reading operations from documents that are forms of them, element by element.
-use Rattle.std.proofs.Common.{◌≡◌, ◌≢◌, ◌<◌, ◌+◌, ◌⊎◌, inl, inr, ◌∷◌, ◌++◌, ℕ, List, [], length, get_or, take, drop, None, Some, option_and_then, suc, append_assoc, append-nil, Result, Ok, Err, MatchResult, refl, sym, ap, ◌∙◌, subst, arith, codes}
-use Rattle.std.proofs.lemmas.List.{take_more, take-append-drop, drop_more, length-take-le, map-append}
+use Rattle.std.proofs.Common.{◌≡◌, ◌≢◌, ◌⊎◌, inl, inr, ◌∷◌, ◌++◌, ℕ, List, [], length, None, Some, option_and_then, suc, append_assoc, append-nil, Result, Ok, Err, MatchResult, refl, sym, ap, ◌∙◌, subst, arith, codes}
+use Rattle.std.proofs.lemmas.List.{map-append}
 use Rattle.mp_tree.specs.Document.{Document, object, list, Members}
 use Rattle.mp_tree.specs.View.{document, items}
 use Rattle.mp_tree.specs.declared.doc.Doc.{Doc}
@@ -87,29 +87,6 @@ EachForm-more [] [] d o forms form = (form, tt)
 EachForm-more [] (p ∷ operations) d o forms form = absurd forms
 EachForm-more (x ∷ docs) [] d o forms form = absurd forms
 EachForm-more (x ∷ docs) (p ∷ operations) d o forms form = (forms.0, EachForm-more docs operations d o forms.1 form)
-
-pub form_pushed : (docs : List Doc) (old new : List Op) (k : ℕ) (d : Doc) (op : Op) → k < length docs → d ≡ get_or docs k d → EachForm (items (take k docs)) (operations_of old) → IsForm (document d) (operation_of op) → new ≡ old ++ op ∷ []
-    → EachForm (items (take (k + 1) docs)) (operations_of new)
-form_pushed docs old new k d op less here forms form pushed =
-    let longer : take (k + 1) docs ≡ take k docs ++ d ∷ [] = take_more docs k d less ∙ ap (λ x. take k docs ++ x ∷ []) (sym here) in
-    let grown : operations_of new ≡ operations_of old ++ operation_of op ∷ [] = ap operations_of pushed ∙ map-append operation_of old (op ∷ []) in
-    subst (λ xs. EachForm (items xs) (operations_of new)) (sym longer) (subst (λ os. EachForm (items (take k docs ++ d ∷ [])) os) (sym grown) (EachForm-more (take k docs) (operations_of old) d (operation_of op) forms form))
-
-pub fault_there : (fault : Refusal FormCause) (docs : List Doc) (old : List Op) (k : ℕ) (d : Doc) → k < length docs → d ≡ get_or docs k d → EachForm (items (take k docs)) (operations_of old) → IsElementFault fault (document d)
-    → IsFormFault (fault_of_element k fault) (list (items docs))
-fault_there OutOfMemory docs old k d less here forms faulty = tt
-fault_there (By cause) docs old k d less here forms faulty =
-    let split : docs ≡ take k docs ++ d ∷ drop (k + 1) docs = sym (take-append-drop k docs) ∙ ap (λ r. take k docs ++ r) (drop_more docs k d less ∙ ap (λ x. x ∷ drop (k + 1) docs) (sym here)) in
-    record {
-      front = items (take k docs);
-      element = document d;
-      back = items (drop (k + 1) docs);
-      is = ap list (ap items split ∙ items-append (take k docs) (d ∷ drop (k + 1) docs));
-      numbered = sym (count_of-items (take k docs) ∙ length-take-le k docs (omega arith));
-      operations = operations_of old;
-      forms = forms;
-      faulty = faulty;
-    }
 
 -- ---- reading a list that is taken apart
 

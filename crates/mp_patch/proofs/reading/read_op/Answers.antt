@@ -8,4 +8,4 @@ use Rattle.mp_patch.proofs.reading.read_op.Goals as goal
 pub returns-in-Members : goal.returns-in-Members
 returns-in-Members c =
     let entries = c.in-Members.entries in
-    form_of_map c.read_members.result (members entries.entries) (document c.args.element.now) (ap document c.in-Members.is ∙ document-Members entries) c.read_members.ensures
+    form_of_map c.read_members.result (members entries.entries) (document c.args.element) (ap document c.in-Members.is ∙ document-Members entries) c.read_members.ensures

@@ -1,9 +1,10 @@
-use Rattle.std.proofs.Common.{take}
-use Rattle.mp_tree.specs.View.{items}
-use Rattle.mp_patch.specs.Form.{EachForm}
-use Rattle.mp_patch.specs.View.{operations_of}
+use Rattle.std.specs.Vec.Iter.{into_iter_items}
+use Rattle.mp_patch.proofs.Forms.Reading.{AreReadTo}
 use Rattle.mp_patch.proofs.reading.read_ops.Given as goal
 
--- the elements so far are forms of the operations so far
-abbrev pub invariant-loop-number : goal.invariant-loop-number
-invariant-loop-number l = EachForm (items (take l.number l.fn.elements)) (operations_of l.patch)
+abbrev pub invariant-loop-element : goal.invariant-loop-element
+invariant-loop-element l = record {
+  read : AreReadTo l.fn.elements.items (into_iter_items l.element-iterator) l.patch;
+  can_next : (goal.iterator-loop-element).can_next l.element-iterator;
+  is_finite : (goal.iterator-loop-element).is_finite l.element-iterator;
+}

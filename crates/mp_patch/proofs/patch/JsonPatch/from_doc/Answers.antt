@@ -1,6 +1,8 @@
-use Rattle.std.proofs.Common.{arith}
-use Rattle.mp_tree.specs.declared.doc.Doc.{the_lemmas}
+use Rattle.std.proofs.Common.{subst, MatchResult}
+use Rattle.mp_patch.specs.Form.{AreForms, IsFormFault}
+use Rattle.mp_patch.specs.View.{operations_of}
 use Rattle.mp_patch.proofs.patch.JsonPatch.from_doc.Goals as goal
 
-pub returns-in_default : goal.returns-in_default
-returns-in_default c = grind (arith, the_lemmas)
+pub returns : goal.returns
+returns c =
+    subst (λ d. MatchResult c.from_doc_owned.result (λ p. AreForms d (operations_of p)) (λ fault. IsFormFault fault d)) c.in_ok-copy.ensures.equal c.from_doc_owned.ensures

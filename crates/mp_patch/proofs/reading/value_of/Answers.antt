@@ -1,7 +1,7 @@
 use Rattle.std.proofs.Common.{option_map, codes, ap, sym, ◌∙◌}
 use Rattle.mp_tree.specs.View.{document}
 use Rattle.mp_tree.proofs.Facts.{find-members}
-use Rattle.mp_patch.proofs.reading.value_out.Goals as goal
+use Rattle.mp_patch.proofs.reading.value_of.Goals as goal
 
 pub returns : goal.returns
 returns c = find-members (codes "value") c.args.entries.entries ∙ ap (option_map document) (sym c.in-Some.ensures.value)
