@@ -1,4 +1,5 @@
 -- Single operations: what they make of a document, and when they are refused.
+pub mod Alike
 pub mod Bounds
 pub mod Depth
 pub mod Documents

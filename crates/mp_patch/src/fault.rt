@@ -46,7 +46,13 @@ impl Cause {
 pub enum ApplyFault {
     /// The first operation that is refused, counted from 0.
     #[error("operation {op}: {cause}")]
-    Refused { op: usize, cause: Cause },
+    Refused {
+        /// The number of the operation, from 0.
+        op: usize,
+        /// Why it is refused.
+        cause: Cause,
+    },
+    /// Memory ran out.
     #[error("out of memory")]
     OutOfMemory,
 }
@@ -107,7 +113,13 @@ pub enum FormFault {
     NotAnArray,
     /// The first element that is no operation, counted from 0.
     #[error("operation {op}: {cause}")]
-    Form { op: usize, cause: FormCause },
+    Form {
+        /// The number of the element, from 0.
+        op: usize,
+        /// Why it is not an operation.
+        cause: FormCause,
+    },
+    /// Memory ran out.
     #[error("out of memory")]
     OutOfMemory,
 }

@@ -1,6 +1,10 @@
 //! The operations of a JSON Patch (RFC 6902 section 4).
+ghost use Rattle.std.specs.Prelude.{◌≡◌, ◌↔◌, IfOk, IsTrue};
+ghost use Rattle.mp_patch.specs.View.{operation_of};
+
 use mp_pointer::Pointer;
 use mp_tree::Doc;
+use std::alloc::{AllocError, Global};
 
 /// One operation of a JSON Patch (RFC 6902 section 4), with the place where it works.
 #[derive(Debug, Drop)]
@@ -14,9 +18,95 @@ pub enum Op {
     Replace(Pointer, Doc),
     /// What is at `origin` is removed, and added at `path` in the document that is left (section 4.4). Where both
     /// are one place, the document stays as it is. `origin` is the member `from`.
-    Move { origin: Pointer, path: Pointer },
+    Move {
+        /// The pointer to the part that moves.
+        origin: Pointer,
+        /// The pointer to its new place.
+        path: Pointer,
+    },
     /// What is at `origin` is added at `path` too (section 4.5).
-    Copy { origin: Pointer, path: Pointer },
+    Copy {
+        /// The pointer to the part that is copied.
+        origin: Pointer,
+        /// The pointer to the place of the copy.
+        path: Pointer,
+    },
     /// What is at the place has to equal the value (section 4.6).
     Test(Pointer, Doc),
+}
+
+impl Op {
+    /// An equal operation, which shares nothing with this one. `AllocError` if memory runs out.
+    ///
+    /// It copies each pointer, and the value if the operation has one.
+    ///
+    /// ```text
+    /// op.copy(alloc)?.same(&op)  // true
+    /// ```
+    pub fn copy(&self, alloc: Global) -> Result<Op, AllocError>
+        ensures equal { IfOk result (λ op. operation_of op ≡ operation_of self.now) }
+    {
+        match self {
+            Op::Add(path, value) => Ok(Op::Add(path.copy(alloc)?, value.copy(alloc)?)),
+            Op::Remove(path) => Ok(Op::Remove(path.copy(alloc)?)),
+            Op::Replace(path, value) => Ok(Op::Replace(path.copy(alloc)?, value.copy(alloc)?)),
+            Op::Move { origin, path } => Ok(Op::Move {
+                origin: origin.copy(alloc)?,
+                path: path.copy(alloc)?,
+            }),
+            Op::Copy { origin, path } => Ok(Op::Copy {
+                origin: origin.copy(alloc)?,
+                path: path.copy(alloc)?,
+            }),
+            Op::Test(path, value) => Ok(Op::Test(path.copy(alloc)?, value.copy(alloc)?)),
+        }
+    }
+
+    /// Whether the two are one operation: of one kind, with the same pointers, and with values that
+    /// `Doc::same` takes for equal.
+    ///
+    /// It takes no memory, looks at each part once at most, and stops at the first difference.
+    ///
+    /// ```text
+    /// // where `one` is Op::Remove of `/a`, and `two` is Op::Remove of `/b`
+    /// one.same(&two)  // false
+    /// ```
+    pub fn same(&self, other: &Op) -> bool
+        ensures same { IsTrue result ↔ (operation_of self.now ≡ operation_of other.now) }
+    {
+        match (self, other) {
+            (Op::Add(path, value), Op::Add(other_path, other_value)) => {
+                are_equal(path, other_path) && value.same(other_value)
+            }
+            (Op::Remove(path), Op::Remove(other_path)) => are_equal(path, other_path),
+            (Op::Replace(path, value), Op::Replace(other_path, other_value)) => {
+                are_equal(path, other_path) && value.same(other_value)
+            }
+            (
+                Op::Move { origin, path },
+                Op::Move {
+                    origin: other_origin,
+                    path: other_path,
+                },
+            ) => are_equal(origin, other_origin) && are_equal(path, other_path),
+            (
+                Op::Copy { origin, path },
+                Op::Copy {
+                    origin: other_origin,
+                    path: other_path,
+                },
+            ) => are_equal(origin, other_origin) && are_equal(path, other_path),
+            (Op::Test(path, value), Op::Test(other_path, other_value)) => {
+                are_equal(path, other_path) && value.same(other_value)
+            }
+            _ => false,
+        }
+    }
+}
+
+// Equality of pointers, in the words of the clause of `same`.
+fn are_equal(pointer: &Pointer, other: &Pointer) -> bool
+    ensures { IsTrue result ↔ (pointer.now ≡ other.now) }
+{
+    pointer == other
 }

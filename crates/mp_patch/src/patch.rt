@@ -1,5 +1,5 @@
 //! Patches: lists of operations.
-ghost use Rattle.std.specs.Prelude.{◌≡◌, ◌+◌, ◌≤◌, ◌++◌, ◌∷◌, [], OnOk, OnErr, IfOk, MatchResult};
+ghost use Rattle.std.specs.Prelude.{◌≡◌, ◌+◌, ◌≤◌, ◌++◌, ◌∷◌, ◌↔◌, [], IsTrue, OnOk, OnErr, IfOk, MatchResult};
 ghost use Rattle.mp_tree.specs.Document.{depth};
 ghost use Rattle.mp_tree.specs.View.{document};
 ghost use Rattle.mp_patch.specs.Form.{AreForms, IsFormFault, deepest, shapes};
@@ -22,6 +22,7 @@ use std::marker::Model;
 /// ```
 #[derive(Debug, Drop)]
 pub struct JsonPatch {
+    /// The operations, in the order in which they are applied.
     ops: Vec<Op>,
 }
 
@@ -65,7 +66,46 @@ impl JsonPatch {
         self.ops.as_slice()
     }
 
-    // The same, given away.
+    /// A patch with equal operations in the same order, which shares nothing with this one.
+    /// `AllocError` if memory runs out.
+    ///
+    /// ```text
+    /// patch.copy(alloc)?.same(&patch)  // true
+    /// ```
+    pub fn copy(&self, alloc: Global) -> Result<JsonPatch, AllocError>
+        ensures equal { IfOk result (λ p. operations_of p ≡ operations_of self.now) }
+    {
+        let mut ops = Vec::with_capacity(alloc, self.ops.len())?;
+        for op in self.ops() {
+            ops.push(op.copy(alloc)?)?;
+        }
+        Ok(JsonPatch { ops })
+    }
+
+    /// Whether the two have the same operations in the same order, as `Op::same` compares them.
+    ///
+    /// It takes no memory, looks at each part once at most, and stops at the first difference.
+    ///
+    /// ```text
+    /// // where `one` was read from [{"op":"remove","path":"/a"}], and `two` from
+    /// // [{"path":"/a","op":"remove","note":"a further member, which is ignored"}]
+    /// one.same(&two)  // true
+    /// ```
+    pub fn same(&self, other: &JsonPatch) -> bool
+        ensures same { IsTrue result ↔ (operations_of self.now ≡ operations_of other.now) }
+    {
+        if self.ops.len() != other.ops.len() {
+            return false;
+        }
+        for (op, other_op) in self.ops().iter().zip(other.ops()) {
+            if !op.same(other_op) {
+                return false;
+            }
+        }
+        true
+    }
+
+    // The operations of `ops`, given away.
     pub(crate) fn into_ops(self) -> Vec<Op>
         ensures { result.items ≡ self }
     {
