@@ -1,2 +1,3 @@
 -- What private clauses alone cite: who trusts the public contracts need not read it.
+pub mod Faults
 pub mod Keeping

@@ -3,10 +3,9 @@ use Rattle.std.specs.Prelude.{◌≡◌, ◌≢◌, ℕ, List, Ok, Err, ⊤}
 use Rattle.mp_tree.specs.Document.{Document, IsDocument}
 use Rattle.mp_tree.specs.Text.{document_in, documents_in, text as compact}
 use Rattle.mp_tree.specs.Elements.{items_of}
-use Rattle.mp_tree.specs.declared.fault.DocsFault.TheVariants as docs
-use Rattle.mp_tree.specs.declared.fault.ReadFault.TheVariants as read
 use Rattle.mp_merge.specs.Lists.{IsReplayFault}
 use Rattle.mp_merge.specs.Outcome.{IsOutcome}
+use Rattle.mp_merge.specs.declared.fault.ListFault.TheVariants as list
 use Rattle.library_example.specs.declared.fault.ShowFault.{ShowFault}
 use Rattle.library_example.specs.declared.fault.ShowFault.TheVariants.{Start, Patches, Replay, OutOfMemory}
 
@@ -25,12 +24,13 @@ pub record IsShown (start patches shown : List ℕ) : Type 0 where
   pub outcome : IsOutcome d ps e
   pub text : shown ≡ compact e
 
--- the first fault: of the start; of the patches, where the start was read; or, where both were, the least pair of
--- patches that clash
+-- The first fault: of the start; of the patches, if the start was read; or, if both were, the least pair of patches that
+-- clash. No bytes are read as out of memory, which `OutOfMemory` alone says: it says nothing of them.
 abbrev pub IsNotShown : ShowFault → List ℕ → List ℕ → Type 0
-IsNotShown (Start fault) start patches = fault ≢ read.OutOfMemory → document_in start ≡ Err fault
+IsNotShown (Start fault) start patches = document_in start ≡ Err fault
 IsNotShown (Patches fault) start patches =
-    (d : Document) × (document_in start ≡ Ok d) × (fault ≢ docs.OutOfMemory → documents_in patches ≡ Err fault)
+    (d : Document) × (document_in start ≡ Ok d) × (documents_in patches ≡ Err fault)
 IsNotShown (Replay fault) start patches =
-    (d : Document) × (ps : List Document) × AreRead start patches d ps × IsReplayFault fault ps
+    (fault ≢ list.OutOfMemory)
+    × (d : Document) × (ps : List Document) × AreRead start patches d ps × IsReplayFault fault ps
 IsNotShown OutOfMemory start patches = ⊤

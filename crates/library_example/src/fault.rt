@@ -17,41 +17,50 @@ pub enum ShowFault {
     /// The patches are no list of documents.
     #[error("patches: {0}")]
     Patches(DocsFault),
-    /// Two of the patches clash, or memory ran out at them.
+    /// Two of the patches clash.
     #[error("{0}")]
     Replay(ListFault),
-    /// Memory ran out.
+    /// Memory ran out, in whichever call.
     #[error("out of memory")]
     OutOfMemory,
 }
 
 impl From<ReadFault> for ShowFault {
-    ghost use Rattle.library_example.specs.declared.fault.ShowFault.TheVariants.{Start};
+    ghost use Rattle.library_example.specs.Private.Faults.{fault_of_start};
 
-    ghost from_gives = { λ fault shown. shown ≡ Start fault };
+    ghost from_gives = { λ cause fault. fault ≡ fault_of_start cause };
 
-    fn from(fault: ReadFault) -> ShowFault {
-        ShowFault::Start(fault)
+    fn from(cause: ReadFault) -> ShowFault {
+        match cause {
+            ReadFault::OutOfMemory => ShowFault::OutOfMemory,
+            refusal => ShowFault::Start(refusal),
+        }
     }
 }
 
 impl From<DocsFault> for ShowFault {
-    ghost use Rattle.library_example.specs.declared.fault.ShowFault.TheVariants.{Patches};
+    ghost use Rattle.library_example.specs.Private.Faults.{fault_of_patches};
 
-    ghost from_gives = { λ fault shown. shown ≡ Patches fault };
+    ghost from_gives = { λ cause fault. fault ≡ fault_of_patches cause };
 
-    fn from(fault: DocsFault) -> ShowFault {
-        ShowFault::Patches(fault)
+    fn from(cause: DocsFault) -> ShowFault {
+        match cause {
+            DocsFault::OutOfMemory => ShowFault::OutOfMemory,
+            refusal => ShowFault::Patches(refusal),
+        }
     }
 }
 
 impl From<ListFault> for ShowFault {
-    ghost use Rattle.library_example.specs.declared.fault.ShowFault.TheVariants.{Replay};
+    ghost use Rattle.library_example.specs.Private.Faults.{fault_of_replay};
 
-    ghost from_gives = { λ fault shown. shown ≡ Replay fault };
+    ghost from_gives = { λ cause fault. fault ≡ fault_of_replay cause };
 
-    fn from(fault: ListFault) -> ShowFault {
-        ShowFault::Replay(fault)
+    fn from(cause: ListFault) -> ShowFault {
+        match cause {
+            ListFault::OutOfMemory => ShowFault::OutOfMemory,
+            refusal => ShowFault::Replay(refusal),
+        }
     }
 }
 
@@ -74,8 +83,11 @@ pub enum DecideFault {
     /// Two of the chosen patches clash; the pointers lead to all their conflicts, in the order of paths.
     #[error("conflict of {first:?} and {second:?}")]
     Conflict {
+        /// The identity of the chosen patch that was received earlier.
         first: Identity,
+        /// The identity of the one that was received later.
         second: Identity,
+        /// The paths at which the two disagree, in the order of paths.
         places: Vec<Pointer>,
     },
     /// There is no number after that of this start.

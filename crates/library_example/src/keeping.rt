@@ -15,30 +15,40 @@ use std::alloc::{AllocError, Global};
 /// Who made a patch, and the sender's number for it.
 #[derive(Clone, Copy, Debug, PartialEq, Eq)]
 pub struct Identity {
+    /// The sender that made the patch.
     pub sender: u64,
+    /// The sender's number for the patch.
     pub number: u64,
 }
 
 /// A patch with its identity, and the number of the start that it was made for.
 #[derive(Drop)]
 pub struct Letter {
+    /// The number of the start that the patch was made for.
     pub epoch: u64,
+    /// Who made the patch, and the sender's number for it.
     pub identity: Identity,
+    /// The merge patch.
     pub patch: Doc,
 }
 
 /// A patch that has come, with its identity.
 #[derive(Drop)]
 pub struct KeptPatch {
+    /// Who made the patch, and the sender's number for it.
     identity: Identity,
+    /// The merge patch.
     patch: Doc,
 }
 
 /// A start and its number, and the patches that came for it, each identity once.
 #[derive(Drop)]
 pub struct Keeper {
+    /// The number of the start.
     epoch: u64,
+    /// The document that the replica began with.
     start: Doc,
+    /// The patches of this start, in the order in which they were received.
     kept: Vec<KeptPatch>,
 }
 

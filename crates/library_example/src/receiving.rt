@@ -13,15 +13,20 @@ use std::alloc::{AllocError, Global};
 /// A patch, and the number of the start that it was made for.
 #[derive(Drop)]
 pub struct Envelope {
+    /// The number of the start that the patch was made for.
     pub epoch: u64,
+    /// The merge patch.
     pub patch: Doc,
 }
 
 /// A start and its number, and the join of the patches that came for it, if any did.
 #[derive(Drop)]
 pub struct Replica {
+    /// The number of the start.
     epoch: u64,
+    /// The document that the replica began with.
     start: Doc,
+    /// The join of the patches that were received, if any were.
     joined: Option<Doc>,
 }
 
