@@ -18,11 +18,17 @@ mod device;
 /// ```
 #[derive(Debug, Drop)]
 pub struct Counted<T> {
+    /// The reader or the writer.
     device: T,
+    /// The calls that were made of it.
     calls: u64,
+    /// The calls that failed.
     failures: u64,
+    /// The calls that read or wrote at least one byte.
     moving_calls: u64,
+    /// The bytes that were read or written.
     bytes: u64,
+    /// Whether the last call was a flush that did not fail.
     flushed: bool,
     ghost failures_within_calls: { failures ≤ calls },
     ghost moving_within_calls: { moving_calls ≤ calls },

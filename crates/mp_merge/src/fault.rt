@@ -37,8 +37,11 @@ pub enum ListFault {
     /// that clashes with it, and `places` lead to all conflicts of the two, in the order of paths.
     #[error("conflict of patches {first} and {second}")]
     ConflictOf {
+        /// The number of the earlier patch.
         first: usize,
+        /// The number of the later patch.
         second: usize,
+        /// The paths at which the two disagree, in the order of paths.
         places: Vec<Pointer>,
     },
     /// Memory ran out.
@@ -64,7 +67,12 @@ pub enum ConvergeFault {
     Lists(ListFault),
     /// This operation of the JSON Patch that the join is rewritten as was refused, by this cause.
     #[error("operation {op}: {cause}")]
-    Patch { op: usize, cause: Cause },
+    Patch {
+        /// The number of the operation, from 0.
+        op: usize,
+        /// Why it is refused.
+        cause: Cause,
+    },
     /// Memory ran out.
     #[error("out of memory")]
     OutOfMemory,

@@ -13,6 +13,7 @@ pub enum PointerFault {
     /// The offset in bytes of the first `~` that no `0` and no `1` follows.
     #[error("bad tilde at {0}")]
     BadTilde(usize),
+    /// Memory ran out.
     #[error("out of memory")]
     OutOfMemory,
 }

@@ -22,10 +22,11 @@ use std::marker::Model;
 // the text is the spelling where nothing has to be escaped.
 #[derive(Debug, Drop)]
 pub struct Pointer {
+    /// The tokens, each after a slash, with nothing escaped.
     text: String,
-    // where each token ends in the text, in bytes
+    /// The offset in bytes at which each token ends in the text.
     ends: Vec<usize>,
-    // only where nothing has to be escaped
+    /// True only if the text is the spelling, since nothing has to be escaped.
     is_plain: bool,
 }
 

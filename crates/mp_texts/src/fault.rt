@@ -17,7 +17,12 @@ pub enum TextsFault {
     Document(ReadFault),
     /// The text with the least number that is no document, of those given as patches, counted from 0.
     #[error("patch {number}: {fault}")]
-    Patch { number: usize, fault: ReadFault },
+    Patch {
+        /// The number of the text among those given as patches, from 0.
+        number: usize,
+        /// Why the text is not a document.
+        fault: ReadFault,
+    },
     /// The patches are none, or two of them clash.
     #[error("{0}")]
     List(ListFault),

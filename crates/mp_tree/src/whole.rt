@@ -8,6 +8,7 @@ ghost use Rattle.std.specs.Prelude.{◌≡◌, ◌^◌, ◌-◌, ◌≤ℤ◌, p
 /// ```
 #[derive(Clone, Copy, Debug, PartialEq, Eq, Drop)]
 pub struct Whole {
+    /// The number, from -2^63 to 2^64 - 1.
     value: i128,
     ghost at_least: { negsuc (2 ^ 63 - 1) ≤ℤ value },
     ghost at_most: { value ≤ℤ pos (2 ^ 64 - 1) },
