@@ -1,3 +1,4 @@
+pub mod Faults
 pub mod Keeper
 pub mod Laws
 pub mod Peers

@@ -26,7 +26,7 @@ pub enum ShowFault {
 }
 
 impl From<ReadFault> for ShowFault {
-    ghost use Rattle.library_example.specs.Private.Faults.{fault_of_start};
+    ghost use Rattle.library_example.specs.Faults.{fault_of_start};
 
     ghost from_gives = { λ cause fault. fault ≡ fault_of_start cause };
 
@@ -39,7 +39,7 @@ impl From<ReadFault> for ShowFault {
 }
 
 impl From<DocsFault> for ShowFault {
-    ghost use Rattle.library_example.specs.Private.Faults.{fault_of_patches};
+    ghost use Rattle.library_example.specs.Faults.{fault_of_patches};
 
     ghost from_gives = { λ cause fault. fault ≡ fault_of_patches cause };
 
@@ -52,7 +52,7 @@ impl From<DocsFault> for ShowFault {
 }
 
 impl From<ListFault> for ShowFault {
-    ghost use Rattle.library_example.specs.Private.Faults.{fault_of_replay};
+    ghost use Rattle.library_example.specs.Faults.{fault_of_replay};
 
     ghost from_gives = { λ cause fault. fault ≡ fault_of_replay cause };
 

@@ -1,4 +1,4 @@
--- The fault of a call as that of `show`: out of memory is one fault, from whichever call it comes. Only private clauses cite it.
+-- The error of a call as that of `show`: out of memory is one variant, whichever call it came from.
 use Rattle.mp_tree.specs.declared.fault.DocsFault.{DocsFault}
 use Rattle.mp_tree.specs.declared.fault.DocsFault.TheVariants as docs
 use Rattle.mp_tree.specs.declared.fault.ReadFault.{ReadFault}
