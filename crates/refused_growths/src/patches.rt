@@ -23,6 +23,8 @@ pub const CALLS: &[&str] = &[
     "apply",
     "apply_once",
     "apply_owned",
+    "copy",
+    "copy_op",
     "fifth_push",
     "from_doc",
     "from_doc_owned",
@@ -37,6 +39,8 @@ pub fn watch(alloc: Global, name: &str) -> Option<Option<Seen>> {
         "apply" => watch_apply(alloc),
         "apply_once" => watch_apply_once(alloc),
         "apply_owned" => watch_apply_owned(alloc),
+        "copy" => watch_copy(alloc),
+        "copy_op" => watch_copy_op(alloc),
         "fifth_push" => watch_fifth_push(alloc),
         "from_doc" => watch_from_doc(alloc),
         "from_doc_owned" => watch_from_doc_owned(alloc),
@@ -143,6 +147,33 @@ fn watch_write_patch(alloc: Global) -> Option<Seen> {
 fn long_patch(alloc: Global) -> Option<JsonPatch> {
     let form = doc_of(alloc, LONG_FORM)?;
     patch_of(alloc, &form)
+}
+
+fn two_long_patches(alloc: Global) -> Option<[JsonPatch; 2]> {
+    let first = long_patch(alloc)?;
+    let second = long_patch(alloc)?;
+    Some([first, second])
+}
+
+fn watch_copy(alloc: Global) -> Option<Seen> {
+    let patches = two_long_patches(alloc)?;
+    let [patch, before] = &patches;
+    let seen = match patch.copy(alloc) {
+        Ok(copied) => Seen::answer_if(copied.same(before)),
+        Err(_) => Seen::NoMemory,
+    };
+    Some(seen.with(patch.same(before)))
+}
+
+fn watch_copy_op(alloc: Global) -> Option<Seen> {
+    let patches = two_long_patches(alloc)?;
+    let [patch, before] = &patches;
+    let (op, other) = (patch.ops().first()?, before.ops().first()?);
+    let seen = match op.copy(alloc) {
+        Ok(copied) => Seen::answer_if(copied.same(other)),
+        Err(_) => Seen::NoMemory,
+    };
+    Some(seen.with(op.same(other)))
 }
 
 fn of_application(given: Result<Doc, ApplyFault>, wanted: &Doc) -> Seen {

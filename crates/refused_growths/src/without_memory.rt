@@ -42,6 +42,8 @@ pub const CALLS: &[&str] = &[
     "ops",
     "pop",
     "same",
+    "same_op",
+    "same_patch",
     "tokens",
     "whole",
 ];
@@ -65,6 +67,8 @@ pub fn watch(alloc: Global, name: &str) -> Option<Option<Seen>> {
         "ops" => watch_ops(alloc),
         "pop" => watch_pop(alloc),
         "same" => watch_same(alloc),
+        "same_op" => watch_same_op(alloc),
+        "same_patch" => watch_same_patch(alloc),
         "tokens" => watch_tokens(alloc),
         "whole" => Some(watch_whole()),
         _ => return None,
@@ -220,6 +224,38 @@ fn watch_ops(alloc: Global) -> Option<Seen> {
     let form = doc_of(alloc, FORM)?;
     let patch = patch_of(alloc, &form)?;
     Some(Seen::answer_if(is_move(&patch)))
+}
+
+/// A patch, one that is equal, and one in which a value is another.
+fn three_patches_of(alloc: Global) -> Option<[JsonPatch; 3]> {
+    let forms = three_docs_of(
+        alloc,
+        [
+            r#"[{"op":"move","path":"/b","from":"/a"},{"op":"test","path":"","value":["t"]}]"#,
+            r#"[{"from":"/a","op":"move","path":"/b"},{"value":["t"],"op":"test","path":""}]"#,
+            r#"[{"op":"move","path":"/b","from":"/a"},{"op":"test","path":"","value":["u"]}]"#,
+        ],
+    )?;
+    let [form, equal, other] = &forms;
+    let first = patch_of(alloc, form)?;
+    let second = patch_of(alloc, equal)?;
+    let third = patch_of(alloc, other)?;
+    Some([first, second, third])
+}
+
+fn watch_same_patch(alloc: Global) -> Option<Seen> {
+    let patches = three_patches_of(alloc)?;
+    let [patch, equal, other] = &patches;
+    Some(Seen::answer_if(patch.same(equal) && !patch.same(other)))
+}
+
+/// The last operation of each, which is a `test`.
+fn watch_same_op(alloc: Global) -> Option<Seen> {
+    let patches = three_patches_of(alloc)?;
+    let [patch, equal, other] = &patches;
+    let op = patch.ops().last()?;
+    let is_found = op.same(equal.ops().last()?) && !op.same(other.ops().last()?);
+    Some(Seen::answer_if(is_found))
 }
 
 fn watch_compatible(alloc: Global) -> Option<Seen> {
