@@ -1,11 +1,11 @@
 # shellcheck shell=bash
-# What the modes of bench/run share: the folder that all is measured in, the counting
-# of instructions, and the table of several programs beside each other.
+# What the modes of bench/run share: the directory that all is measured in, the counting
+# of instructions, and the table of several programs next to each other.
 
 # shellcheck source=bin/program.sh
 . "$(dirname -- "$(readlink -f -- "${BASH_SOURCE[0]}")")/../bin/program.sh"
 
-# All that is built and measured stands in a folder outside the repository.
+# All that is built and measured is in a directory outside the repository.
 "$top/bin/prove" </dev/null
 work=${TMPDIR:-/tmp}/mergejoin-bench
 mkdir -p -- "$work"
@@ -15,7 +15,7 @@ exec </dev/null
 
 say() { printf 'bench: %s\n' "$1" >&2; }
 
-# Tells of a package that is wanted and is not here: nothing is installed unasked.
+# Reports of a package that is wanted and is not here: nothing is installed unasked.
 lacks() {
   say "this wants Debian's package $1: apt-get install $1"
   return 1

@@ -5,14 +5,14 @@
 
 The size is in bytes, nearly, for a document and a merge patch of texts, of small
 objects (points), of arrays of numbers (rows), 100 levels deep (deep), of objects of one
-name in one another (chains), or where the patch touches every name (touched), for two
-patches that clash at every name (clashes), and for one document alone: a mixed one
+name, nested (chains), or where the patch touches every name (touched), for two
+patches that conflict at every name (conflicts), and for one document alone: a mixed one
 (document), small objects (small), and an array of true, null, [] and {} (empties); and for
 a document of half of them with a JSON Patch (edits). It is
 the number of operations of a JSON Patch: on a document of 300 kB (patch), of moves of
 members (moves) and of one large value to and fro (large), and of copies of arrays (arrays)
 and of small objects (objects); and of patches for join and replay (join, replay) and for
-a join where the last patch clashes with the fourth (clash). A number is that number. The
+a join where the last patch conflicts with the fourth (conflict). A number is that number. The
 same arguments always give the same bytes.
 """
 
@@ -63,7 +63,7 @@ def replay(count):
     return [drawn.start(), *drawn.patches(count)]
 
 
-def clash(count):
+def conflict(count):
     """Compatible patches, but the last changes otherwise what the fourth changes."""
     patches = lists(count).patches(count)
     patches[-1] = {user: dict.fromkeys(names, "otherwise") for user, names in patches[3].items()}
@@ -71,7 +71,7 @@ def clash(count):
 
 
 def chain(value, levels=20):
-    """Objects of one name in one another."""
+    """Nested objects of one name."""
     for _ in range(levels):
         value = {"in": value}
     return value
@@ -83,7 +83,7 @@ def chains(names):
     return [document, patch]
 
 
-def clashes(names):
+def conflicts(names):
     return [{f"name-{number:06}": word for number in range(names)} for word in ("one", "other")]
 
 
@@ -107,7 +107,7 @@ def copies(count, value):
 
 SHAPES = {
     "chains": lambda size: sized(chains, size),
-    "clashes": lambda size: sized(clashes, size),
+    "conflicts": lambda size: sized(conflicts, size),
     "moves": moves,
     "large": large,
     "arrays": lambda count: copies(count, list(range(100))),
@@ -124,7 +124,7 @@ SHAPES = {
     "edits": lambda size: patch_input(size // 200, size // 2),
     "join": lambda count: lists(count).patches(count),
     "replay": replay,
-    "clash": clash,
+    "conflict": conflict,
     "number": lambda number: [number],
 }
 

@@ -66,8 +66,8 @@ job 'patch, 1000 copies of arrays' arrays 1000 patch
 job 'patch, 1000 copies of small objects' objects 1000 patch
 for count in 10 500 5000; do job "join of $count patches" join "$count" join; done
 for count in 10 500 5000; do job "replay of $count patches" replay "$count" replay; done
-expected=1 job 'join of 5000 patches, the last clashes with the fourth' clash 5000 join
-expected=1 job 'join of two patches, every name clashes' clashes 1000000 join
+expected=1 job 'join of 5000 patches, the last conflicts with the fourth' conflict 5000 join
+expected=1 job 'join of two patches, every name conflicts' conflicts 1000000 join
 for size in "${sizes[@]}"; do job 'rewrite, every name is touched' touched "$size" rewrite; done
 job 'rewrite, 100 deep' deep 300000 rewrite
 job 'rewrite, chains of one name' chains 300000 rewrite

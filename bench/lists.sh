@@ -1,6 +1,6 @@
 #!/usr/bin/env bash
 # bench/run lists: counts the instructions of `join` and of `replay` on lists of
-# compatible patches of equal size (bench/list_inputs.py), and prints them beside
+# compatible patches of equal size (bench/list_inputs.py), and prints them next to
 # the size of what was read, since their cost should grow in proportion to it.
 set -euo pipefail
 

@@ -20,20 +20,20 @@ import mergejoin
 from mergejoin.dask import join_by_key
 
 FILES, DOCUMENTS, RUNS = 16, 1_000, 3
-FEW = 1_000  # patches that take no time beside the start
+FEW = 1_000  # patches that take no time next to the start
 
 
-def written(folder, count, is_sharded):
+def written(directory, count, is_sharded):
     """Writes the log, a key and a patch of some 33 bytes a line, and gives its files."""
     chance, files = random.Random(1), [[] for _ in range(FILES)]
     for number in range(count):
         document = chance.randrange(DOCUMENTS)
         file = document % FILES if is_sharded else chance.randrange(FILES)
         files[file].append(f'doc{document}\t{{"k{number}":{{"name":"value","n":{number}}}}}\n')
-    folder.mkdir()
+    directory.mkdir()
     for number, lines in enumerate(files):
-        (folder / f"log-{number}").write_text("".join(lines), "utf-8")
-    return sorted(map(str, folder.iterdir()))
+        (directory / f"log-{number}").write_text("".join(lines), "utf-8")
+    return sorted(map(str, directory.iterdir()))
 
 
 def keyed(line):
@@ -79,8 +79,8 @@ def main(count):
             (one, wanted), (many, seen) = least(at_once, paths), least(by_dask, paths)
             if seen != wanted:
                 sys.exit("join_by_key gives another result")
-            told = [f"{(time - start) / count * 1e6:.0f} us" for time, start in zip((one, many), starts)]
-            print(f"| {words} | {' | '.join(told)} |")
+            reported = [f"{(time - start) / count * 1e6:.0f} us" for time, start in zip((one, many), starts)]
+            print(f"| {words} | {' | '.join(reported)} |")
 
 
 if __name__ == "__main__":

@@ -1,6 +1,6 @@
 #!/usr/bin/env bash
 # bench/run merge: counts the instructions of `merge` on inputs of three sizes
-# (bench/inputs.py), beside the same in Rust with serde_json, in jq and in Python.
+# (bench/inputs.py), next to the same in Rust with serde_json, in jq and in Python.
 set -euo pipefail
 
 # shellcheck source=bench/common.sh

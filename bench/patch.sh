@@ -1,6 +1,6 @@
 #!/usr/bin/env bash
 # bench/run patch: counts the instructions of `patch` with 1,000 operations on a
-# document of 300 kB (bench/patch_inputs.py), beside the same in C++ with nlohmann's
+# document of 300 kB (bench/patch_inputs.py), next to the same in C++ with nlohmann's
 # JSON and in Python with jsonpatch.
 set -euo pipefail
 

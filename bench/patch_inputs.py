@@ -57,8 +57,8 @@ def some_place(numbers, document):
     return path if len(path) > 1 else some_place(numbers, document)
 
 
-def some_room(numbers, document):
-    """A path where a value can be added: inside of some part, or else beside it."""
+def some_path(numbers, document):
+    """A path where a value can be added: inside of some part, or else next to it."""
     path = some_place(numbers, document)
     if not isinstance(part(document, path), (dict, list)) or numbers.chance(50):
         path = path[:-1]
@@ -88,7 +88,7 @@ def some_value(numbers):
 def operation(numbers, kind, document):
     """An operation of that kind that succeeds, and does it."""
     if kind == "add":
-        path, value = some_room(numbers, document), some_value(numbers)
+        path, value = some_path(numbers, document), some_value(numbers)
         put(document, path, copied(value))
         return {"op": kind, "path": pointer(path), "value": value}
     place = some_place(numbers, document)
@@ -104,10 +104,10 @@ def operation(numbers, kind, document):
     value = copied(container[step])
     if kind == "move":
         del container[step]
-    path = some_room(numbers, document)
+    path = some_path(numbers, document)
     # A value can't be moved into itself, so it may not look like that.
     while kind == "move" and path[: len(place)] == place:
-        path = some_room(numbers, document)
+        path = some_path(numbers, document)
     put(document, path, value)
     return {"op": kind, "from": pointer(place), "path": pointer(path)}
 

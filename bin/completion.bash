@@ -1,6 +1,6 @@
 # shellcheck shell=bash
 # Completion for bash: the subcommands of mergejoin, and of mergejoin-locate with the files
-# behind them. bin/install puts it where bash looks for it; else: . bin/completion.bash
+# after them. bin/install puts it where bash looks for it; else: . bin/completion.bash
 _mergejoin() {
   local words=--help
   if ((COMP_CWORD == 1)); then words+=' get patch merge join replay rewrite'; fi

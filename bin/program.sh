@@ -1,5 +1,5 @@
 # shellcheck shell=bash
-# Where the built program stands, and what it was built from: read by the other scripts.
+# Where the built program is, and what it was built from: read by the other scripts.
 
 top=$(CDPATH='' cd -- "${BASH_SOURCE[0]%/*}/.." && pwd -P) || exit # of the repository
 program=$top/out/mergejoin         # the proved program that bin/mergejoin runs
@@ -49,7 +49,7 @@ built_sum() {
   { read -r _ && read -r sum _; } <"$1" && printf '%s\n' "$sum"
 }
 
-# The text of a file of the sources' checksum, which is given, and that of the libraries that stand in the crates: each has a file
+# The text of a file of the sources' checksum, which is given, and that of the libraries that are in the crates: each has a file
 # of the checksums of its others.
 gate_sums() (
   CDPATH='' cd -- "$top" || exit
@@ -75,7 +75,7 @@ is_built() {
   list=$(built_list)
   if [[ -r $unchanged && $(<"$unchanged") == "$list" ]]; then return; fi
   has_sums "$built_from" "$program" || return
-  # A folder that can't be written to is no fault here.
+  # A directory that can't be written to is no fault here.
   { printf '%s\n' "$list" >"$unchanged.$BASHPID" && mv -f -- "$unchanged.$BASHPID" "$unchanged"; } 2>/dev/null || true
 }
 

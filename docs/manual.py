@@ -1,6 +1,6 @@
 #!/usr/bin/env python3
-"""Prints the man pages of docs/: mergejoin.1, in which what it says of each subcommand, and of the limits, is the
-program's help; and those of the scripts, which are their help.
+"""Prints the man pages of docs/: mergejoin.1, whose text on each subcommand and on the limits is the program's help; and
+those of the scripts, which are their help.
 
     docs/manual.py >docs/mergejoin.1
     docs/manual.py feed >docs/mergejoin-feed.1
@@ -42,18 +42,18 @@ There is no result: missing; operation K: CAUSE; conflict: patches I and J at PO
 no patches.
 .TP
 .B 2
-The input or a word is at fault: input: not JSON, number not whole, wrong shape, too long;
-pointer: no slash, bad tilde at N; operation K: FORM; or how the words are to be.
+The input or an argument is wrong: input: not JSON, number not whole, wrong shape, too long;
+pointer: no slash, bad tilde at N; operation K: FORM; or the usage.
 .TP
 .B 3
 read failed, write failed, or out of memory.
 .PP
-Where the status is not 0, standard error says why, in one line unless the words are at fault,
+If the status is not 0, standard error says why, in one line unless the arguments are wrong,
 and nothing is on standard output. Patches and operations are numbered from 0, the document not counted.
 .SH NOTES
-At a terminal the program waits for its input without a word, to the end that Ctrl\\-D gives.
-The text for words that are at fault shows a word as it was given, control bytes and all; no other text has any.
-Standard input that does not block (O_NONBLOCK) and has nothing to give yet is a read that failed.
+At a terminal the program prints nothing and waits for its input, which ends with Ctrl\\-D.
+The text about wrong arguments shows an argument as it was given, with its control bytes; no other text has any.
+If standard input does not block (O_NONBLOCK) and has nothing yet, the read has failed.
 .SH EXAMPLES
 Replicas that received the same patches in other orders show one document:
 .PP
@@ -80,7 +80,7 @@ mergejoin\\-{name} \\- {about}
 .SH SEE ALSO
 .BR {other} (1)"""
 
-# What is given to each script, and the page to see beside its own.
+# The arguments of each script, and the page to see also.
 SCRIPTS = {
     "feed": ("FILE..", "mergejoin"),
     "locate": ("SUBCOMMAND FILE.. <REFUSAL", "mergejoin"),
@@ -100,7 +100,7 @@ def roff(text):
 
 
 def subcommand(name):
-    """Gives the lines of one subcommand: its words, what it is for, its input, an example and its statuses."""
+    """Gives the lines of one subcommand: its arguments, what it is for, its input, an example and its statuses."""
     text = help_of(name)
     words = re.search(r"^Usage: mergejoin (.*)$", text, flags=re.M)[1].split()
     yield ".TP"

@@ -1,8 +1,8 @@
 /*
- * A call of the library from a backend, and the error that tells what it refuses.
+ * A call of the library from a backend, and the error that reports what it refuses.
  *
  * The library takes memory by malloc while it runs, and keeps none. So control may leave before a call and after it, by an
- * error or an interrupt, and never within: the room is made before the call, and the call calls nothing of the backend's.
+ * error or an interrupt, and never within: the buffer is made before the call, and the call calls nothing of the backend's.
  */
 #include "calls.h"
 
@@ -11,33 +11,33 @@
 #include "utils/builtins.h"
 #include "utils/memutils.h"
 
-/* The most bytes that a value can have behind its header. */
+/* The most bytes that a value can have after its header. */
 #define LONGEST (MaxAllocSize - VARHDRSZ)
 
-/* Lends the bytes of a value, which is not compressed nor out of line, and stays its owner's. */
-mergejoin_text lent(const text *value) {
-  mergejoin_text lent = {(const uint8_t *)VARDATA_ANY(value), VARSIZE_ANY_EXHDR(value)};
+/* Borrows the bytes of a value, which is not compressed nor out of line, and stays its owner's. */
+mergejoin_text borrowed(const text *value) {
+  mergejoin_text bytes = {(const uint8_t *)VARDATA_ANY(value), VARSIZE_ANY_EXHDR(value)};
 
-  return lent;
+  return bytes;
 }
 
-/* Makes the call of a request. The texts and the room are its caller's. */
-static mergejoin_reply called(const Request *request, uint8_t *room, size_t size) {
+/* Makes the call of a request. The texts and the buffer are its caller's. */
+static mergejoin_reply called(const Request *request, uint8_t *buffer, size_t capacity) {
   const mergejoin_text *document = &request->document, *texts = request->texts;
 
   switch (request->export) {
     case EXPORT_JOIN:
-      return mergejoin_join(texts, request->count, room, size);
+      return mergejoin_join(texts, request->count, buffer, capacity);
     case EXPORT_REPLAY:
-      return mergejoin_replay(document->bytes, document->length, texts, request->count, room, size);
+      return mergejoin_replay(document->bytes, document->length, texts, request->count, buffer, capacity);
     case EXPORT_MERGE:
-      return mergejoin_merge(document->bytes, document->length, texts, request->count, room, size);
+      return mergejoin_merge(document->bytes, document->length, texts, request->count, buffer, capacity);
     case EXPORT_REWRITE:
-      return mergejoin_rewrite(document->bytes, document->length, texts->bytes, texts->length, room, size);
+      return mergejoin_rewrite(document->bytes, document->length, texts->bytes, texts->length, buffer, capacity);
     case EXPORT_PATCH:
-      return mergejoin_patch(document->bytes, document->length, texts->bytes, texts->length, room, size);
+      return mergejoin_patch(document->bytes, document->length, texts->bytes, texts->length, buffer, capacity);
     case EXPORT_GET:
-      return mergejoin_get(document->bytes, document->length, texts->bytes, texts->length, room, size);
+      return mergejoin_get(document->bytes, document->length, texts->bytes, texts->length, buffer, capacity);
   }
   pg_unreachable();
 }
@@ -50,8 +50,8 @@ static void want_utf8(void) {
 }
 
 /*
- * Asks the library, once more where the text is longer than all that is read, for which there is room at first. The value
- * is made in the current memory context, and its caller's.
+ * Calls the library, with a buffer as long as all that is read, and once more if the text is longer. The value is made in
+ * the current memory context, and is its caller's.
  */
 Answer answer_of(const Request *request) {
   Answer answer;
@@ -76,7 +76,7 @@ Answer answer_of(const Request *request) {
   return answer;
 }
 
-/* Gives the result of a request, which is its caller's, or raises what is refused. */
+/* Returns the result of a request, which is its caller's, or raises what is refused. */
 text *result_of(const Request *request) {
   Answer answer = answer_of(request);
 
@@ -84,7 +84,8 @@ text *result_of(const Request *request) {
   return answer.value;
 }
 
-/* Raises what the library refuses, as an error. Patches and operations are numbered from 0, as everywhere. */
+/* Raises what the library refuses, as an error whose message begins as the program's line. Patches and operations are
+ * numbered from 0, as everywhere. */
 void refuse(const Answer *answer) {
   const char *words = text_to_cstring(answer->value);
   size_t first = answer->reply.first;
@@ -92,33 +93,34 @@ void refuse(const Answer *answer) {
   switch (answer->reply.status) {
     case MERGEJOIN_CONFLICT:
       ereport(ERROR, errcode(ERRCODE_MERGEJOIN_CONFLICT),
-              errmsg("patches %zu and %zu clash", first, answer->reply.second), errdetail_internal("%s", words));
+              errmsg("conflict: patches %zu and %zu", first, answer->reply.second), errdetail_internal("%s", words));
       break;
     case MERGEJOIN_NO_PATCHES:
-      ereport(ERROR, errcode(ERRCODE_INVALID_PARAMETER_VALUE), errmsg("there are no patches to join"));
+      ereport(ERROR, errcode(ERRCODE_INVALID_PARAMETER_VALUE), errmsg("no patches"));
       break;
     case MERGEJOIN_REFUSED:
-      ereport(ERROR, errcode(ERRCODE_MERGEJOIN_REFUSED), errmsg("operation %zu is refused: %s", first, words));
+      ereport(ERROR, errcode(ERRCODE_MERGEJOIN_REFUSED), errmsg("operation %zu: %s", first, words));
       break;
     case MERGEJOIN_DOCUMENT:
-      ereport(ERROR, errcode(ERRCODE_INVALID_JSON_TEXT), errmsg("invalid document: %s", words));
+      ereport(ERROR, errcode(ERRCODE_INVALID_JSON_TEXT), errmsg("document: %s", words));
       break;
     case MERGEJOIN_PATCH:
-      ereport(ERROR, errcode(ERRCODE_INVALID_JSON_TEXT), errmsg("invalid patch %zu: %s", first, words));
+      ereport(ERROR, errcode(ERRCODE_INVALID_JSON_TEXT), errmsg("patch %zu: %s", first, words));
       break;
     case MERGEJOIN_FORM:
       if (strcmp(words, "not an array") == 0)
-        ereport(ERROR, errcode(ERRCODE_MERGEJOIN_FORM), errmsg("invalid JSON Patch: %s", words));
-      ereport(ERROR, errcode(ERRCODE_MERGEJOIN_FORM), errmsg("invalid operation %zu: %s", first, words));
+        ereport(ERROR, errcode(ERRCODE_MERGEJOIN_FORM), errmsg("%s", words));
+      ereport(ERROR, errcode(ERRCODE_MERGEJOIN_FORM), errmsg("operation %zu: %s", first, words));
       break;
     case MERGEJOIN_POINTER:
-      ereport(ERROR, errcode(ERRCODE_INVALID_PARAMETER_VALUE),
-              errmsg("invalid JSON Pointer: %s at byte %zu", words, first));
+      if (strcmp(words, "no slash") == 0)
+        ereport(ERROR, errcode(ERRCODE_INVALID_PARAMETER_VALUE), errmsg("pointer: %s", words));
+      ereport(ERROR, errcode(ERRCODE_INVALID_PARAMETER_VALUE), errmsg("pointer: %s at %zu", words, first));
       break;
     case MERGEJOIN_NO_MEMORY:
       ereport(ERROR, errcode(ERRCODE_OUT_OF_MEMORY), errmsg("out of memory"),
-              errdetail("A call of mergejoin was refused memory."));
+              errdetail("A call of mergejoin could not allocate memory."));
       break;
   }
-  elog(ERROR, "mergejoin answers status %u", answer->reply.status);
+  elog(ERROR, "mergejoin returns status %u", answer->reply.status);
 }

@@ -1,5 +1,5 @@
 /*
- * A call of the library from a backend, and the error that tells what it refuses.
+ * A call of the library from a backend, and the error that reports what it refuses.
  */
 #ifndef MERGEJOIN_CALLS_H
 #define MERGEJOIN_CALLS_H
@@ -23,13 +23,13 @@ typedef struct Request {
   size_t count;
 } Request;
 
-/* What the library answers. */
+/* What the library returns. */
 typedef struct Answer {
   mergejoin_reply reply;
-  text *value; /* the text in the room, whose owner is the memory context in which the call was made */
+  text *value; /* the text in the buffer, whose owner is the memory context in which the call was made */
 } Answer;
 
-extern mergejoin_text lent(const text *value);
+extern mergejoin_text borrowed(const text *value);
 extern Answer answer_of(const Request *request);
 extern text *result_of(const Request *request);
 extern void refuse(const Answer *answer) pg_attribute_noreturn();

@@ -1,5 +1,5 @@
 /*
- * The functions over json: each lends its arguments to one call, and gives the value that the call made.
+ * The functions over json: each makes one call, which borrows its arguments, and returns the value that the call made.
  */
 #include "calls.h"
 
@@ -17,13 +17,13 @@ PG_FUNCTION_INFO_V1(mergejoin_sql_merge);
 PG_FUNCTION_INFO_V1(mergejoin_sql_rewrite);
 PG_FUNCTION_INFO_V1(mergejoin_sql_patch);
 PG_FUNCTION_INFO_V1(mergejoin_sql_get);
-PG_FUNCTION_INFO_V1(mergejoin_first_clash);
+PG_FUNCTION_INFO_V1(mergejoin_first_conflict);
 
 /*
- * Lends the elements of an array of json, which is the caller's, to a request, whose list of them is made in the current
+ * Borrows the elements of an array of json, which is the caller's, for a request, whose list of them is made in the current
  * memory context. An element that is null is refused, or passed over and not numbered.
  */
-static void lend_elements(Request *request, ArrayType *array, bool passes_null) {
+static void borrow_elements(Request *request, ArrayType *array, bool passes_null) {
   Datum *elements;
   bool *are_null;
   int length;
@@ -35,7 +35,7 @@ static void lend_elements(Request *request, ArrayType *array, bool passes_null) 
   request->count = 0;
   for (int number = 0; number < length; number += 1) {
     if (!are_null[number])
-      texts[request->count++] = lent(DatumGetTextPP(elements[number]));
+      texts[request->count++] = borrowed(DatumGetTextPP(elements[number]));
     else if (!passes_null)
       ereport(ERROR, errcode(ERRCODE_NULL_VALUE_NOT_ALLOWED), errmsg("patch %d is null", number));
   }
@@ -43,16 +43,16 @@ static void lend_elements(Request *request, ArrayType *array, bool passes_null) 
 
 /* Calls with a document, and an array of patches. */
 static Datum of_patches(FunctionCallInfo fcinfo, Export export) {
-  Request request = {export, lent(PG_GETARG_TEXT_PP(0))};
+  Request request = {export, borrowed(PG_GETARG_TEXT_PP(0))};
 
-  lend_elements(&request, PG_GETARG_ARRAYTYPE_P(1), false);
+  borrow_elements(&request, PG_GETARG_ARRAYTYPE_P(1), false);
   PG_RETURN_TEXT_P(result_of(&request));
 }
 
 /* Calls with a document, and a patch or a pointer. */
 static Datum of_two(FunctionCallInfo fcinfo, Export export) {
-  mergejoin_text second = lent(PG_GETARG_TEXT_PP(1));
-  Request request = {export, lent(PG_GETARG_TEXT_PP(0)), &second, 1};
+  mergejoin_text second = borrowed(PG_GETARG_TEXT_PP(1));
+  Request request = {export, borrowed(PG_GETARG_TEXT_PP(0)), &second, 1};
   Answer answer = answer_of(&request);
 
   if (answer.reply.status == MERGEJOIN_MISSING) PG_RETURN_NULL();
@@ -63,7 +63,7 @@ static Datum of_two(FunctionCallInfo fcinfo, Export export) {
 Datum mergejoin_sql_join(PG_FUNCTION_ARGS) {
   Request request = {EXPORT_JOIN};
 
-  lend_elements(&request, PG_GETARG_ARRAYTYPE_P(0), false);
+  borrow_elements(&request, PG_GETARG_ARRAYTYPE_P(0), false);
   PG_RETURN_TEXT_P(result_of(&request));
 }
 
@@ -77,20 +77,20 @@ Datum mergejoin_sql_patch(PG_FUNCTION_ARGS) { return of_two(fcinfo, EXPORT_PATCH
 
 Datum mergejoin_sql_get(PG_FUNCTION_ARGS) { return of_two(fcinfo, EXPORT_GET); }
 
-/* Ends mergejoin_clash_agg: gives the first two of an array of patches that clash, and where, or NULL where none do. */
-Datum mergejoin_first_clash(PG_FUNCTION_ARGS) {
+/* Ends mergejoin_conflict_agg: returns the first two of an array of patches that conflict, and where, or NULL if none do. */
+Datum mergejoin_first_conflict(PG_FUNCTION_ARGS) {
   Request request = {EXPORT_JOIN};
   Answer answer;
-  StringInfoData told;
+  StringInfoData report;
 
-  lend_elements(&request, PG_GETARG_ARRAYTYPE_P(0), true);
+  borrow_elements(&request, PG_GETARG_ARRAYTYPE_P(0), true);
   if (request.count == 0) PG_RETURN_NULL();
   answer = answer_of(&request);
   if (answer.reply.status == MERGEJOIN_RESULT) PG_RETURN_NULL();
   if (answer.reply.status != MERGEJOIN_CONFLICT) refuse(&answer);
-  initStringInfo(&told);
-  appendStringInfo(&told, "{\"first\":%zu,\"second\":%zu,\"places\":", answer.reply.first, answer.reply.second);
-  appendBinaryStringInfo(&told, VARDATA(answer.value), answer.reply.length);
-  appendStringInfoChar(&told, '}');
-  PG_RETURN_TEXT_P(cstring_to_text_with_len(told.data, told.len));
+  initStringInfo(&report);
+  appendStringInfo(&report, "{\"first\":%zu,\"second\":%zu,\"places\":", answer.reply.first, answer.reply.second);
+  appendBinaryStringInfo(&report, VARDATA(answer.value), answer.reply.length);
+  appendStringInfoChar(&report, '}');
+  PG_RETURN_TEXT_P(cstring_to_text_with_len(report.data, report.len));
 }

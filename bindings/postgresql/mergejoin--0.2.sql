@@ -47,7 +47,7 @@ CREATE FUNCTION mergejoin_get(document jsonb, pointer text) RETURNS jsonb
   LANGUAGE SQL IMMUTABLE STRICT PARALLEL SAFE COST 100
   RETURN mergejoin_get(document::json, pointer)::jsonb;
 
--- What the aggregates are made of. A function with a state of type internal takes NULL where there is no state yet.
+-- What the aggregates are made of. A function with a state of type internal takes NULL if there is no state yet.
 
 CREATE FUNCTION mergejoin_agg_take(internal, json) RETURNS internal
   LANGUAGE C IMMUTABLE PARALLEL SAFE COST 100 AS 'MODULE_PATHNAME', 'mergejoin_take_json';
@@ -76,8 +76,8 @@ CREATE FUNCTION mergejoin_try_agg_final_json(internal) RETURNS json
 CREATE FUNCTION mergejoin_try_agg_final_jsonb(internal) RETURNS jsonb
   LANGUAGE C IMMUTABLE STRICT PARALLEL SAFE COST 100 AS 'MODULE_PATHNAME', 'mergejoin_joined_or_null_jsonb';
 
-CREATE FUNCTION mergejoin_clash_agg_final(json[]) RETURNS json
-  LANGUAGE C IMMUTABLE STRICT PARALLEL SAFE COST 100 AS 'MODULE_PATHNAME', 'mergejoin_first_clash';
+CREATE FUNCTION mergejoin_conflict_agg_final(json[]) RETURNS json
+  LANGUAGE C IMMUTABLE STRICT PARALLEL SAFE COST 100 AS 'MODULE_PATHNAME', 'mergejoin_first_conflict';
 
 -- The join of a group. A state has its join so far and at least 1 kB of texts.
 
@@ -91,7 +91,7 @@ CREATE AGGREGATE mergejoin_agg(jsonb) (
   COMBINEFUNC = mergejoin_agg_combine, SERIALFUNC = mergejoin_agg_serialize,
   DESERIALFUNC = mergejoin_agg_deserialize, PARALLEL = SAFE);
 
--- The same, but NULL where two clash.
+-- The same, but NULL if two conflict.
 
 CREATE AGGREGATE mergejoin_try_agg(json) (
   STYPE = internal, SSPACE = 2048, SFUNC = mergejoin_agg_take, FINALFUNC = mergejoin_try_agg_final_json,
@@ -103,7 +103,7 @@ CREATE AGGREGATE mergejoin_try_agg(jsonb) (
   COMBINEFUNC = mergejoin_agg_combine, SERIALFUNC = mergejoin_agg_serialize,
   DESERIALFUNC = mergejoin_agg_deserialize, PARALLEL = SAFE);
 
--- The first two patches of a group that clash, in the order of the call, and where. It keeps all of them.
+-- The first two patches of a group that conflict, in the order of the call, and where. It keeps all of them.
 
-CREATE AGGREGATE mergejoin_clash_agg(json) (
-  STYPE = json[], SSPACE = 8192, SFUNC = array_append, FINALFUNC = mergejoin_clash_agg_final, PARALLEL = SAFE);
+CREATE AGGREGATE mergejoin_conflict_agg(json) (
+  STYPE = json[], SSPACE = 8192, SFUNC = array_append, FINALFUNC = mergejoin_conflict_agg_final, PARALLEL = SAFE);

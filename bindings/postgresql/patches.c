@@ -2,11 +2,11 @@
  * The state of an aggregate: the join of the patches of a group so far, and the texts since.
  *
  * The texts since are joined with the join so far once they are as long as it, and have 1 kB, so that each patch costs about
- * the same, however many there are. That two patches clash is kept as a state that takes all further texts, and still reads
- * them, so that a text which is no patch is an error in every order and plan.
+ * the same, however many there are. That two patches conflict is kept as a state that takes all further texts, and still
+ * reads them, so that a text which is not a patch is an error in every order and plan.
  *
- * A Patches and all that it has stand in one memory context: that of the aggregate or, where it was read from bytes, that of
- * the one call that takes it in. What a call of the library makes besides is let go when that is over.
+ * A Patches and all that it has are in one memory context: that of the aggregate or, if it was read from bytes, that of the
+ * one call that takes it in. What a call of the library makes in addition is freed when that is over.
  */
 #include "calls.h"
 
@@ -19,17 +19,17 @@
 
 /* Texts are joined once they have so many bytes. */
 #define LEAST 1024
-/* As many bytes of a text that is no patch are told. */
-#define TOLD 200
-/* What a clash is written as for another process, which is no JSON text. */
-#define CLASH "!"
+/* As many bytes of a text that is not a patch are reported. */
+#define REPORTED 200
+/* What a conflict is written as for another process, which is not a JSON text. */
+#define CONFLICT "!"
 
 typedef struct Patches {
-  MemoryContext context; /* in which all of it stands */
-  text *joined;          /* NULL before the first join, and where two clash */
-  StringInfoData since;  /* the texts since, each behind its length */
+  MemoryContext context; /* in which all of it is */
+  text *joined;          /* NULL before the first join, and if two conflict */
+  StringInfoData since;  /* the texts since, each after its length */
   size_t count;          /* of the texts since */
-  bool is_clash;
+  bool is_conflict;
 } Patches;
 
 PG_FUNCTION_INFO_V1(mergejoin_take_json);
@@ -42,7 +42,7 @@ PG_FUNCTION_INFO_V1(mergejoin_joined_jsonb);
 PG_FUNCTION_INFO_V1(mergejoin_joined_or_null_json);
 PG_FUNCTION_INFO_V1(mergejoin_joined_or_null_jsonb);
 
-/* Gives a Patches of no text, which the memory context owns. */
+/* Returns a Patches of no text, which the memory context owns. */
 static Patches *new_patches(MemoryContext context) {
   Patches *patches = MemoryContextAllocZero(context, sizeof(Patches));
 
@@ -52,7 +52,7 @@ static Patches *new_patches(MemoryContext context) {
   return patches;
 }
 
-/* Lets the join so far go, and keeps a copy of another, or nothing in its place. */
+/* Frees the join so far, and keeps a copy of another, or nothing in its place. */
 static void keep(Patches *patches, const text *joined) {
   if (patches->joined) pfree(patches->joined);
   patches->joined = NULL;
@@ -61,12 +61,12 @@ static void keep(Patches *patches, const text *joined) {
   memcpy(patches->joined, joined, VARSIZE(joined));
 }
 
-static void keep_clash(Patches *patches) {
-  patches->is_clash = true;
+static void keep_conflict(Patches *patches) {
+  patches->is_conflict = true;
   keep(patches, NULL);
 }
 
-/* Gives the text since that begins at an offset, which it moves behind it. The bytes stay those of the Patches. */
+/* Returns the pending text at *offset, whose bytes stay those of the Patches, and advances *offset. */
 static mergejoin_text next_since(const Patches *patches, size_t *offset) {
   mergejoin_text text;
 
@@ -76,17 +76,17 @@ static mergejoin_text next_since(const Patches *patches, size_t *offset) {
   return text;
 }
 
-/* Raises that a text of the group is no patch, and how it begins. */
+/* Raises that a text of the group is not a patch, and how it begins. */
 static void refuse_patch(const Answer *answer, mergejoin_text wrong) {
   const char *bytes = (const char *)wrong.bytes;
-  int told = pg_mbcliplen(bytes, (int)wrong.length, TOLD);
+  int length = pg_mbcliplen(bytes, (int)wrong.length, REPORTED);
 
   ereport(ERROR, errcode(ERRCODE_INVALID_JSON_TEXT),
-          errmsg("invalid patch in the group: %s", text_to_cstring(answer->value)),
-          errdetail("The patch is %s%s", pnstrdup(bytes, told), told < wrong.length ? ".." : ""));
+          errmsg("patch of the group: %s", text_to_cstring(answer->value)),
+          errdetail("The patch is %s%s", pnstrdup(bytes, length), length < wrong.length ? ".." : ""));
 }
 
-/* Joins the texts since with the join so far. Where two clash, it reads them alone. */
+/* Joins the texts since with the join so far. If two conflict, it only reads them. */
 static void join_since(Patches *patches) {
   Request request = {EXPORT_JOIN};
   mergejoin_text *texts;
@@ -95,15 +95,15 @@ static void join_since(Patches *patches) {
 
   if (patches->count == 0) return;
   request.texts = texts = palloc_extended((patches->count + 1) * sizeof(mergejoin_text), MCXT_ALLOC_HUGE);
-  if (patches->joined) texts[request.count++] = lent(patches->joined);
+  if (patches->joined) texts[request.count++] = borrowed(patches->joined);
   while (offset < patches->since.len) texts[request.count++] = next_since(patches, &offset);
   answer = answer_of(&request);
   if (answer.reply.status == MERGEJOIN_PATCH) refuse_patch(&answer, texts[answer.reply.first]);
   if (answer.reply.status == MERGEJOIN_CONFLICT)
-    keep_clash(patches);
+    keep_conflict(patches);
   else if (answer.reply.status != MERGEJOIN_RESULT)
     refuse(&answer);
-  else if (!patches->is_clash)
+  else if (!patches->is_conflict)
     keep(patches, answer.value);
   resetStringInfo(&patches->since);
   patches->count = 0;
@@ -122,7 +122,7 @@ static void take(Patches *patches, mergejoin_text text) {
   if (since >= Max(LEAST, joined)) join_since(patches);
 }
 
-/* Gives the memory context of the aggregate that calls, which owns its states. */
+/* Returns the memory context of the aggregate that calls, which owns its states. */
 static MemoryContext context_of(FunctionCallInfo fcinfo) {
   MemoryContext context;
 
@@ -131,12 +131,12 @@ static MemoryContext context_of(FunctionCallInfo fcinfo) {
   return context;
 }
 
-/* Gives an argument that is a state, or NULL. */
+/* Returns an argument that is a state, or NULL. */
 static Patches *patches_of(FunctionCallInfo fcinfo, int number) {
   return PG_ARGISNULL(number) ? NULL : (Patches *)PG_GETARG_POINTER(number);
 }
 
-/* Takes a text in, and gives the state, which is made with the first text of the group. */
+/* Takes a text in, and returns the state, which is made with the first text of the group. */
 static Datum taken(FunctionCallInfo fcinfo, MemoryContext context, mergejoin_text text) {
   Patches *patches = patches_of(fcinfo, 0);
 
@@ -145,7 +145,7 @@ static Datum taken(FunctionCallInfo fcinfo, MemoryContext context, mergejoin_tex
   PG_RETURN_POINTER(patches);
 }
 
-/* Gives the state as it is, since a row has NULL. */
+/* Returns the state as it is, since a row has NULL. */
 static Datum passed_over(FunctionCallInfo fcinfo) {
   if (PG_ARGISNULL(0)) PG_RETURN_NULL();
   return PG_GETARG_DATUM(0);
@@ -155,7 +155,7 @@ Datum mergejoin_take_json(PG_FUNCTION_ARGS) {
   MemoryContext context = context_of(fcinfo);
 
   if (PG_ARGISNULL(1)) return passed_over(fcinfo);
-  return taken(fcinfo, context, lent(PG_GETARG_TEXT_PP(1)));
+  return taken(fcinfo, context, borrowed(PG_GETARG_TEXT_PP(1)));
 }
 
 Datum mergejoin_take_jsonb(PG_FUNCTION_ARGS) {
@@ -182,37 +182,37 @@ Datum mergejoin_combine(PG_FUNCTION_ARGS) {
     patches = new_patches(context);
     keep(patches, other->joined);
   } else if (other->joined) {
-    take(patches, lent(other->joined));
+    take(patches, borrowed(other->joined));
   }
-  if (other->is_clash) keep_clash(patches);
+  if (other->is_conflict) keep_conflict(patches);
   while (offset < other->since.len) take(patches, next_since(other, &offset));
   PG_RETURN_POINTER(patches);
 }
 
-/* Gives a state as bytes: the join of its texts, or that two clash. */
+/* Returns a state as bytes: the join of its texts, or that two conflict. */
 Datum mergejoin_serialize(PG_FUNCTION_ARGS) {
   Patches *patches = patches_of(fcinfo, 0);
 
   context_of(fcinfo);
   join_since(patches);
-  PG_RETURN_BYTEA_P(patches->is_clash ? cstring_to_text(CLASH) : patches->joined);
+  PG_RETURN_BYTEA_P(patches->is_conflict ? cstring_to_text(CONFLICT) : patches->joined);
 }
 
-/* Gives the state of bytes. */
+/* Returns the state of bytes. */
 Datum mergejoin_deserialize(PG_FUNCTION_ARGS) {
   bytea *written = PG_GETARG_BYTEA_P(0);
   Patches *patches;
 
   context_of(fcinfo);
   patches = new_patches(CurrentMemoryContext);
-  if (VARSIZE(written) == VARHDRSZ + strlen(CLASH) && memcmp(VARDATA(written), CLASH, strlen(CLASH)) == 0)
-    keep_clash(patches);
+  if (VARSIZE(written) == VARHDRSZ + strlen(CONFLICT) && memcmp(VARDATA(written), CONFLICT, strlen(CONFLICT)) == 0)
+    keep_conflict(patches);
   else
     keep(patches, written);
   PG_RETURN_POINTER(patches);
 }
 
-/* Gives the join of a group, which stays the state's, or NULL where two clash. There is a state where there was a text. */
+/* Returns the join of a group, which stays the state's, or NULL if two conflict. There is a state if there was a text. */
 static text *joined_of(FunctionCallInfo fcinfo) {
   Patches *patches = patches_of(fcinfo, 0);
 
@@ -221,17 +221,17 @@ static text *joined_of(FunctionCallInfo fcinfo) {
   return patches->joined;
 }
 
-/* The same, but two that clash are an error. */
+/* The same, but two that conflict are an error. */
 static text *wanted_of(FunctionCallInfo fcinfo) {
   text *joined = joined_of(fcinfo);
 
   if (!joined)
-    ereport(ERROR, errcode(ERRCODE_MERGEJOIN_CONFLICT), errmsg("two patches of the group clash"),
-            errhint("mergejoin_clash_agg(patch ORDER BY ..) tells which are the first, and where."));
+    ereport(ERROR, errcode(ERRCODE_MERGEJOIN_CONFLICT), errmsg("conflict: two patches of the group"),
+            errhint("mergejoin_conflict_agg(patch ORDER BY ..) returns the first two, and where they conflict."));
   return joined;
 }
 
-/* Gives a text as a value of jsonb in the current memory context, or NULL of none. */
+/* Returns a text as a value of jsonb in the current memory context, or NULL if there is none. */
 static Datum as_jsonb(FunctionCallInfo fcinfo, const text *joined) {
   if (!joined) PG_RETURN_NULL();
   return DirectFunctionCall1(jsonb_in, CStringGetDatum(text_to_cstring(joined)));

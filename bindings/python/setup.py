@@ -1,4 +1,4 @@
-"""Puts the shared library into the wheel: that of out/lib, where bin/library makes it, or of the folder that MERGEJOIN_LIB
+"""Puts the shared library into the wheel: that of out/lib, where bin/library makes it, or of the directory that MERGEJOIN_LIB
 names. What else there is to say of the package stands in pyproject.toml.
 """
 
@@ -18,13 +18,13 @@ HERE = pathlib.Path(__file__).resolve().parent
 
 
 class WithLibrary(build_py):
-    """Lays the library beside the modules."""
+    """Lays the library next to the modules."""
 
     def run(self):
         super().run()
         library = pathlib.Path(os.environ.get("MERGEJOIN_LIB") or HERE / "../../out/lib") / NAME
         if not library.is_file():
-            raise SystemExit(f"there is no {NAME}: bin/library makes it, and MERGEJOIN_LIB may name the folder where it is")
+            raise SystemExit(f"there is no {NAME}: bin/library makes it, and MERGEJOIN_LIB may name the directory where it is")
         if not getattr(self, "editable_mode", False):  # which setuptools has from 64 on
             self.copy_file(str(library), os.path.join(self.build_lib, "mergejoin", NAME))
 

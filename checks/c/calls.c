@@ -1,4 +1,4 @@
-// Makes the calls of rows in one of several ways, and tells what is wrong. Standard input has a row a line: the number of
+// Makes the calls of rows in one of several ways, and reports what is wrong. Standard input has a row a line: the number of
 // the export, the status, the two numbers, the text and then what the call is given, the texts in hexadecimal digits behind
 // an x. Malloc, realloc and free are wrapped, so that requests can be refused and what is not given back is counted.
 #include <pthread.h>
@@ -65,15 +65,15 @@ void __wrap_free(void *block) {
 
 // ---- calls
 
-static mergejoin_reply call(const row *it, const mergejoin_text *given, uint8_t *out, size_t room) {
+static mergejoin_reply call(const row *it, const mergejoin_text *given, uint8_t *out, size_t buffer) {
   const mergejoin_text *rest = given + 1;
   switch (it->export) {
-  case JOIN: return mergejoin_join(given, it->count, out, room);
-  case REPLAY: return mergejoin_replay(given->bytes, given->length, rest, it->count - 1, out, room);
-  case MERGE: return mergejoin_merge(given->bytes, given->length, rest, it->count - 1, out, room);
-  case REWRITE: return mergejoin_rewrite(given->bytes, given->length, rest->bytes, rest->length, out, room);
-  case PATCH: return mergejoin_patch(given->bytes, given->length, rest->bytes, rest->length, out, room);
-  default: return mergejoin_get(given->bytes, given->length, rest->bytes, rest->length, out, room);
+  case JOIN: return mergejoin_join(given, it->count, out, buffer);
+  case REPLAY: return mergejoin_replay(given->bytes, given->length, rest, it->count - 1, out, buffer);
+  case MERGE: return mergejoin_merge(given->bytes, given->length, rest, it->count - 1, out, buffer);
+  case REWRITE: return mergejoin_rewrite(given->bytes, given->length, rest->bytes, rest->length, out, buffer);
+  case PATCH: return mergejoin_patch(given->bytes, given->length, rest->bytes, rest->length, out, buffer);
+  default: return mergejoin_get(given->bytes, given->length, rest->bytes, rest->length, out, buffer);
   }
 }
 
@@ -93,45 +93,45 @@ static int is_same(mergejoin_reply one, mergejoin_reply other) {
   return one.length == other.length && one.first == other.first && one.second == other.second && one.status == other.status;
 }
 
-static void tell(const row *it, const char *what, size_t number, mergejoin_reply reply) {
+static void report(const row *it, const char *what, size_t number, mergejoin_reply reply) {
   wrong += 1;
   if (wrong > 20) return;
   printf("row %zu, %s %zu: status %u, numbers %zu and %zu, length %zu\n", (size_t)(it - rows) + 1, what, number,
          reply.status, reply.first, reply.second, reply.length);
 }
 
-// Whether the room begins with the row's text, as far as it goes, and has dots behind that.
-static int is_room(const row *it, const uint8_t *room, size_t size, size_t length) {
+// Whether the buffer begins with the row's text, as far as it goes, and has dots after that.
+static int is_buffer(const row *it, const uint8_t *buffer, size_t size, size_t length) {
   for (size_t place = 0; place < size + BEHIND; place += 1) {
     uint8_t wanted = place < size && place < length ? it->text[place] : '.';
-    if (room[place] != wanted) return 0;
+    if (buffer[place] != wanted) return 0;
   }
   return 1;
 }
 
 static int is_answered(const row *it, size_t size) {
-  uint8_t *room = malloc(size + BEHIND);
-  memset(room, '.', size + BEHIND);
-  mergejoin_reply reply = call(it, it->given, room, size);
-  int same = is_same(reply, it->reply) && is_room(it, room, size, reply.length);
-  free(room);
+  uint8_t *buffer = malloc(size + BEHIND);
+  memset(buffer, '.', size + BEHIND);
+  mergejoin_reply reply = call(it, it->given, buffer, size);
+  int same = is_same(reply, it->reply) && is_buffer(it, buffer, size, reply.length);
+  free(buffer);
   return same;
 }
 
 // ---- the ways
 
-// Each room from none to two bytes more than the text.
-static void in_rooms(void) {
+// Each buffer from none to two bytes more than the text.
+static void in_buffers(void) {
   size_t calls = 0;
   for (row *it = rows; it < rows + row_count; it += 1) {
     for (size_t size = 0; size <= it->reply.length + 2; size += 1, calls += 1) {
-      if (!is_answered(it, size)) tell(it, "room", size, it->reply);
+      if (!is_answered(it, size)) report(it, "buffer", size, it->reply);
     }
   }
-  printf("%zu calls in rooms of each size, %zu wrong\n", calls, wrong);
+  printf("%zu calls in buffers of each size, %zu wrong\n", calls, wrong);
 }
 
-// What is lent, and the room, in blocks of their own that end where they end.
+// What is borrowed, and the buffer, in blocks of their own that end where they end.
 static void in_blocks(void) {
   for (row *it = rows; it < rows + row_count; it += 1) {
     mergejoin_text *given = malloc(sizeof it->given);
@@ -143,10 +143,10 @@ static void in_blocks(void) {
     }
     size_t sizes[] = {0, it->reply.length / 2, it->reply.length};
     for (size_t number = 0; number < 3; number += 1) {
-      uint8_t *room = malloc(sizes[number]);
-      mergejoin_reply reply = call(it, given, room, sizes[number]);
-      if (!is_same(reply, it->reply) || memcmp(room, it->text, sizes[number])) tell(it, "block", sizes[number], reply);
-      free(room);
+      uint8_t *buffer = malloc(sizes[number]);
+      mergejoin_reply reply = call(it, given, buffer, sizes[number]);
+      if (!is_same(reply, it->reply) || memcmp(buffer, it->text, sizes[number])) report(it, "block", sizes[number], reply);
+      free(buffer);
     }
     for (size_t number = 0; number < it->count; number += 1) free((void *)(uintptr_t)given[number].bytes);
     free(given);
@@ -154,28 +154,28 @@ static void in_blocks(void) {
   printf("%zu rows in blocks of their own, %zu wrong\n", row_count, wrong);
 }
 
-// By the helpers that make a room.
-static void in_rooms_of_their_own(void) {
+// By the helpers that make a buffer.
+static void in_buffers_of_their_own(void) {
   for (row *it = rows; it < rows + row_count; it += 1) {
     mergejoin_reply reply;
     char *text = call_new(it, &reply);
     if (!text || !is_same(reply, it->reply) || memcmp(text, it->text, reply.length) || text[reply.length])
-      tell(it, "a room of its own", 0, reply);
+      report(it, "a buffer of its own", 0, reply);
     free(text);
   }
-  printf("%zu rows in rooms of their own, %zu wrong\n", row_count, wrong);
+  printf("%zu rows in buffers of their own, %zu wrong\n", row_count, wrong);
 }
 
-// Request number `refused_at` is refused, or each from it on: want of memory, with the room as it was, or the answer.
-static int is_refused_well(const row *it, uint8_t *room, mergejoin_reply *reply) {
-  memset(room, '.', it->reply.length + BEHIND);
+// Request number `refused_at` is refused, or each from it on: out of memory, with the buffer as it was, or the answer.
+static int is_refused_well(const row *it, uint8_t *buffer, mergejoin_reply *reply) {
+  memset(buffer, '.', it->reply.length + BEHIND);
   requests = refusals = 0, live = 0, counting = 1;
-  *reply = call(it, it->given, room, it->reply.length);
+  *reply = call(it, it->given, buffer, it->reply.length);
   counting = 0;
   if (live) return 0;
-  if (is_same(*reply, it->reply)) return is_room(it, room, it->reply.length, reply->length);
+  if (is_same(*reply, it->reply)) return is_buffer(it, buffer, it->reply.length, reply->length);
   return refusals && reply->status == MERGEJOIN_NO_MEMORY && !reply->length && !reply->first && !reply->second &&
-         is_room(it, room, 0, 0) && is_room(it, room + it->reply.length, 0, 0);
+         is_buffer(it, buffer, 0, 0) && is_buffer(it, buffer + it->reply.length, 0, 0);
 }
 
 // The helper under the same heap gives a text, or none and says so.
@@ -192,44 +192,44 @@ static int is_made_well(const row *it, mergejoin_reply *reply) {
 static void with_a_heap_that_refuses(void) {
   size_t calls = 0, wants = 0;
   for (row *it = rows; it < rows + row_count; it += 1) {
-    uint8_t *room = malloc(it->reply.length + BEHIND);
+    uint8_t *buffer = malloc(it->reply.length + BEHIND);
     for (refuses_on = 0; refuses_on < 2; refuses_on += 1) {
       for (refused_at = 1;; refused_at += 1, calls += 1) {
         mergejoin_reply reply, made;
-        if (!is_made_well(it, &made)) tell(it, "helper, request", refused_at, made);
+        if (!is_made_well(it, &made)) report(it, "helper, request", refused_at, made);
         size_t left = refusals;
-        if (!is_refused_well(it, room, &reply)) tell(it, "request", refused_at, reply);
+        if (!is_refused_well(it, buffer, &reply)) report(it, "request", refused_at, reply);
         wants += reply.status == MERGEJOIN_NO_MEMORY;
         if (!refusals && !left) break;
       }
     }
-    free(room);
+    free(buffer);
   }
-  printf("%zu calls with requests refused, %zu of them told, %zu wrong\n", calls, wants, wrong);
+  printf("%zu calls with requests refused, %zu of them reported, %zu wrong\n", calls, wants, wrong);
   wrong += wants < row_count;
 }
 
-static void *all_rows(void *told) {
+static void *all_rows(void *reported) {
   for (int times = 0; times < 20; times += 1) {
-    for (row *it = rows; it < rows + row_count; it += 1) *(size_t *)told += !is_answered(it, it->reply.length);
+    for (row *it = rows; it < rows + row_count; it += 1) *(size_t *)reported += !is_answered(it, it->reply.length);
   }
   return NULL;
 }
 
 static void in_threads(void) {
   pthread_t threads[THREADS];
-  size_t told[THREADS] = {0};
-  for (int number = 0; number < THREADS; number += 1) pthread_create(&threads[number], NULL, all_rows, &told[number]);
+  size_t reported[THREADS] = {0};
+  for (int number = 0; number < THREADS; number += 1) pthread_create(&threads[number], NULL, all_rows, &reported[number]);
   for (int number = 0; number < THREADS; number += 1) {
     pthread_join(threads[number], NULL);
-    wrong += told[number];
+    wrong += reported[number];
   }
   printf("%d threads, %zu rows 20 times, %zu wrong\n", THREADS, row_count, wrong);
 }
 
 // ---- the stack
 
-static uint8_t stack_room[1 << 16];
+static uint8_t stack_buffer[1 << 16];
 
 typedef struct measured {
   const row *it;
@@ -238,7 +238,7 @@ typedef struct measured {
 
 static void *on_a_stack(void *call_of) {
   measured *here = call_of;
-  if (here->it) here->reply = call(here->it, here->it->given, stack_room, sizeof stack_room);
+  if (here->it) here->reply = call(here->it, here->it->given, stack_buffer, sizeof stack_buffer);
   return NULL;
 }
 
@@ -264,7 +264,7 @@ static void on_stacks(void) {
   for (row *it = rows; it < rows + row_count; it += 1) {
     measured here = {.it = it};
     size_t size = stack_of(&here) - none;
-    if (!is_same(here.reply, it->reply) || memcmp(stack_room, it->text, it->reply.length)) tell(it, "stack", size, here.reply);
+    if (!is_same(here.reply, it->reply) || memcmp(stack_buffer, it->text, it->reply.length)) report(it, "stack", size, here.reply);
     if (size > most) most = size;
   }
   printf("%zu bytes of stack at the most, %zu wrong\n", most, wrong);
@@ -297,7 +297,7 @@ static void read_rows(void) {
 
 int main(int count, char **words) {
   static const struct { const char *name; void (*run)(void); } ways[] = {
-      {"rooms", in_rooms}, {"blocks", in_blocks}, {"own", in_rooms_of_their_own},
+      {"buffers", in_buffers}, {"blocks", in_blocks}, {"own", in_buffers_of_their_own},
       {"refused", with_a_heap_that_refuses}, {"threads", in_threads}, {"stack", on_stacks}};
   read_rows();
   for (size_t number = 0; count == 2 && number < sizeof ways / sizeof *ways; number += 1) {

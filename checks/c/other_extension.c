@@ -16,10 +16,10 @@ PG_MODULE_MAGIC;
   }
 
 ANSWERS_NONSENSE(answer_of)
-ANSWERS_NONSENSE(lent)
+ANSWERS_NONSENSE(borrowed)
 ANSWERS_NONSENSE(mergejoin_combine)
 ANSWERS_NONSENSE(mergejoin_deserialize)
-ANSWERS_NONSENSE(mergejoin_first_clash)
+ANSWERS_NONSENSE(mergejoin_first_conflict)
 ANSWERS_NONSENSE(mergejoin_get)
 ANSWERS_NONSENSE(mergejoin_join)
 ANSWERS_NONSENSE(mergejoin_joined_json)

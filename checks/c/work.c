@@ -1,4 +1,4 @@
-// Makes one call of the library, for a heap that counts (checks/heap/refusing_heap.c). It takes no memory from the heap itself, so
+// Makes one call of the library, for a heap that counts (checks/heap/failing_allocator.c). It takes no memory from the heap itself, so
 // that heap counts what the call takes alone. Standard input has the number of the export, and for each text its length and its
 // bytes; the numbers have eight bytes each. The text of the answer is written to standard output, and the status is that of
 // the reply, or the one for an input that does not fit.

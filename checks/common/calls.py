@@ -9,7 +9,7 @@ PROGRAM = TOP / "out/mergejoin"
 
 
 def is_proved():
-    """Proves and builds the program where it must be, and tells if it stands."""
+    """Proves and builds the program where it must be, and says whether it is there."""
     if subprocess.run([TOP / "bin/prove"], stdin=subprocess.DEVNULL).returncode == 0:
         return True
     print("nothing was run, since bin/prove failed")
@@ -17,7 +17,7 @@ def is_proved():
 
 
 def has_library():
-    """Proves and builds the library where it must be, or waits for a check that does, and tells if it stands."""
+    """Proves and builds the library where it must be, or waits for a check that does, and says whether it is there."""
     if subprocess.run([TOP / "bin/library"], stdin=subprocess.DEVNULL).returncode == 0:
         return True
     print("nothing was run, since bin/library failed")
@@ -27,17 +27,17 @@ def has_library():
 class Calls:
     """Counts what was looked at, and what of it was wrong."""
 
-    def __init__(self, folder):
-        self.folder, self.count, self.wrong = pathlib.Path(folder), 0, 0
+    def __init__(self, directory):
+        self.directory, self.count, self.wrong = pathlib.Path(directory), 0, 0
 
     def run(self, words, given=b"", setting=None, shell=False, **how):
-        """Runs words in the folder, and gives the status and both streams."""
-        folder, limit = how.pop("cwd", self.folder), how.pop("limit", 60)
+        """Runs words in the directory, and gives the status and both streams."""
+        directory, limit = how.pop("cwd", self.directory), how.pop("limit", 60)
         done = subprocess.run(
             ["bash", "-c", words] if shell else words,
             input=given if isinstance(given, bytes) else given.encode(),
             capture_output=True,
-            cwd=folder,
+            cwd=directory,
             env={**os.environ, **(setting or {})},
             timeout=limit,
             check=False,
@@ -54,10 +54,10 @@ class Calls:
         if seen != wanted:
             self.wrong += 1
             print(f"{what}\n  should end with {wanted}\n  but ends with   {seen}"[:3000], flush=True)
-            if "AT_FIRST" in os.environ:  # checks/wrong-edits wants to know no more
+            if "AT_FIRST" in os.environ:  # checks/check-mutants wants to know no more
                 raise SystemExit(1)
 
-    def told(self, least, kind):
+    def reported(self, least, kind):
         """Prints the counts, and gives the status of the check, which wants at least so many."""
         print(f"{self.count - self.wrong} of {self.count} {kind} as they should")
         return 1 if self.wrong or self.count < least else 0

@@ -1,7 +1,7 @@
 #!/usr/bin/env bash
 # A toolchain that proves nothing, for the checks of the scripts: what it builds and what it tries print their words and
-# what they read. A program with a stamp beside it is taken as built. It fails at mp_patch where FAILS is set, and at a try
-# where REFUSES is; where SLOW names a file it makes it and waits, until it is told to stop, and then takes the file away. If
+# what they read. A program with a stamp next to it is taken as built. It fails at mp_patch where FAILS is set, and at a try
+# where REFUSES is; where SLOW names a file it makes it and waits, until a signal stops it, and then takes the file away. If
 # EDITS names a source of mp_tree, that is edited just before mp_tree is proved, and put back at the end unless STAYS is set;
 # what is built says which text was read. Its gate says what is in GATE, and ends with ENDS; if TOUCHES names a file or a
 # directory, it changes or moves that, and puts it back.

@@ -1,4 +1,4 @@
-"""The package for Python, made with the library that stands in out/lib, and environments in which it is installed."""
+"""The package for Python, made with the library that is in out/lib, and environments in which it is installed."""
 
 import os
 import re
@@ -18,7 +18,7 @@ SETTING = {"PATH": "/usr/bin:/bin", "PIP_DISABLE_PIP_VERSION_CHECK": "1", "PIP_R
 
 
 def lacks(needed):
-    """Gives what is not there that a check of the package needs, with these modules and their packages beside; or nothing."""
+    """Gives what is not there that a check of the package needs, with these modules and their packages; or nothing."""
     if not os.access(PYTHON, os.X_OK):
         return f"{PYTHON} is not there"
     missing = [package for module, package in {**NEEDED, **needed}.items()
@@ -34,37 +34,37 @@ def version():
     return re.search(r"^## ([\d.]+) ", (TOP / "CHANGELOG.md").read_text("utf-8"), re.M)[1]
 
 
-def making(folder):
-    """The command that makes the wheel of ./source in a folder."""
+def making(directory):
+    """The command that makes the wheel of ./source in a directory."""
     return [PYTHON, "-m", "pip", "--isolated", "wheel", "--quiet", "--no-deps", "--no-index", "--no-build-isolation",
-            "--wheel-dir", folder, "./source"]
+            "--wheel-dir", directory, "./source"]
 
 
 def made_wheel(calls):
-    """Makes the wheel of a copy of the sources, in the folder of calls."""
+    """Makes the wheel of a copy of the sources, in the directory of calls."""
     copy_sources(calls)
     calls.expect("the making", making("made"), 0, "", "", setting=SETTING)
-    return calls.folder / "made" / WHEEL.format(version())
+    return calls.directory / "made" / WHEEL.format(version())
 
 
 def copy_sources(calls):
     ignored = shutil.ignore_patterns("build", "*.egg-info", "__pycache__")
-    shutil.copytree(SOURCES, calls.folder / "source", ignore=ignored, dirs_exist_ok=True)
+    shutil.copytree(SOURCES, calls.directory / "source", ignore=ignored, dirs_exist_ok=True)
 
 
 def environment(calls, wheel, *how):
     """Installs the wheel in a virtual environment that is made so, and gives its interpreter."""
-    python = calls.folder / "env/bin/python"
+    python = calls.directory / "env/bin/python"
     calls.expect("an environment", [PYTHON, "-m", "venv", "--without-pip", *how, "env"], 0, "", "", setting=SETTING)
     into = [PYTHON, "-m", "pip", "--isolated", "--python", python, "install", "--quiet", "--no-index", "--no-deps", wheel]
     calls.expect("the installing", into, 0, "", "", setting=SETTING)
     return python
 
 
-def run_tests(calls, python, folder, least, *flags):
-    """Runs the tests of a folder, at least so many, none of them skipped, and gives how many."""
-    first = ["-f"] if "AT_FIRST" in os.environ else []  # checks/wrong-edits wants to know no more
-    words = [python, *flags, "-B", "-m", "unittest", "discover", *first, "-s", folder]
+def run_tests(calls, python, directory, least, *flags):
+    """Runs the tests of a directory, at least so many, none of them skipped, and gives how many."""
+    first = ["-f"] if "AT_FIRST" in os.environ else []  # checks/check-mutants wants to know no more
+    words = [python, *flags, "-B", "-m", "unittest", "discover", *first, "-s", directory]
     status, out, err = calls.run(words, setting=SETTING, limit=300)
     count = int((re.search(r"^Ran (\d+) tests", err, re.M) or [0, 0])[1])
     print(out, end="")

@@ -4,7 +4,7 @@ identity, and shows the start with those that clash with no other. The first one
     replica.py NAME FOLDER EPOCHS
 
 Mail is a file of JSON: what comes stands in FOLDER/in, what goes out to all is put into FOLDER/out, and FOLDER/log has a
-line for each thing that the replica does. The file of a letter appears by its last name only when it is whole.
+line for each thing that the replica does. The file of a message appears by its last name only when it is whole.
 """
 
 import json
@@ -27,24 +27,24 @@ def answer(command, texts):
 
 
 class Replica:
-    def __init__(self, name, folder):
-        self.name, self.folder, self.chance = name, folder, random.Random(name)
+    def __init__(self, name, directory):
+        self.name, self.directory, self.chance = name, directory, random.Random(name)
         self.epoch, self.start, self.patches, self.clashes = 0, "{}", {}, set()
-        self.waiting, self.decision, self.sent, self.letters = [], None, 0, 0
+        self.waiting, self.decision, self.sent, self.messages = [], None, 0, 0
         self.log("start", self.start)
 
     def log(self, what, *more):
-        with open(self.folder / "log", "a", encoding="utf-8") as file:
+        with open(self.directory / "log", "a", encoding="utf-8") as file:
             file.write(json.dumps([what, self.epoch, *more]) + "\n")
 
-    def send(self, **letter):
-        self.letters += 1
-        path = self.folder / "out" / f"{self.letters:05}"
-        path.with_suffix(".new").write_text(json.dumps(letter))
+    def send(self, **message):
+        self.messages += 1
+        path = self.directory / "out" / f"{self.messages:05}"
+        path.with_suffix(".new").write_text(json.dumps(message))
         path.with_suffix(".new").rename(path)
 
     def change(self, patch=None):
-        """Makes a patch for this start, of its own or anew, and tells all, itself too."""
+        """Makes a patch for this start, of its own or anew, and sends it to all, itself too."""
         place, value = self.chance.choice("abcdef"), self.chance.choice([None, 1, 2, {"x": 3}, {"y": None}, {"x": 4},
                                                                          [5]])
         self.sent += 1
@@ -52,15 +52,15 @@ class Replica:
                                     **({f"{self.name} {self.sent}": self.sent} if self.chance.random() < 0.5 else {})})
         self.send(kind="patch", epoch=self.epoch, identity=f"{self.name}.{self.sent}", patch=text)
 
-    def receive(self, letter):
+    def receive(self, message):
         """What is of an earlier start is dropped, and what is of a later one waits."""
-        if letter["epoch"] > self.epoch:
-            self.waiting.append(letter)
-        elif letter["epoch"] == self.epoch:
-            getattr(self, letter["kind"])(letter)
+        if message["epoch"] > self.epoch:
+            self.waiting.append(message)
+        elif message["epoch"] == self.epoch:
+            getattr(self, message["kind"])(message)
 
-    def patch(self, letter):
-        identity, text = letter["identity"], letter["patch"]
+    def patch(self, message):
+        identity, text = message["identity"], message["patch"]
         if identity not in self.patches:
             for other, there in self.patches.items():
                 if answer("join", [there, text])[0] == 1:
@@ -71,13 +71,13 @@ class Replica:
             self.log("shown", sorted(self.patches), status, shown)
         self.follow()
 
-    def ask(self, letter):
-        if letter["identity"] in self.patches:
-            self.send(kind="patch", epoch=self.epoch, identity=letter["identity"], patch=self.patches[letter["identity"]])
+    def ask(self, message):
+        if message["identity"] in self.patches:
+            self.send(kind="patch", epoch=self.epoch, identity=message["identity"], patch=self.patches[message["identity"]])
 
-    def decide(self, letter):
+    def decide(self, message):
         if self.decision is None:
-            self.decision = letter["ends"]
+            self.decision = message["ends"]
             for identity in set(self.decision) - set(self.patches):
                 self.send(kind="ask", epoch=self.epoch, identity=identity)
         self.follow()
@@ -99,8 +99,8 @@ class Replica:
             if self.chance.random() < 0.5:
                 self.change(text)
         waiting, self.waiting = self.waiting, []
-        for letter in waiting:
-            self.receive(letter)
+        for message in waiting:
+            self.receive(message)
 
     def end_start(self):
         """Decides: of those that clash the one counts that the others were not chosen over."""
@@ -113,7 +113,7 @@ class Replica:
     def run(self, epochs):
         read, changed, decided = set(), 0, -1
         while self.epoch < epochs:
-            for path in sorted((self.folder / "in").iterdir()):
+            for path in sorted((self.directory / "in").iterdir()):
                 if path.suffix != ".new" and path.name not in read:
                     read.add(path.name)
                     self.receive(json.loads(path.read_text()))

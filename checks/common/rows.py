@@ -1,11 +1,11 @@
 """Rows for what calls the library: an export, the status, the numbers and the text of its reply, and the texts that it is
-given. They are the worked examples (`worked.py`), each program's line told as a reply, and those below.
+given. They are the test vectors (`vectors.py`), each line of the program as a reply, and those below.
 """
 
 import json
 import re
 
-from worked import worked
+from vectors import vectors
 
 EXPORTS = ["join", "replay", "merge", "rewrite", "patch", "get"]
 
@@ -48,8 +48,8 @@ def elements_of(text):
 
 
 def reply_of(line, status):
-    """Gives the status, the numbers and the text of the reply that tells what a line of the program does, or nothing where
-    that tells of the input as a whole."""
+    """Gives the status, the numbers and the text of the reply that has what a line of the program says, or nothing if
+    that is about the input as a whole."""
     if line.startswith("input: "):
         return None
     if status == 0:
@@ -64,12 +64,12 @@ def reply_of(line, status):
     return {"missing": 4, "no patches": 2}[line], 0, 0, line
 
 
-def worked_rows():
-    """Gives the worked examples as rows like those above."""
-    for (export, *pointer), text, line, status in worked():
-        yield from told(export, text, line, status, [word.encode() for word in pointer])
+def vector_rows():
+    """Gives the test vectors as rows like those above."""
+    for (export, *pointer), text, line, status in vectors():
+        yield from reported(export, text, line, status, [word.encode() for word in pointer])
 
 
-def told(export, text, line, status, more):
+def reported(export, text, line, status, more):
     if reply := reply_of(line, status):
         yield export, *reply, elements_of(text) + more

@@ -1,7 +1,7 @@
-"""A PostgreSQL server of its own, with the extension: in a folder and on a socket there, with no port, and nothing that is
+"""A PostgreSQL server of its own, with the extension: in a directory and on a socket there, with no port, and nothing that is
 installed elsewhere.
 
-The server finds its libraries and extensions by where its program is. So a folder gets a copy of the programs, links to
+The server finds its libraries and extensions by where its program is. So a directory gets a copy of the programs, links to
 what else is installed, and in it the extension, by make install; there CREATE EXTENSION is as anywhere.
 """
 
@@ -20,7 +20,7 @@ OTHER_USER = "nobody"
 
 
 def config(name):
-    """Gives what pg_config tells by a name, which is nothing where it stands for no server."""
+    """Gives what pg_config says by a name, which is nothing if it is of no server."""
     done = subprocess.run(["pg_config", f"--{name}"], stdin=subprocess.DEVNULL, capture_output=True, text=True, check=False)
     return done.stdout.strip()
 
@@ -47,11 +47,11 @@ def lacking():
 class Server:
     """A server that runs as long as it is entered."""
 
-    def __init__(self, folder, library):
-        self.folder = pathlib.Path(folder)
-        self.root, self.data, self.build = self.folder / "root", self.folder / "data", self.folder / "build"
+    def __init__(self, directory, library):
+        self.directory = pathlib.Path(directory)
+        self.root, self.data, self.build = self.directory / "root", self.directory / "data", self.directory / "build"
         self.library = library
-        self.setting = {**os.environ, "PGHOST": str(self.folder), "PGUSER": OWNER, "PGDATABASE": "postgres",
+        self.setting = {**os.environ, "PGHOST": str(self.directory), "PGUSER": OWNER, "PGDATABASE": "postgres",
                         "MERGEJOIN_LIB": str(library), "LC_ALL": "C.UTF-8", "PGOPTIONS": ""}
         self.user = {}
         if os.geteuid() == 0:
@@ -73,12 +73,12 @@ class Server:
         return self.root / path.lstrip("/")
 
     def copy_server(self):
-        """Makes the folder of the server: programs that are copies, links to the other files. Whoever runs it may read them."""
+        """Makes the directory of the server: programs that are copies, links to the other files. Whoever runs it may read them."""
         os.umask(0o022)
         for name in ("pkglibdir", "sharedir"):
-            folder = self.below_root(config(name))
-            folder.parent.mkdir(parents=True, exist_ok=True)
-            self.run(["cp", "-as", config(name), folder])
+            directory = self.below_root(config(name))
+            directory.parent.mkdir(parents=True, exist_ok=True)
+            self.run(["cp", "-as", config(name), directory])
         self.program("").mkdir(parents=True)
         for name in ("postgres", "initdb", "pg_ctl"):
             shutil.copy2(pathlib.Path(config("bindir")) / name, self.program(name))
@@ -93,25 +93,25 @@ class Server:
     def __enter__(self):
         self.data.mkdir(mode=0o700)
         if self.user:
-            os.chown(self.folder, self.user["user"], self.user["group"])
+            os.chown(self.directory, self.user["user"], self.user["group"])
             os.chown(self.data, self.user["user"], self.user["group"])
         self.run([self.program("initdb"), "-D", self.data, "-U", OWNER, "-E", "UTF8", "--locale=C.UTF-8", "--auth=trust",
-                  "--no-sync", "--no-instructions"], cwd=self.folder, **self.user)
-        setting = {"listen_addresses": "", "unix_socket_directories": self.folder, "fsync": "off", "jit": "off",
+                  "--no-sync", "--no-instructions"], cwd=self.directory, **self.user)
+        setting = {"listen_addresses": "", "unix_socket_directories": self.directory, "fsync": "off", "jit": "off",
                    "max_worker_processes": 16, "max_parallel_workers": 16, "autovacuum": "off"}
         options = " ".join(f"-c {name}='{value}'" for name, value in setting.items())
         self.run([self.program("pg_ctl"), "start", "-w", "-s", "-D", self.data, "-l", self.data / "log", "-o", options],
-                 cwd=self.folder, **self.user)
+                 cwd=self.directory, **self.user)
         return self
 
     def __exit__(self, *_):
-        self.run([self.program("pg_ctl"), "stop", "-w", "-s", "-m", "immediate", "-D", self.data], cwd=self.folder, **self.user)
+        self.run([self.program("pg_ctl"), "stop", "-w", "-s", "-m", "immediate", "-D", self.data], cwd=self.directory, **self.user)
 
     def begin(self, *words):
         """Begins a session that reads statements from a pipe, and writes what they answer and what goes wrong to another."""
         words = [f"{config('bindir')}/psql", "-X", "-q", *words]
         return subprocess.Popen(words, stdin=subprocess.PIPE, stdout=subprocess.PIPE, stderr=subprocess.STDOUT, text=True,
-                                env=self.setting, cwd=self.folder, **self.user)
+                                env=self.setting, cwd=self.directory, **self.user)
 
     def ask(self, statements, *words, limit=120):
         """Gives what a session prints of statements, both its answers and what goes wrong: bare, unless other words say so."""

@@ -1,11 +1,11 @@
 #!/usr/bin/env python3
-"""Draws the pictures of the pages from what the proved program prints, from crates.txt and the crates' first lines, and from
-the figures that bench/run keeps.
+"""Draws the figures of the pages from what the proved program prints, from crates.txt and the crates' first lines, and from
+the numbers in bench/sizes.txt.
 
-    docs/pictures/draw.py FOLDER
+    docs/pictures/draw.py DIRECTORY
 
-It writes replicas.svg, clash.svg, reduce.svg, crates.svg and cost.svg into the folder, each on a ground of its own, so that it can be
-read on a dark page too, and with a legend of its colours. checks/pictures draws them again and compares.
+It writes replicas.svg, clash.svg, reduce.svg, crates.svg and cost.svg into the directory. Each has a ground of its own, so that
+it can be read on a dark page too, and a legend of its colours. checks/pictures draws them again and compares.
 """
 
 import json
@@ -21,7 +21,7 @@ TOP = pathlib.Path(__file__).resolve().parent.parent.parent
 # Of a character, a line and the space around a text.
 WIDE, HIGH, SPACE = 8, 19, 10
 
-GROUND, PLAIN, PATCH, SHOWN, CLASH = "#ffffff", "#f4f4f4", "#dbe9fb", "#dff3dd", "#fbdcd9"
+GROUND, PLAIN, PATCH, SHOWN, CONFLICT = "#ffffff", "#f4f4f4", "#dbe9fb", "#dff3dd", "#fbdcd9"
 
 # Of the plot: the colour of each program, and the sides of a panel.
 LINES = {"mergejoin": "#1f5fb4", "Rust": "#c2571a", "jq": "#3b8a3b", "jsonpatch": "#8a4b9e"}
@@ -57,7 +57,7 @@ class Drawing:
             top = y + SPACE // 2 + HIGH * number
             if number in marked:
                 shape = f'x="{x + 1}" y="{top}" width="{width - 2}" height="{HIGH}"'
-                self.shapes.append(f'<rect {shape} fill="{CLASH}"/>')
+                self.shapes.append(f'<rect {shape} fill="{CONFLICT}"/>')
             self.text(x + SPACE, top + 14, line)
         self.reach(x + width, y + height)
         return width, height
@@ -67,7 +67,7 @@ class Drawing:
         self.shapes.append(f'<path d="M{x - 4} {bottom - 7}h8l-4 7z" fill="#666"/>')
 
     def legend(self, colours):
-        """Tells below the drawing what each colour stands for."""
+        """Shows below the drawing what each colour means."""
         x, y = SPACE, self.height + 2 * SPACE
         for colour, words in colours:
             place = f'x="{x}" y="{y}" width="{HIGH}" height="{HIGH - 4}"'
@@ -105,12 +105,12 @@ def replicas():
         drawing.box(x, last, [shown], SHOWN, width)
     join = answer("join", one, two, three)
     drawing.text(SPACE, last + 2 * HIGH + SPACE + 10, f"The join of the patches: {join}")
-    drawing.legend([(PLAIN, "the start"), (PATCH, "a patch that comes"), (SHOWN, "the document that is shown")])
+    drawing.legend([(PLAIN, "the start"), (PATCH, "a patch that arrives"), (SHOWN, "the document that is shown")])
     return drawing.svg()
 
 
 def lines_of(value, path="", depth=0):
-    """Gives each line of a document as a tree, with the pointer to what stands there."""
+    """Gives each line of a document as a tree, with the pointer to what is there."""
     for name, part in value.items():
         here = f"{path}/{name}"
         if isinstance(part, dict):
@@ -120,23 +120,23 @@ def lines_of(value, path="", depth=0):
             yield here, "  " * depth + f"{name}: {json.dumps(part)}"
 
 
-def tree(drawing, x, text, clashes):
+def tree(drawing, x, text, conflicts):
     lines = list(lines_of(json.loads(text)))
-    marked = [number for number, (path, _) in enumerate(lines) if path in clashes]
+    marked = [number for number, (path, _) in enumerate(lines) if path in conflicts]
     return drawing.box(x, 40, [line for _, line in lines], PATCH, 0, marked)
 
 
-def clash():
-    """Two patches that clash, and two that are compatible with their join."""
+def conflict():
+    """Two patches that conflict, and two that are compatible with their join."""
     one, two, other = '{"a":{"x":1},"b":1}', '{"a":{"y":null},"b":2}', '{"a":{"y":null},"c":2}'
-    drawing = Drawing("Two patches that clash, and two that do not, with their join")
+    drawing = Drawing("Two patches that conflict, and two that do not, with their join")
     refusal = answer("join", one, two)
     places = json.loads(f"[{refusal.split(' at ', 1)[1]}]")
     x = SPACE
     for text in (one, two):
         width, height = tree(drawing, x, text, places)
         x += width + SPACE
-    drawing.text(SPACE, 24, "These clash:", weight="bold")
+    drawing.text(SPACE, 24, "These conflict:", weight="bold")
     bottom = 40 + height + HIGH
     drawing.text(SPACE, bottom, refusal)
     x = max(x, SPACE + WIDE * len(refusal)) + 5 * SPACE
@@ -147,7 +147,7 @@ def clash():
     joined = answer("join", one, other)
     lines = [line for _, line in lines_of(json.loads(joined))]
     drawing.box(x + 2 * SPACE, 40, lines, SHOWN)
-    drawing.legend([(PATCH, "a patch"), (CLASH, "where it clashes with the other"), (SHOWN, "the join")])
+    drawing.legend([(PATCH, "a patch"), (CONFLICT, "where it conflicts with the other"), (SHOWN, "the join")])
     return drawing.svg()
 
 
@@ -184,8 +184,8 @@ def reduce():
     return drawing.svg()
 
 
-def stands_on():
-    """Gives each crate of crates.txt with those that it stands on."""
+def depends_on():
+    """Gives each crate of crates.txt with those that it depends on."""
     lines = (TOP / "crates.txt").read_text("utf-8").splitlines()
     parts = (line.split(":") for line in lines if line and not line.startswith("#"))
     return {name.split()[0]: below.split() for name, below in parts}
@@ -193,8 +193,8 @@ def stands_on():
 
 def first_words(crate):
     """What a crate is: the first sentence of its root file, up to a colon."""
-    folder = TOP / "crates" / crate / "src"
-    root = folder / "lib.rt" if (folder / "lib.rt").exists() else folder / "main.rt"
+    source = TOP / "crates" / crate / "src"
+    root = source / "lib.rt" if (source / "lib.rt").exists() else source / "main.rt"
     head = [line[4:] for line in root.read_text("utf-8").splitlines() if line.startswith("//! ")]
     words = " ".join(head).split(". ")[0].rstrip(".")
     return words.split(": ")[0].replace("`", "")
@@ -210,9 +210,9 @@ def line_down(drawing, x, top, to, bottom):
 
 
 def crates():
-    """The crates, each above those that it stands on, with the libraries of the toolchain that it uses."""
-    below = stands_on()
-    drawing = Drawing("The crates, each above those that it stands on")
+    """The crates, each above those that it depends on, with the libraries of the toolchain that it uses."""
+    below = depends_on()
+    drawing = Drawing("The crates, each above those that it depends on")
     levels = {}
     for crate in below:
         levels.setdefault(height_of(crate, below), []).append(crate)
@@ -235,7 +235,7 @@ def crates():
             if part in below and not any(part in below.get(other, ()) for other in parts):
                 x, top, height = boxes[crate]
                 line_down(drawing, x, top + height, boxes[part][0], boxes[part][1])
-    drawing.legend([(PATCH, "stands on libraries of the toolchain too"), (PLAIN, "stands on the crates below it alone")])
+    drawing.legend([(PATCH, "depends on libraries of the toolchain too"), (PLAIN, "depends on the crates below it alone")])
     return drawing.svg()
 
 
@@ -246,7 +246,7 @@ class Panel:
         self.drawing, self.x, self.y, self.least, self.most = drawing, x, y, least, most
 
     def place(self, size, count):
-        """Where a number of bytes and a number of instructions stand."""
+        """Where a number of bytes and a number of instructions are."""
         across = math.log10(size / self.least[0]) / math.log10(self.most[0] / self.least[0])
         up = math.log10(count / self.least[1]) / math.log10(self.most[1] / self.least[1])
         return round(self.x + ACROSS * across, 1), round(self.y + DOWN * (1 - up), 1)
@@ -273,12 +273,12 @@ class Panel:
 
 
 def cost():
-    """The instructions of each job by the size of its input, beside those of other programs."""
+    """The instructions of each job by the size of its input, next to those of other programs."""
     figures = {}
     for line in (TOP / "bench/sizes.txt").read_text("utf-8").splitlines():
         job, program, size, count = line.split(";")
         figures.setdefault(job, {}).setdefault(program, []).append((int(size), int(count)))
-    drawing = Drawing("Instructions of each job by the bytes of its input, on logarithmic axes, beside other programs")
+    drawing = Drawing("Instructions of each job by the bytes of its input, on logarithmic axes, next to other programs")
     counts = [count for job in figures.values() for points in job.values() for _, count in points]
     least = 8_000, 10 ** math.floor(math.log10(min(counts)))
     most = 1_250_000, 10 ** math.ceil(math.log10(max(counts)))
@@ -294,12 +294,12 @@ def cost():
 
 
 def main():
-    folder = pathlib.Path(sys.argv[1])
-    (folder / "crates.svg").write_text(crates(), "utf-8")
-    (folder / "replicas.svg").write_text(replicas(), "utf-8")
-    (folder / "clash.svg").write_text(clash(), "utf-8")
-    (folder / "reduce.svg").write_text(reduce(), "utf-8")
-    (folder / "cost.svg").write_text(cost(), "utf-8")
+    directory = pathlib.Path(sys.argv[1])
+    (directory / "crates.svg").write_text(crates(), "utf-8")
+    (directory / "replicas.svg").write_text(replicas(), "utf-8")
+    (directory / "clash.svg").write_text(conflict(), "utf-8")
+    (directory / "reduce.svg").write_text(reduce(), "utf-8")
+    (directory / "cost.svg").write_text(cost(), "utf-8")
 
 
 main()

@@ -30,8 +30,8 @@ def rows():
 def words_of_sources():
     """Gives every word of the sources, definitions, checks and tests, and the names of their files."""
     words = set()
-    for folder in ("crates", "checks", "tests", "bindings"):
-        for path in (TOP / folder).rglob("*"):
+    for directory in ("crates", "checks", "tests", "bindings"):
+        for path in (TOP / directory).rglob("*"):
             if {"out", "target", "__pycache__"} & set(path.relative_to(TOP).parts):
                 continue
             words |= {str(path.relative_to(TOP)), path.name}

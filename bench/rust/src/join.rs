@@ -1,4 +1,4 @@
-//! The join of merge patches, or which two of them clash and where.
+//! The join of merge patches, or which two of them conflict and where.
 
 use crate::{pointer, Refused};
 use serde_json::Value;
@@ -45,14 +45,14 @@ fn unite(joined: &mut Value, patch: &Value) {
     }
 }
 
-/// The line about a patch that clashes with one of those before it.
+/// The line about a patch that conflicts with one of those before it.
 fn conflict(before: &[Value], patch: &Value) -> Refused {
     let earlier = before
         .iter()
         .position(|earlier| !compatible(earlier, patch));
-    let earlier = earlier.expect("a patch that clashes with a join clashes with a member");
+    let earlier = earlier.expect("a patch that conflicts with a join conflicts with a member");
     let mut places = Vec::new();
-    clashes(&before[earlier], patch, &mut String::new(), &mut places);
+    conflicts(&before[earlier], patch, &mut String::new(), &mut places);
     let later = before.len();
     Refused::Work(format!(
         "conflict: patches {earlier} and {later} at {}",
@@ -60,15 +60,15 @@ fn conflict(before: &[Value], patch: &Value) -> Refused {
     ))
 }
 
-/// All places where two patches clash, as JSON.
-fn clashes(left: &Value, right: &Value, pointer: &mut String, places: &mut Vec<String>) {
+/// All places where two patches conflict, as JSON.
+fn conflicts(left: &Value, right: &Value, pointer: &mut String, places: &mut Vec<String>) {
     match (left, right) {
         (Value::Object(left), Value::Object(right)) => {
             let length = pointer.len();
             for (name, right) in right {
                 if let Some(left) = left.get(name) {
                     pointer::push(pointer, name);
-                    clashes(left, right, pointer, places);
+                    conflicts(left, right, pointer, places);
                     pointer.truncate(length);
                 }
             }

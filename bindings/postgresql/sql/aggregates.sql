@@ -1,4 +1,4 @@
--- Each aggregate over json and jsonb: joins of groups, groups that clash, NULL, and texts that are no patch.
+-- Each aggregate over json and jsonb: joins of groups, groups that conflict, NULL, and texts that are not a patch.
 \pset null (null)
 
 CREATE TABLE log (number int PRIMARY KEY, document text, patch json);
@@ -9,21 +9,21 @@ INSERT INTO log VALUES
 SELECT document, mergejoin_agg(patch), mergejoin_agg(patch::jsonb) FROM log WHERE document <> 'second' GROUP BY document
   ORDER BY document;
 SELECT document, mergejoin_try_agg(patch), mergejoin_try_agg(patch::jsonb),
-  mergejoin_clash_agg(patch ORDER BY number) FROM log GROUP BY document ORDER BY document;
-SELECT mergejoin_clash_agg(patch ORDER BY number DESC) FROM log;
-SELECT mergejoin_agg(patch), mergejoin_try_agg(patch), mergejoin_clash_agg(patch) FROM log WHERE false;
+  mergejoin_conflict_agg(patch ORDER BY number) FROM log GROUP BY document ORDER BY document;
+SELECT mergejoin_conflict_agg(patch ORDER BY number DESC) FROM log;
+SELECT mergejoin_agg(patch), mergejoin_try_agg(patch), mergejoin_conflict_agg(patch) FROM log WHERE false;
 SELECT mergejoin_agg(patch) FROM log;
 SELECT mergejoin_agg(patch::jsonb) FROM log;
 
 -- Of a window, the join so far.
 SELECT number, mergejoin_try_agg(patch) OVER (PARTITION BY document ORDER BY number) FROM log ORDER BY number;
 
--- A text that is no patch is an error, whether it comes before a clash or after it, in whichever group.
+-- A text that is not a patch is an error, whether it arrives before a conflict or after it, in whichever group.
 SELECT mergejoin_agg(patch ORDER BY number) FROM (SELECT number, patch FROM log UNION ALL VALUES (0, '1.5'::json)) AS longer;
 SELECT mergejoin_try_agg(patch ORDER BY number) FROM (SELECT number, patch FROM log UNION ALL VALUES (9, '1.5'::json)) AS longer;
 SELECT mergejoin_try_agg(patch::jsonb ORDER BY number)
   FROM (SELECT number, patch FROM log UNION ALL VALUES (9, '1.5'::json)) AS longer;
-SELECT mergejoin_clash_agg(patch ORDER BY number)
+SELECT mergejoin_conflict_agg(patch ORDER BY number)
   FROM (SELECT number, patch FROM log UNION ALL VALUES (9, '1.5'::json)) AS longer;
 
 -- Many patches: what is joined on the way is joined again.

@@ -20,13 +20,13 @@ from logs import log_of, wanted_of
 FILES = 8
 
 
-def written(folder, log):
+def written(directory, log):
     """Writes the log into files of JSON lines, and gives their paths."""
-    folder.mkdir()
+    directory.mkdir()
     for number in range(FILES):
         lines = [json.dumps({"doc": key, "patch": json.loads(text)}) for key, text in log[number::FILES]]
-        (folder / f"log-{number}.jsonl").write_text("\n".join(lines) + "\n", "utf-8")
-    return sorted(map(str, folder.glob("log-*.jsonl")))
+        (directory / f"log-{number}.jsonl").write_text("\n".join(lines) + "\n", "utf-8")
+    return sorted(map(str, directory.glob("log-*.jsonl")))
 
 
 def read(path):
@@ -36,9 +36,9 @@ def read(path):
     return [(it["doc"], json.dumps(it["patch"])) for it in entries], get_worker().address.split(":")[1].strip("/")
 
 
-def main(address, folder, *hosts):
+def main(address, directory, *hosts):
     log = log_of(random.Random(5), 2000)
-    paths = written(pathlib.Path(folder), log)
+    paths = written(pathlib.Path(directory), log)
     with Client(address, timeout=60) as client:
         client.wait_for_workers(len(hosts), timeout=60)
         workers = {it.split(":")[1].strip("/"): it for it in client.scheduler_info()["workers"]}

@@ -8,7 +8,7 @@ NAMES = "abcdefgh"
 
 
 def log_of(chance, count, keys=12):
-    """Gives (key, text) in any order, of keys of which a half have patches that clash."""
+    """Gives (key, text) in any order, of keys of which a half have patches that conflict."""
     log = []
     for _ in range(count):
         number = chance.randrange(keys)
@@ -20,7 +20,7 @@ def log_of(chance, count, keys=12):
 
 
 def wanted_of(log):
-    """Gives the join of each key's texts, all at once in one process, or None where two clash."""
+    """Gives the join of each key's texts, all at once in one process, or None if two conflict."""
     texts, wanted = {}, {}
     for key, text in log:
         texts.setdefault(key, []).append(text)

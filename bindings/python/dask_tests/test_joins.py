@@ -30,7 +30,7 @@ class Joins(unittest.TestCase):
         self.assertEqual(both, [("a", '{"n0":0,"n1":1}')])
         self.assertEqual(join_by_key(dask.bag.concat([one, parts[2]])).compute(scheduler="synchronous"), [("a", '{"n0":0,"n2":2}')])
 
-    def test_a_text_that_is_none_is_told_with_its_key(self):
+    def test_a_text_that_is_not_a_patch_is_reported_with_its_key(self):
         chance = random.Random(3)
         for scheduler in ("synchronous", "threads", "processes"):
             log = [("a", "1"), (("b", 2), "2"), ("a", "3"), (("b", 2), "[1.5]")]
@@ -38,7 +38,7 @@ class Joins(unittest.TestCase):
             with self.assertRaises(mergejoin.InputError) as raised:
                 join_by_key(dask.bag.from_sequence(log, npartitions=2)).compute(scheduler=scheduler)
             self.assertEqual((raised.exception.key, raised.exception.why), (("b", 2), "number not whole"))
-            self.assertIn("a patch of ('b', 2): number not whole", str(raised.exception))
+            self.assertIn("patch of ('b', 2): number not whole", str(raised.exception))
 
     def test_of_nothing_there_is_no_key(self):
         bag = dask.bag.from_sequence([("a", "1")], npartitions=1).filter(lambda item: False)

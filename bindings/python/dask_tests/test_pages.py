@@ -69,7 +69,7 @@ class Pages(unittest.TestCase):
             texts[key].append(text)
         wanted = {key: len(list(mergejoin.conflicts(given))) for key, given in texts.items() if joins[key] is None}
         self.assertGreater(len(wanted), KEYS // 4)
-        block = OF_ONE_HOST.sub("", blocks_of("\n## Where patches clash\n")[0])
+        block = OF_ONE_HOST.sub("", blocks_of("\n## If patches conflict\n")[0])
         source = "".join(example.source for example in doctest.DocTestParser().get_examples(block))
         with cluster_of_seeds(), contextlib.redirect_stdout(io.StringIO()) as printed:
             given = {"__name__": "__main__", "log": dask.bag.from_sequence(log, npartitions=16), "joins": joins}

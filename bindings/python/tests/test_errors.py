@@ -12,15 +12,17 @@ import mergejoin
 from mergejoin import Conflict, InputError, Malformed, MergejoinError, Missing, NoPatches, Refused
 
 ALL = [
-    (Conflict(0, 2, ["/a", "/é"]), 'patches 0 and 2 clash at ["/a", "/é"]'),
-    (Conflict(None, None, [""]), 'patches clash at [""]'),
+    (Conflict(0, 2, ["/a", "/é"]), 'conflict: patches 0 and 2 at "/a", "/é"'),
+    (Conflict(None, None, [""]), 'conflict: two patches at ""'),
     (NoPatches(), "no patches"),
     (Refused(3, "test failed"), "operation 3: test failed"),
-    (Malformed(0, "not an array"), "form of operation 0: not an array"),
+    (Malformed(0, "not an array"), "not an array"),
+    (Malformed(2, "no path"), "operation 2: no path"),
     (Missing(), "missing"),
     (InputError("document", 0, "not JSON"), "document: not JSON"),
     (InputError("patch", 5, "too deep"), "patch 5: too deep"),
     (InputError("pointer", 5, "bad tilde"), "pointer: bad tilde at 5"),
+    (InputError("pointer", 0, "no slash"), "pointer: no slash"),
     (InputError("patch", 5, "number not whole", "/a"), 'patch 5: number not whole at "/a"'),
 ]
 SHORT_OF_MEMORY = """
@@ -74,7 +76,7 @@ class Errors(unittest.TestCase):
         self.assertEqual((done.returncode, done.stdout, done.stderr), (0, "MemoryError\n", ""))
 
     def test_half_of_a_surrogate_pair(self):
-        for call, words, told in (
+        for call, words, wanted in (
             (mergejoin.join, [['{}', '"\ud800"']], ("patch", 1, "not JSON")),
             (mergejoin.merge, ["[", ['"\udfff"']], ("document", 0, "not JSON")),
             (mergejoin.get, ["{}", "/a\ud800"], ("pointer", 2, "not UTF-8")),
@@ -82,7 +84,7 @@ class Errors(unittest.TestCase):
             with self.assertRaises(InputError) as raised:
                 call(*words)
             error = raised.exception
-            self.assertEqual((error.what, error.number, error.why, error.place), (*told, None))
+            self.assertEqual((error.what, error.number, error.why, error.place), (*wanted, None))
 
     def test_what_is_no_text(self):
         for call, words in ((mergejoin.join, ["{}"]), (mergejoin.join, [b"{}"]), (mergejoin.join, [[{}]]),

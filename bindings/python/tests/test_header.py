@@ -11,7 +11,7 @@ from mergejoin import _library
 TOP = pathlib.Path(__file__).resolve().parents[3]
 HEADER = (TOP / "bindings/c/mergejoin.h").read_text("utf-8")
 CODE = re.sub(r"/\*.*?\*/", " ", HEADER, flags=re.S)
-# How the types of C are spelled here. A pointer to bytes is of a text that is read, or of the room.
+# How the types of C are spelled here. A pointer to bytes is of a text that is read, or of the buffer.
 PLAIN = {"size_t": ctypes.c_size_t, "uint32_t": ctypes.c_uint32, "const uint8_t *": ctypes.c_char_p,
          "uint8_t *": ctypes.c_void_p, "const mergejoin_text *": ctypes.POINTER(_library.Text)}
 SIZES = {"size_t": 8, "uint32_t": 4, "const uint8_t *": 8}

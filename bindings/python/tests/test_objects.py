@@ -40,7 +40,7 @@ TAKEN = [None, True, 0, -(2**63), 2**64 - 1, "", "é\U0001f600\n\x00", [], {}, [
 class Objects(unittest.TestCase):
     def test_refused(self):
         for value, why, place in REFUSED:
-            for call, words, told in (
+            for call, words, wanted in (
                 (objects.join, [[{}, {}, value, 1.5]], ("patch", 2)), (objects.replay, [value, [1.5]], ("document", 0)),
                 (objects.replay, [{}, [value]], ("patch", 0)), (objects.merge, [{}, iter([1, value])], ("patch", 1)),
                 (objects.rewrite, [{}, value], ("patch", 0)), (objects.patch, [value, 1.5], ("document", 0)),
@@ -49,7 +49,7 @@ class Objects(unittest.TestCase):
                 with self.subTest(place=place, why=why, call=call.__name__), self.assertRaises(InputError) as raised:
                     call(*words)
                 error = raised.exception
-                self.assertEqual((error.what, error.number, error.why, error.place), (*told, why, place))
+                self.assertEqual((error.what, error.number, error.why, error.place), (*wanted, why, place))
 
     def test_taken(self):
         for value in TAKEN:

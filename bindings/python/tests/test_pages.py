@@ -31,7 +31,7 @@ class Pages(unittest.TestCase):
             self.assertEqual(result.failed, 0, page)
             self.assertGreaterEqual(result.attempted, least)
 
-    def test_help_tells_each_name(self):
+    def test_help_shows_each_name(self):
         text = pydoc.plain(pydoc.render_doc(mergejoin))
         for name in mergejoin.__all__:
             it = getattr(mergejoin, name)

@@ -1,4 +1,4 @@
-"""Patches that are grouped, repeated, pickled and joined in a tree give one join; and the pairs that clash."""
+"""Patches that are grouped, repeated, pickled and joined in a tree give one join; and the pairs that conflict."""
 
 import copy
 import itertools
@@ -29,7 +29,7 @@ def part(chance, value):
 
 
 def texts_of(chance):
-    """Gives texts of patches, of which some repeat, or clash where one says another thing at some place."""
+    """Gives texts of patches, of which some repeat, or conflict where one says another thing at some place."""
     value = {f"n{number}": tree(chance, 3) for number in range(chance.randrange(1, 9))}
     made = [part(chance, value) for _ in range(chance.randrange(1, 30))]
     if chance.random() < 0.4:
@@ -72,7 +72,7 @@ class Groups(unittest.TestCase):
                 self.assertEqual(outcome(grouped(chance, texts).text), wanted, trial)
         self.assertEqual(outcomes, {str, Conflict})
 
-    def test_what_is_no_patch_is_told_in_every_order(self):
+    def test_what_is_not_a_patch_is_reported_in_every_order(self):
         orders = itertools.permutations(['{"a":1}', '{"a":2}', "wrong"])
         for wrong, order, is_looked_at in itertools.product(NO_PATCHES, list(orders), (False, True)):
             patches, raised = Patches(), 0
@@ -94,7 +94,7 @@ class Groups(unittest.TestCase):
         self.assertRaises(InputError, patches.add, "[")
         self.assertEqual([patches.text(), patches.text()], ['{"a":1}'] * 2)
 
-    def test_a_clash_has_places_and_no_numbers(self):
+    def test_a_conflict_has_places_and_no_numbers(self):
         one, other = Patches(), Patches()
         one.add('{"a":{"b":1}}')
         other.add('{"a":{"b":2}}')
@@ -116,7 +116,7 @@ class Groups(unittest.TestCase):
         self.assertLess(len(pickle.dumps(patches)), len(patches.text()) + 100)
         self.assertEqual(pickle.loads(pickle.dumps(patches)).text(), patches.text())
 
-    def test_pairs_that_clash(self):
+    def test_pairs_that_conflict(self):
         chance, found = random.Random(7), 0
         for _ in range(60):
             texts = [text for _ in range(chance.randrange(3)) for text in texts_of(chance)]
@@ -124,8 +124,8 @@ class Groups(unittest.TestCase):
             for first, second in itertools.combinations(range(len(texts)), 2):
                 try:
                     mergejoin.join([texts[first], texts[second]])
-                except Conflict as clash:
-                    wanted.append((first, second, clash.places))
+                except Conflict as conflict:
+                    wanted.append((first, second, conflict.places))
             self.assertEqual(conflicts(texts), wanted)
             found += len(wanted)
         self.assertGreater(found, 1000)
@@ -169,12 +169,12 @@ class Growth(unittest.TestCase):
 
     def read(self, size):
         texts, patches, lengths = self.texts(size), Patches(), []
-        lent = mergejoin._library.lent
-        mergejoin._library.lent = lambda given: lengths.append(sum(map(len, given))) or lent(given)
+        borrowed = mergejoin._library.borrowed
+        mergejoin._library.borrowed = lambda given: lengths.append(sum(map(len, given))) or borrowed(given)
         try:
             for text in texts:
                 patches.add(text)
             patches.text()
         finally:
-            mergejoin._library.lent = lent
+            mergejoin._library.borrowed = borrowed
         return sum(lengths) / sum(map(len, texts))

@@ -9,7 +9,7 @@ import mergejoin
 from mergejoin import objects
 
 sys.path.insert(0, str(pathlib.Path(__file__).resolve().parents[3] / "checks/common"))
-from rows import ROWS, worked_rows
+from rows import ROWS, vector_rows
 
 
 def given(export, texts):
@@ -47,15 +47,15 @@ def decoded(texts):
 
 class Rows(unittest.TestCase):
     def setUp(self):
-        self.rows = [*worked_rows(), *ROWS]
+        self.rows = [*vector_rows(), *ROWS]
 
     def test_texts(self):
         for export, status, first, second, text, texts in self.rows:
-            call, told = getattr(mergejoin, export), (status, first, second, text)
+            call, wanted = getattr(mergejoin, export), (status, first, second, text)
             with self.subTest(export=export, texts=texts):
-                self.assertEqual(seen(call, *given(export, texts)), told)
+                self.assertEqual(seen(call, *given(export, texts)), wanted)
                 if decoded(texts) is not None:
-                    self.assertEqual(seen(call, *given(export, decoded(texts))), told)
+                    self.assertEqual(seen(call, *given(export, decoded(texts))), wanted)
         self.assertGreaterEqual(len(self.rows), 220)
         self.assertEqual({row[1] for row in self.rows}, set(range(9)))
 
@@ -68,9 +68,9 @@ class Rows(unittest.TestCase):
                 continue
             count += 1
             words = [*parts, texts[-1]] if export == "get" else given(export, parts)
-            call, told = getattr(objects, export), (status, first, second, json.loads(text) if status == 0 else text)
+            call, wanted = getattr(objects, export), (status, first, second, json.loads(text) if status == 0 else text)
             with self.subTest(export=export, texts=texts):
-                self.assertEqual(seen(call, *words), told)
+                self.assertEqual(seen(call, *words), wanted)
         self.assertGreaterEqual(count, 110)
 
     def test_what_is_long_is_asked_for_again(self):

@@ -22,11 +22,11 @@ use std::fmt;
 #[derive(Clone, Debug, PartialEq, Eq)]
 #[non_exhaustive]
 pub enum Error {
-    /// Two patches clash, at all of these places, which are JSON Pointers.
+    /// Two patches conflict, at all of these places, which are JSON Pointers.
     Conflict {
-        /// The one that came first.
+        /// The least number of a patch that conflicts with the second.
         first: usize,
-        /// The least number of one that clashes with an earlier one.
+        /// The least number of a patch that conflicts with an earlier one.
         second: usize,
         /// In the order of paths.
         places: Vec<String>,
@@ -42,23 +42,23 @@ pub enum Error {
     },
     /// The document has no part there.
     Missing,
-    /// The document, or the start, is none: `not JSON`, `number not whole` or `too deep`.
+    /// The document, or the start, is not one: `not JSON`, `number not whole` or `too deep`.
     Document(String),
-    /// A patch is no document.
+    /// A patch is not a document.
     Patch {
         /// Its number.
         number: usize,
         /// By the same words.
         why: String,
     },
-    /// The document that is given as JSON Patch is none.
+    /// The document that is given as JSON Patch is not one.
     Form {
-        /// The number of what is no operation.
+        /// The number of what is not an operation.
         operation: usize,
         /// Such as `no path`, or `not an array`.
         cause: String,
     },
-    /// The text spells no pointer.
+    /// The text is not a pointer.
     Pointer {
         /// In bytes.
         offset: usize,
@@ -77,16 +77,17 @@ impl fmt::Display for Error {
                 second,
                 places,
             } => {
-                write!(to, "patches {first} and {second} clash at {places:?}")
+                write!(to, "conflict: patches {first} and {second} at ")?;
+                write!(to, "{}", quoted(places).join(", "))
             }
             Error::NoPatches => write!(to, "no patches"),
             Error::Refused { operation, cause } => write!(to, "operation {operation}: {cause}"),
             Error::Missing => write!(to, "missing"),
             Error::Document(why) => write!(to, "document: {why}"),
             Error::Patch { number, why } => write!(to, "patch {number}: {why}"),
-            Error::Form { operation, cause } => {
-                write!(to, "form of operation {operation}: {cause}")
-            }
+            Error::Form { cause, .. } if cause == "not an array" => write!(to, "{cause}"),
+            Error::Form { operation, cause } => write!(to, "operation {operation}: {cause}"),
+            Error::Pointer { why, .. } if why == "no slash" => write!(to, "pointer: {why}"),
             Error::Pointer { offset, why } => write!(to, "pointer: {why} at {offset}"),
             Error::NoMemory => write!(to, "out of memory"),
         }
@@ -95,14 +96,14 @@ impl fmt::Display for Error {
 
 impl std::error::Error for Error {}
 
-/// A text that is lent to a call, as the header's `mergejoin_text`.
+/// A text that a call borrows, as the header's `mergejoin_text`.
 #[repr(C)]
 struct Text {
     bytes: *const u8,
     length: usize,
 }
 
-/// What a call answers beside the text in the room, as the header's `mergejoin_reply`.
+/// What a call returns in addition to the text in the buffer, as the header's `mergejoin_reply`.
 #[repr(C)]
 struct Reply {
     length: usize,
@@ -112,14 +113,14 @@ struct Reply {
 }
 
 extern "C" {
-    fn mergejoin_join(patches: *const Text, count: usize, out: *mut u8, room: usize) -> Reply;
+    fn mergejoin_join(patches: *const Text, count: usize, out: *mut u8, capacity: usize) -> Reply;
     fn mergejoin_replay(
         start: *const u8,
         start_length: usize,
         patches: *const Text,
         count: usize,
         out: *mut u8,
-        room: usize,
+        capacity: usize,
     ) -> Reply;
     fn mergejoin_merge(
         document: *const u8,
@@ -127,7 +128,7 @@ extern "C" {
         patches: *const Text,
         count: usize,
         out: *mut u8,
-        room: usize,
+        capacity: usize,
     ) -> Reply;
     fn mergejoin_rewrite(
         document: *const u8,
@@ -135,7 +136,7 @@ extern "C" {
         patch: *const u8,
         patch_length: usize,
         out: *mut u8,
-        room: usize,
+        capacity: usize,
     ) -> Reply;
     fn mergejoin_patch(
         document: *const u8,
@@ -143,7 +144,7 @@ extern "C" {
         patch: *const u8,
         patch_length: usize,
         out: *mut u8,
-        room: usize,
+        capacity: usize,
     ) -> Reply;
     fn mergejoin_get(
         document: *const u8,
@@ -151,11 +152,11 @@ extern "C" {
         pointer: *const u8,
         pointer_length: usize,
         out: *mut u8,
-        room: usize,
+        capacity: usize,
     ) -> Reply;
 }
 
-fn lent(texts: &[&str]) -> Vec<Text> {
+fn borrowed(texts: &[&str]) -> Vec<Text> {
     texts
         .iter()
         .map(|text| Text {
@@ -169,27 +170,27 @@ fn lengths(texts: &[&str]) -> usize {
     texts.iter().map(|text| text.len()).sum()
 }
 
-/// Calls with a room of so many bytes, and once more where the text is longer.
+/// Calls with a buffer of so many bytes, and once more if the text is longer.
 fn answer(guess: usize, call: impl Fn(*mut u8, usize) -> Reply) -> Result<String, Error> {
-    let mut room = Vec::new();
+    let mut buffer = Vec::new();
     let mut size = guess.saturating_add(64);
     loop {
-        if room.try_reserve_exact(size).is_err() {
+        if buffer.try_reserve_exact(size).is_err() {
             return Err(Error::NoMemory);
         }
-        room.resize(size, 0);
-        let reply = call(room.as_mut_ptr(), room.len());
-        if reply.length <= room.len() {
-            room.truncate(reply.length);
-            let text = String::from_utf8(room).expect("the library writes UTF-8");
-            return told(&reply, text);
+        buffer.resize(size, 0);
+        let reply = call(buffer.as_mut_ptr(), buffer.len());
+        if reply.length <= buffer.len() {
+            buffer.truncate(reply.length);
+            let text = String::from_utf8(buffer).expect("the library writes UTF-8");
+            return result_of(&reply, text);
         }
         size = reply.length;
-        room.clear();
+        buffer.clear();
     }
 }
 
-fn told(reply: &Reply, text: String) -> Result<String, Error> {
+fn result_of(reply: &Reply, text: String) -> Result<String, Error> {
     let Reply { first, second, .. } = *reply;
     Err(match reply.status {
         0 => return Ok(text),
@@ -225,16 +226,37 @@ fn told(reply: &Reply, text: String) -> Result<String, Error> {
 fn places_of(text: &str) -> Vec<String> {
     let (mut places, mut place, mut inside) = (Vec::new(), String::new(), false);
     let mut rest = text.chars();
-    while let Some(letter) = rest.next() {
-        match letter {
+    while let Some(next) = rest.next() {
+        match next {
             '"' if inside => places.push(std::mem::take(&mut place)),
             '\\' => place.push(unescaped(&mut rest)),
-            _ if inside && letter != '"' => place.push(letter),
+            _ if inside && next != '"' => place.push(next),
             _ => (),
         }
-        inside ^= letter == '"';
+        inside ^= next == '"';
     }
     places
+}
+
+/// Each text as a JSON string, as the program's line has it.
+fn quoted(texts: &[String]) -> Vec<String> {
+    texts
+        .iter()
+        .map(|text| format!("\"{}\"", text.chars().map(escaped).collect::<String>()))
+        .collect()
+}
+
+fn escaped(plain: char) -> String {
+    match plain {
+        '"' | '\\' => format!("\\{plain}"),
+        '\u{8}' => "\\b".to_string(),
+        '\u{c}' => "\\f".to_string(),
+        '\n' => "\\n".to_string(),
+        '\r' => "\\r".to_string(),
+        '\t' => "\\t".to_string(),
+        '\0'..='\u{1f}' => format!("\\u{:04x}", plain as u32),
+        _ => plain.to_string(),
+    }
 }
 
 fn unescaped(rest: &mut std::str::Chars<'_>) -> char {
@@ -259,42 +281,45 @@ fn unescaped(rest: &mut std::str::Chars<'_>) -> char {
 ///
 /// [`Error::Patch`], [`Error::NoPatches`] and [`Error::Conflict`] are looked for in this order.
 pub fn join(patches: &[&str]) -> Result<String, Error> {
-    let texts = lent(patches);
-    answer(lengths(patches), |out, room| {
+    let texts = borrowed(patches);
+    answer(lengths(patches), |out, capacity| {
         // SAFETY: `texts` has `len` texts, each a `&str` of `patches`, which is borrowed for the call, as the header asks;
-        // no pointer of a slice is null; and `out` is `room` bytes of a vector of its own.
-        unsafe { mergejoin_join(texts.as_ptr(), texts.len(), out, room) }
+        // no pointer of a slice is null; and `out` is `capacity` bytes of a vector of its own.
+        unsafe { mergejoin_join(texts.as_ptr(), texts.len(), out, capacity) }
     })
 }
 
-/// The document that merge patches, no two of which clash, make of the start, in any order and with any repeats.
+/// The document that merge patches, no two of which conflict, make of the start, in any order and with any repeats.
 ///
 /// [`Error::Document`], [`Error::Patch`] and [`Error::Conflict`] are looked for in this order.
 pub fn replay(start: &str, patches: &[&str]) -> Result<String, Error> {
-    let texts = lent(patches);
-    answer(start.len().saturating_add(lengths(patches)), |out, room| {
-        // SAFETY: as in `join`; `start` is borrowed for the call too.
-        unsafe {
-            mergejoin_replay(
-                start.as_ptr(),
-                start.len(),
-                texts.as_ptr(),
-                texts.len(),
-                out,
-                room,
-            )
-        }
-    })
+    let texts = borrowed(patches);
+    answer(
+        start.len().saturating_add(lengths(patches)),
+        |out, capacity| {
+            // SAFETY: as in `join`; `start` is borrowed for the call too.
+            unsafe {
+                mergejoin_replay(
+                    start.as_ptr(),
+                    start.len(),
+                    texts.as_ptr(),
+                    texts.len(),
+                    out,
+                    capacity,
+                )
+            }
+        },
+    )
 }
 
-/// The document after the merge patches, each applied to what those before it left: where two clash, their order decides.
+/// The document after the merge patches, each applied to what the earlier ones left: if two conflict, their order decides.
 ///
 /// [`Error::Document`] and [`Error::Patch`] are looked for in this order.
 pub fn merge(document: &str, patches: &[&str]) -> Result<String, Error> {
-    let texts = lent(patches);
+    let texts = borrowed(patches);
     answer(
         document.len().saturating_add(lengths(patches)),
-        |out, room| {
+        |out, capacity| {
             // SAFETY: as in `replay`.
             unsafe {
                 mergejoin_merge(
@@ -303,7 +328,7 @@ pub fn merge(document: &str, patches: &[&str]) -> Result<String, Error> {
                     texts.as_ptr(),
                     texts.len(),
                     out,
-                    room,
+                    capacity,
                 )
             }
         },
@@ -314,19 +339,22 @@ pub fn merge(document: &str, patches: &[&str]) -> Result<String, Error> {
 ///
 /// [`Error::Document`] and [`Error::Patch`] are looked for in this order.
 pub fn rewrite(document: &str, patch: &str) -> Result<String, Error> {
-    answer(document.len().saturating_add(patch.len()), |out, room| {
-        // SAFETY: both texts are borrowed for the call; no pointer of a `&str` is null; `out` is `room` bytes of a vector.
-        unsafe {
-            mergejoin_rewrite(
-                document.as_ptr(),
-                document.len(),
-                patch.as_ptr(),
-                patch.len(),
-                out,
-                room,
-            )
-        }
-    })
+    answer(
+        document.len().saturating_add(patch.len()),
+        |out, capacity| {
+            // SAFETY: both texts are borrowed for the call; no pointer of a `&str` is null; `out` is `capacity` bytes of a vector.
+            unsafe {
+                mergejoin_rewrite(
+                    document.as_ptr(),
+                    document.len(),
+                    patch.as_ptr(),
+                    patch.len(),
+                    out,
+                    capacity,
+                )
+            }
+        },
+    )
 }
 
 /// The document after the JSON Patch.
@@ -340,7 +368,7 @@ pub fn rewrite(document: &str, patch: &str) -> Result<String, Error> {
 pub fn patch(document: &str, operations: &str) -> Result<String, Error> {
     answer(
         document.len().saturating_add(operations.len()),
-        |out, room| {
+        |out, capacity| {
             // SAFETY: as in `rewrite`.
             unsafe {
                 mergejoin_patch(
@@ -349,7 +377,7 @@ pub fn patch(document: &str, operations: &str) -> Result<String, Error> {
                     operations.as_ptr(),
                     operations.len(),
                     out,
-                    room,
+                    capacity,
                 )
             }
         },
@@ -364,7 +392,7 @@ pub fn patch(document: &str, operations: &str) -> Result<String, Error> {
 /// assert_eq!(mergejoin::get(r#"{"a":[5]}"#, "/a/0").as_deref(), Ok("5"));
 /// ```
 pub fn get(document: &str, pointer: &str) -> Result<String, Error> {
-    answer(document.len(), |out, room| {
+    answer(document.len(), |out, capacity| {
         // SAFETY: as in `rewrite`.
         unsafe {
             mergejoin_get(
@@ -373,7 +401,7 @@ pub fn get(document: &str, pointer: &str) -> Result<String, Error> {
                 pointer.as_ptr(),
                 pointer.len(),
                 out,
-                room,
+                capacity,
             )
         }
     })
@@ -404,11 +432,11 @@ mod tests {
     }
 
     #[test]
-    fn each_error_is_told() {
+    fn each_error_is_reported() {
         let places = vec![text("/\u{1}\n"), text("/a~1b/\""), text("/é")];
         let one = "{\"a/b\":{\"\\\"\":1},\"é\":1,\"\\u0001\\n\":1}";
-        let clash = join(&[one, &one.replace(":1", ":2")]);
-        match clash {
+        let conflict = join(&[one, &one.replace(":1", ":2")]);
+        match conflict {
             Err(Error::Conflict {
                 first: 0,
                 second: 1,
@@ -451,6 +479,26 @@ mod tests {
                 why: text("bad tilde")
             })
         );
+    }
+
+    #[test]
+    fn an_error_begins_with_the_words_of_the_program() {
+        let shown = |answer: Result<String, Error>| answer.unwrap_err().to_string();
+        let two = [
+            r#"{"a":{"\"\n\u0001":1}}"#,
+            r#"{"a":{"\"\n\u0001":2},"b":3}"#,
+        ];
+        assert_eq!(
+            shown(join(&two)),
+            r#"conflict: patches 0 and 1 at "/a/\"\n\u0001""#
+        );
+        assert_eq!(shown(join(&[])), "no patches");
+        assert_eq!(shown(patch("1", "[{}]")), "operation 0: no op");
+        assert_eq!(shown(patch("1", "{}")), "not an array");
+        assert_eq!(shown(get("1", "x")), "pointer: no slash");
+        assert_eq!(shown(get("1", "/~2")), "pointer: bad tilde at 1");
+        assert_eq!(shown(get("1", "/a")), "missing");
+        assert_eq!(shown(merge("1", &["["])), "patch 0: not JSON");
     }
 
     #[test]

@@ -32,15 +32,15 @@ join_of_one p = record {
 -- the first patch is kept as it is
 pub first_kept : (patch : Document) (before : Option Doc) (now : Doc) → before ≡ None → document now ≡ patch
     → (received : List Document) → Keeps before received → IsJoin (received ++ patch ∷ []) (document now)
-first_kept patch before now none is received held =
-    let empty : received ≡ [] = subst (λ o. Keeps o received) none held in
+first_kept patch before now none is received stored =
+    let empty : received ≡ [] = subst (λ o. Keeps o received) none stored in
     rw (empty, is) (join_of_one patch)
 
 -- and each further one is joined to what was kept
 pub next_kept : JoinGrows → (patch : Document) (before : Option Doc) (kept now : Doc) → before ≡ Some kept → IsJoin (document kept ∷ patch ∷ []) (document now)
     → (received : List Document) → Keeps before received → IsJoin (received ++ patch ∷ []) (document now)
-next_kept grows patch before kept now some joined received held =
-    let was : IsJoin received (document kept) = subst (λ o. Keeps o received) some held in
+next_kept grows patch before kept now some joined received stored =
+    let was : IsJoin received (document kept) = subst (λ o. Keeps o received) some stored in
     (grows received patch (document kept) (document now) was).1 joined
 
 -- ---- what is refused
@@ -48,10 +48,10 @@ next_kept grows patch before kept now some joined received held =
 turned : {p q : Document} {w : Path} → Clash p q w → Clash q p w
 turned clash = record { first = clash.second; second = clash.first; differ = λ same. clash.differ (sym same) }
 
-pub told_clashes : ClashWithAJoin → (fault : JoinFault) (kept : Doc) (patch : Document) → IsJoinFault fault (document kept) patch
+pub reported_clashes : ClashWithAJoin → (fault : JoinFault) (kept : Doc) (patch : Document) → IsJoinFault fault (document kept) patch
     → (before : Option Doc) → before ≡ Some kept → (received : List Document) → Keeps before received → IsClashWith fault received patch
-told_clashes law (Conflict places) kept patch is before some received held =
-    let joined : IsJoin received (document kept) = subst (λ o. Keeps o received) some held in
+reported_clashes law (Conflict places) kept patch is before some received stored =
+    let joined : IsJoin received (document kept) = subst (λ o. Keeps o received) some stored in
     record {
       some = is.some;
       rising = is.clashes.rising;
@@ -60,10 +60,10 @@ told_clashes law (Conflict places) kept patch is before some received held =
         λ clash. (is.clashes.all w).1 (turned ((law received (document kept) patch w joined).1 clash)),
       );
     }
-told_clashes law OutOfMemory kept patch is before some received held = tt
+reported_clashes law OutOfMemory kept patch is before some received stored = tt
 
 -- what a `?` hands on
-pub handed_on : {A E : Type 0} {told : E} (P : E → Type 0) (r : Result A E) → IsErrAnd r (λ fault. fault ≡ told) → P told → IfErr r P
+pub handed_on : {A E : Type 0} {reported : E} (P : E → Type 0) (r : Result A E) → IsErrAnd r (λ fault. fault ≡ reported) → P reported → IfErr r P
 handed_on P (Ok done) exit is = tt
 handed_on P (Err fault) exit is = subst P (sym exit) is
 
@@ -71,6 +71,6 @@ handed_on P (Err fault) exit is = subst P (sym exit) is
 
 pub shows_outcome : DocsAreDocuments → JoinGivesOutcome → (start kept : Doc) (shown : Document) → shown ≡ merge_patch (Some (document start)) (document kept)
     → (before : Option Doc) → before ≡ Some kept → (received : List Document) → Keeps before received → IsOutcome (document start) received shown
-shows_outcome docs law start kept shown is before some received held =
-    let joined : IsJoin received (document kept) = subst (λ o. Keeps o received) some held in
+shows_outcome docs law start kept shown is before some received stored =
+    let joined : IsJoin received (document kept) = subst (λ o. Keeps o received) some stored in
     rw is (law (document start) received (document kept) (docs start).0 (docs kept).0 joined)

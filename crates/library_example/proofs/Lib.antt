@@ -1,7 +1,7 @@
 pub mod Alike
 pub mod Chosen
-pub mod Envelopes
-pub mod Held
+pub mod Messages
+pub mod Stored
 pub mod Kept
-pub mod Told
+pub mod Reported
 pub mod Unclashed

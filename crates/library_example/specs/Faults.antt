@@ -1,4 +1,4 @@
--- The error of a call as that of `show`: out of memory is one variant, whichever call it came from.
+-- The error of a call as that of `show`: out of memory is one variant, whichever call it is from.
 use Rattle.mp_tree.specs.declared.fault.DocsFault.{DocsFault}
 use Rattle.mp_tree.specs.declared.fault.DocsFault.TheVariants as docs
 use Rattle.mp_tree.specs.declared.fault.ReadFault.{ReadFault}

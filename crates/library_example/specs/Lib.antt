@@ -1,5 +1,5 @@
 pub mod Faults
-pub mod Keeper
+pub mod PatchLog
 pub mod Laws
 pub mod Peers
 pub mod Private

@@ -1,2 +1,2 @@
 -- What private clauses alone cite: who trusts the public contracts need not read it.
-pub mod Keeping
+pub mod PatchLogs

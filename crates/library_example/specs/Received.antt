@@ -12,10 +12,10 @@ use Rattle.mp_merge.specs.Laws.{ClashesWithAMember}
 use Rattle.mp_merge.specs.Lists.{PairwiseCompatible}
 use Rattle.mp_merge.specs.declared.fault.JoinFault.{JoinFault}
 use Rattle.mp_merge.specs.declared.fault.JoinFault.TheVariants.{Conflict, OutOfMemory}
-use Rattle.library_example.specs.declared.receiving.Envelope.{Envelope}
+use Rattle.library_example.specs.declared.receiving.PatchMessage.{PatchMessage}
 use Rattle.library_example.specs.declared.receiving.Replica.{Replica}
 
--- ---- what a replica holds
+-- ---- what a replica stores
 
 -- the number of its start
 abbrev pub epoch_of : Replica → ℕ
@@ -24,13 +24,13 @@ epoch_of replica = replica.epoch
 abbrev pub start_of : Replica → Doc
 start_of replica = replica.start
 
--- the join of the patches that came, if any did
+-- the join of the patches that arrived, if any did
 abbrev pub joined_of : Replica → Option Doc
 joined_of replica = replica.joined
 
--- ---- what came
+-- ---- what was received
 
--- what it keeps is the join of these patches, in any order and with any repeats, and nothing where there are none
+-- what it keeps is the join of these patches, in any order and with any repeats, and nothing if there are none
 abbrev pub HasReceived : Replica → List Document → Type 0
 HasReceived replica patches = MatchOption replica.joined (patches ≡ []) (λ kept. IsJoin patches (document kept))
 
@@ -39,9 +39,9 @@ abbrev pub Receives : Replica → Document → Replica → Type 0
 Receives before patch now =
     (received : List Document) → HasReceived before received → HasReceived now (received ++ patch ∷ [])
 
--- the patches of the envelopes that are of this start, in the order in which they came
-abbrev pub patches_of : ℕ → List Envelope → List Document
-patches_of epoch envelopes = map (λ e. document e.patch) (filter (λ e. nat_eq e.epoch epoch) envelopes)
+-- the patches of the messages that are of this start, in the order in which they arrived
+abbrev pub patches_of : ℕ → List PatchMessage → List Document
+patches_of epoch messages = map (λ e. document e.patch) (filter (λ e. nat_eq e.epoch epoch) messages)
 
 -- the first patch itself, and then the join of what was kept and the patch
 abbrev pub GrowsBy : Document → Option Doc → Option Doc → Type 0
@@ -50,7 +50,7 @@ GrowsBy patch (Some kept) now = MatchOption now ⊥ (λ j. IsJoin (document kept
 
 -- ---- what is refused
 
--- the first patch for want of memory alone, and then as a join is
+-- the first patch only if memory ran out, and then as a join is
 abbrev pub IsRefusedBy : JoinFault → Option Doc → Document → Type 0
 IsRefusedBy fault None patch = fault ≡ OutOfMemory
 IsRefusedBy fault (Some kept) patch = IsJoinFault fault (document kept) patch
@@ -61,7 +61,7 @@ pub record ClashesAt (received : List Document) (patch : Document) (places : Lis
   pub rising : IsStrictlySortedBy path_cmp places
   pub all : (w : Path) → Contains places w ↔ ClashesWithAMember received patch w
 
--- said of the patches that were received; want of memory says nothing of them
+-- said of the patches that were received; out of memory says nothing of them
 abbrev pub IsClashWith : JoinFault → List Document → Document → Type 0
 IsClashWith (Conflict places) received patch = ClashesAt received patch places.items
 IsClashWith OutOfMemory received patch = ⊤

@@ -1,7 +1,7 @@
 //! Why a replica has nothing to show, or begins no new start.
 ghost use Rattle.std.specs.Prelude.{◌≡◌};
 
-use crate::keeping::Identity;
+use crate::patch_log::Identity;
 use mp_merge::ListFault;
 use mp_pointer::Pointer;
 use mp_tree::{DocsFault, ReadFault};
@@ -11,13 +11,13 @@ use thiserror::Error;
 /// Why there is nothing to show.
 #[derive(Debug, Drop, Error)]
 pub enum ShowFault {
-    /// The start is no document.
+    /// The start is not a document.
     #[error("start: {0}")]
     Start(ReadFault),
-    /// The patches are no list of documents.
+    /// The patches are not a list of documents.
     #[error("patches: {0}")]
     Patches(DocsFault),
-    /// Two of the patches clash.
+    /// Two of the patches conflict.
     #[error("{0}")]
     Replay(ListFault),
     /// Memory ran out, in whichever call.
@@ -77,11 +77,11 @@ impl From<AllocError> for ShowFault {
 /// Why a replica does not begin the new start that was decided.
 #[derive(Debug, Drop, Error)]
 pub enum DecideFault {
-    /// The chosen patch with this identity has not come yet: the decision waits for it.
-    #[error("{0:?} has not come")]
-    NotCome(Identity),
-    /// Two of the chosen patches clash; the pointers lead to all their conflicts, in the order of paths.
-    #[error("conflict of {first:?} and {second:?}")]
+    /// The chosen patch with this identity has not arrived yet: the decision waits for it.
+    #[error("{0:?} has not arrived")]
+    NotReceived(Identity),
+    /// Two of the chosen patches conflict; the pointers lead to all their conflicts, in the order of paths.
+    #[error("conflict: {first:?} and {second:?}")]
     Conflict {
         /// The identity of the chosen patch that was received earlier.
         first: Identity,

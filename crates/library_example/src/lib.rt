@@ -2,12 +2,12 @@
 #![tactic(auto)]
 
 mod fault;
-mod keeping;
 pub mod laws;
+mod patch_log;
 mod receiving;
 mod replica;
 
 pub use fault::{DecideFault, ShowFault};
-pub use keeping::{Arrival, Identity, Keeper, Letter};
-pub use receiving::{Envelope, Received, Replica, shown_after};
+pub use patch_log::{Arrival, Identity, Message, PatchLog};
+pub use receiving::{PatchMessage, Received, Replica, shown_after};
 pub use replica::{at, for_a_peer, show};

@@ -1,4 +1,4 @@
-//! What a replica does with each patch as it comes: it keeps the join of those of its start.
+//! What a replica does with each patch as it arrives: it keeps the join of those of its start.
 ghost use Rattle.std.specs.Prelude.{◌≡◌, ◌<◌, List, [], Some, Ok, IfOk, IfErr, OnErr, MatchOption, option_map};
 ghost use Rattle.mp_tree.specs.Document.{Document};
 ghost use Rattle.mp_tree.specs.View.{document};
@@ -12,14 +12,14 @@ use std::alloc::{AllocError, Global};
 
 /// A patch, and the number of the start that it was made for.
 #[derive(Drop)]
-pub struct Envelope {
+pub struct PatchMessage {
     /// The number of the start that the patch was made for.
     pub epoch: u64,
     /// The merge patch.
     pub patch: Doc,
 }
 
-/// A start and its number, and the join of the patches that came for it, if any did.
+/// A start and its number, and the join of the patches that arrived for it, if any did.
 #[derive(Drop)]
 pub struct Replica {
     /// The number of the start.
@@ -30,10 +30,10 @@ pub struct Replica {
     joined: Option<Doc>,
 }
 
-/// What becomes of an envelope.
+/// What becomes of a message.
 #[derive(Clone, Copy, Debug, PartialEq, Eq)]
 pub enum Received {
-    /// Its patch is joined to those that came before.
+    /// Its patch is joined to those that it received before.
     Joined,
     /// It is of an earlier start, and is dropped.
     Late,
@@ -55,43 +55,43 @@ impl Replica {
         }
     }
 
-    /// Joins a patch of this start to those that came before; or tells where it clashes with them.
-    pub fn receive(&mut self, alloc: Global, envelope: &Envelope) -> Result<Received, JoinFault>
-        ensures received { envelope.now.epoch ≡ epoch_of self.old → IfOk result (λ what.
+    /// Joins a patch of this start to those that it received before; or reports where it conflicts with them.
+    pub fn receive(&mut self, alloc: Global, message: &PatchMessage) -> Result<Received, JoinFault>
+        ensures received { message.now.epoch ≡ epoch_of self.old → IfOk result (λ what.
             (what ≡ Received.Joined)
-            × Receives self.old (document envelope.now.patch) self.new) }
-        ensures joined { envelope.now.epoch ≡ epoch_of self.old → IfOk result (λ what.
-            GrowsBy (document envelope.now.patch) (joined_of self.old) (joined_of self.new)) }
+            × Receives self.old (document message.now.patch) self.new) }
+        ensures joined { message.now.epoch ≡ epoch_of self.old → IfOk result (λ what.
+            GrowsBy (document message.now.patch) (joined_of self.old) (joined_of self.new)) }
         ensures start { start_of self.new ≡ start_of self.old }
         ensures epoch { epoch_of self.new ≡ epoch_of self.old }
-        ensures late { envelope.now.epoch < epoch_of self.old
+        ensures late { message.now.epoch < epoch_of self.old
             → (result ≡ Ok Received.Late) × (self.new ≡ self.old) }
-        ensures early { epoch_of self.old < envelope.now.epoch
+        ensures early { epoch_of self.old < message.now.epoch
             → (result ≡ Ok Received.Early) × (self.new ≡ self.old) }
         ensures clashes { IfErr result (λ fault. (received : List Document)
             → HasReceived self.old received
-            → IsClashWith fault received (document envelope.now.patch)) }
+            → IsClashWith fault received (document message.now.patch)) }
         ensures refused { IfErr result (λ fault.
-            IsRefusedBy fault (joined_of self.old) (document envelope.now.patch)) }
+            IsRefusedBy fault (joined_of self.old) (document message.now.patch)) }
         ensures unchanged { OnErr result (self.new ≡ self.old) }
     {
         laws::join_grows();
         laws::clash_with_a_join();
-        if envelope.epoch < self.epoch {
+        if message.epoch < self.epoch {
             return Ok(Received::Late);
         }
-        if envelope.epoch > self.epoch {
+        if message.epoch > self.epoch {
             return Ok(Received::Early);
         }
         let joined = match &self.joined {
-            None => envelope.patch.copy(alloc)?,
-            Some(joined) => join(alloc, joined, &envelope.patch)?,
+            None => message.patch.copy(alloc)?,
+            Some(joined) => join(alloc, joined, &message.patch)?,
         };
         self.joined = Some(joined);
         Ok(Received::Joined)
     }
 
-    /// The join of what it has received, which can be sent in place of that; none where nothing came.
+    /// The join of what it has received, which can be sent in place of that; none if nothing arrived.
     pub fn joined(&self) -> Option<&Doc>
         ensures { option_map (λ j. j.now) result ≡ joined_of self.now }
     {
@@ -117,23 +117,23 @@ impl Replica {
     }
 }
 
-/// The document of a replica that began with the start, once these envelopes came, in whatever order and with whatever
+/// The document of a replica that began with the start, once these messages arrived, in whatever order and with whatever
 /// repeats. If two of their patches conflict, it stops at the first that conflicts with one before it, and returns all the
 /// places at which it conflicts with any of those before it.
 pub fn shown_after(
     alloc: Global,
     epoch: u64,
     start: Doc,
-    envelopes: &[Envelope],
+    messages: &[PatchMessage],
 ) -> Result<Doc, JoinFault>
     ensures outcome { IfOk result (λ shown.
-        IsOutcome (document start) (patches_of epoch envelopes.now) (document shown)) }
+        IsOutcome (document start) (patches_of epoch messages.now) (document shown)) }
     ensures refused { IfErr result (λ fault.
-        IsClashAmong fault (patches_of epoch envelopes.now)) }
+        IsClashAmong fault (patches_of epoch messages.now)) }
 {
     let mut replica = Replica::new(epoch, start);
-    for envelope in envelopes {
-        replica.receive(alloc, envelope)?;
+    for message in messages {
+        replica.receive(alloc, message)?;
     }
     Ok(replica.current_doc(alloc)?)
 }

@@ -1,4 +1,4 @@
-//! What a replica does with its start and the patches that it received, in whatever order they came.
+//! What a replica does with its start and the patches that it received, in whatever order they arrived.
 ghost use Rattle.std.specs.Prelude.{◌≡◌, map, option_map, IfOk, IfErr, MatchResult, string_bytes};
 ghost use Rattle.mp_tree.specs.Document.{depth_limit};
 ghost use Rattle.mp_tree.specs.View.{document};
@@ -16,7 +16,7 @@ use mp_pointer::{Pointer, PointerFault, get};
 use mp_tree::{Doc, read_doc, read_docs, write_doc};
 use std::alloc::Global;
 
-/// The text of the document that the patches make of the start, or which two clash and where.
+/// The text of the document that the patches make of the start, or which two conflict and where.
 pub fn show(alloc: Global, start: &[u8], patches: &[u8]) -> Result<String, ShowFault>
     ensures { MatchResult result (λ text. IsShown start.now patches.now (string_bytes text))
         (λ fault. IsNotShown fault start.now patches.now) }
@@ -44,7 +44,7 @@ pub fn for_a_peer(alloc: Global, start: &Doc, patches: &[Doc]) -> Result<JsonPat
     Ok(rewrite(alloc, start, &joined)?)
 }
 
-/// The part of a document that stands at a place, as `/colour`.
+/// The part of a document at a place, as `/colour`.
 pub fn at<'a>(alloc: Global, doc: &'a Doc, place: &str) -> Result<Option<&'a Doc>, PointerFault>
     ensures found { IfOk result (λ found. (tokens : Tokens) × (place.now ≡ spell tokens)
         × (option_map (λ d. document d.now) found ≡ part (document doc.now) tokens)) }

@@ -1,4 +1,4 @@
--- That an export tells an answer that its call can give.
+-- That an export reports an answer that its call can give.
 use Rattle.std.proofs.Common.{◌≡◌, ◌≢◌, ℕ, List, Result, Ok, Err, MatchResult, String, string_bytes, inl, inr, subst, sym}
 use Rattle.std.specs.Str.{IsUtf8}
 use Rattle.mp_tree.specs.Text.{document_in}
@@ -8,20 +8,20 @@ use Rattle.mp_texts.specs.Answers.{IsPartText}
 use Rattle.mp_texts.specs.Faults.{IsPartTextFault}
 use Rattle.mp_texts.specs.declared.fault.TextsFault.{TextsFault}
 use Rattle.mp_texts.specs.declared.fault.TextsFault.TheVariants.{Document as NoDocument, Patch, List as OfList, Form, Refused, Pointer, Missing, OutOfMemory}
-use Rattle.mp_c.specs.Answered.{Answered, text, fault, IsPart, IsPartFault}
-use Rattle.mp_c.specs.Private.Telling.{Tells, answered_by}
+use Rattle.mp_c.specs.Answered.{ExportAnswer, answer_text, answer_fault, IsPart, IsPartFault}
+use Rattle.mp_c.specs.Private.Reporting.{Reports, answered_by}
 use Rattle.mp_c.specs.Replies.{Replies}
-use Rattle.mp_c.specs.Told.{told_of}
+use Rattle.mp_c.specs.Report.{report_of}
 use Rattle.mp_c.specs.declared.replying.Reply.{Reply}
 
--- what the call over texts gave is told, or want of memory is, which each call can give
-pub replied : {A : Type 0} (IsAnswer : Answered → Type 0) (given : Result (String A) TextsFault) (reply : Reply) (before after : List ℕ)
-    → MatchResult given (λ s. IsAnswer (text (string_bytes s))) (λ why. IsAnswer (fault why)) → IsAnswer (fault OutOfMemory)
-    → Tells (told_of (answered_by given)) reply before after → Replies IsAnswer reply before after
-replied IsAnswer (Ok s) reply before after is memory (inl told) = (text (string_bytes s), is, told)
-replied IsAnswer (Ok s) reply before after is memory (inr told) = (fault OutOfMemory, memory, told)
-replied IsAnswer (Err why) reply before after is memory (inl told) = (fault why, is, told)
-replied IsAnswer (Err why) reply before after is memory (inr told) = (fault OutOfMemory, memory, told)
+-- what the call over texts gave is reported, or out of memory is, which each call can give
+pub replied : {A : Type 0} (IsAnswer : ExportAnswer → Type 0) (given : Result (String A) TextsFault) (reply : Reply) (before after : List ℕ)
+    → MatchResult given (λ s. IsAnswer (answer_text (string_bytes s))) (λ why. IsAnswer (answer_fault why)) → IsAnswer (answer_fault OutOfMemory)
+    → Reports (report_of (answered_by given)) reply before after → Replies IsAnswer reply before after
+replied IsAnswer (Ok s) reply before after is memory (inl report) = (answer_text (string_bytes s), is, report)
+replied IsAnswer (Ok s) reply before after is memory (inr report) = (answer_fault OutOfMemory, memory, report)
+replied IsAnswer (Err why) reply before after is memory (inl report) = (answer_fault why, is, report)
+replied IsAnswer (Err why) reply before after is memory (inr report) = (answer_fault OutOfMemory, memory, report)
 
 -- ---- parts
 
@@ -38,25 +38,25 @@ part_fault OutOfMemory document pointer utf8 is = is
 -- the pointer is text
 pub part_of_text : {A : Type 0} (given : Result (String A) TextsFault) (document pointer spelling : List ℕ) → spelling ≡ pointer → IsUtf8 pointer
     → MatchResult given (λ s. IsPartText document spelling (string_bytes s)) (λ why. IsPartTextFault why document spelling)
-    → MatchResult given (λ s. IsPart document pointer (text (string_bytes s))) (λ why. IsPart document pointer (fault why))
+    → MatchResult given (λ s. IsPart document pointer (answer_text (string_bytes s))) (λ why. IsPart document pointer (answer_fault why))
 part_of_text (Ok s) document pointer spelling same utf8 is = (utf8, subst (λ (p : List ℕ). IsPartText document p (string_bytes s)) same is)
 part_of_text (Err why) document pointer spelling same utf8 is = part_fault why document pointer utf8 (subst (λ (p : List ℕ). IsPartTextFault why document p) same is)
 
 -- the document is none
 pub no_document : (why : ReadFault) (document pointer : List ℕ) (reply : Reply) (before after : List ℕ) → (why ≢ read.OutOfMemory → document_in document ≡ Err why)
-    → Tells (told_of (fault (NoDocument why))) reply before after → Replies (IsPart document pointer) reply before after
-no_document read.NotJson document pointer reply before after is tells =
-    replied {A = ℕ} (IsPart document pointer) (Err (NoDocument read.NotJson)) reply before after (is (λ e. cc)) tt tells
-no_document read.NotWhole document pointer reply before after is tells =
-    replied {A = ℕ} (IsPart document pointer) (Err (NoDocument read.NotWhole)) reply before after (is (λ e. cc)) tt tells
-no_document read.TooDeep document pointer reply before after is tells =
-    replied {A = ℕ} (IsPart document pointer) (Err (NoDocument read.TooDeep)) reply before after (is (λ e. cc)) tt tells
-no_document read.OutOfMemory document pointer reply before after is tells =
-    replied {A = ℕ} (IsPart document pointer) (Err OutOfMemory) reply before after tt tt tells
+    → Reports (report_of (answer_fault (NoDocument why))) reply before after → Replies (IsPart document pointer) reply before after
+no_document read.NotJson document pointer reply before after is reports =
+    replied {A = ℕ} (IsPart document pointer) (Err (NoDocument read.NotJson)) reply before after (is (λ e. cc)) tt reports
+no_document read.NotWhole document pointer reply before after is reports =
+    replied {A = ℕ} (IsPart document pointer) (Err (NoDocument read.NotWhole)) reply before after (is (λ e. cc)) tt reports
+no_document read.TooDeep document pointer reply before after is reports =
+    replied {A = ℕ} (IsPart document pointer) (Err (NoDocument read.TooDeep)) reply before after (is (λ e. cc)) tt reports
+no_document read.OutOfMemory document pointer reply before after is reports =
+    replied {A = ℕ} (IsPart document pointer) (Err OutOfMemory) reply before after tt tt reports
 
 -- ---- a reply by another name
 
-pub renamed : (IsAnswer : Answered → Type 0) (reply same : Reply) (before after out : List ℕ) → reply ≡ same → after ≡ out
+pub renamed : (IsAnswer : ExportAnswer → Type 0) (reply same : Reply) (before after out : List ℕ) → reply ≡ same → after ≡ out
     → Replies IsAnswer same before out → Replies IsAnswer reply before after
 renamed IsAnswer reply same before after out is_reply is_out replies =
     subst (λ (r : Reply). Replies IsAnswer r before after) (sym is_reply) (subst (λ (o : List ℕ). Replies IsAnswer same before o) (sym is_out) replies)

@@ -1,4 +1,4 @@
 pub mod Exports
 pub mod OneReply
-pub mod Rooms
+pub mod Buffers
 pub mod SomeReply

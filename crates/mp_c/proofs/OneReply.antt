@@ -11,20 +11,20 @@ use Rattle.mp_texts.specs.Calls.{Call, join_texts, replay_texts, merge_texts, re
 use Rattle.mp_texts.specs.Laws.{CallHasOneAnswer, FaultsShowTheAnswer}
 use Rattle.mp_texts.specs.declared.fault.TextsFault.{TextsFault}
 use Rattle.mp_texts.specs.declared.fault.TextsFault.TheVariants.{Document as NoDocument, Patch, List as OfList, Form, Refused, Pointer, Missing, OutOfMemory}
-use Rattle.mp_c.specs.Answered.{Answered, text, fault, not_utf8, IsJoined, IsReplayed, IsMerged, IsRewritten, IsPatched, IsPart, IsPartFault}
+use Rattle.mp_c.specs.Answered.{ExportAnswer, answer_text, answer_fault, not_utf8, IsJoined, IsReplayed, IsMerged, IsRewritten, IsPatched, IsPart, IsPartFault}
 use Rattle.mp_c.specs.Laws.{BeginsTheLarger, EachBeginsTheLarger, EachHasOneReply, HasOneReply, ReportTheSame}
-use Rattle.mp_c.specs.Replies.{IsReply, room_after}
-use Rattle.mp_c.specs.Told.{Told, plain, status_no_memory, status_result, told_of, told_of_conflict, told_of_fault}
+use Rattle.mp_c.specs.Replies.{IsReply, buffer_after}
+use Rattle.mp_c.specs.Report.{Report, unnumbered, status_no_memory, status_result, report_of, report_of_conflict, report_of_fault}
 use Rattle.mp_c.specs.declared.replying.Reply.{Reply}
 
 -- ---- what is reported of an answer as its caller sees it
 
-abbrev pub told_of_seen : CallAnswer → Told
-told_of_seen (returned result) = plain status_result result
-told_of_seen (conflicting first second places) = told_of_conflict first second places
-told_of_seen (failed why) = told_of_fault why
+abbrev pub report_of_seen : CallAnswer → Report
+report_of_seen (returned result) = unnumbered status_result result
+report_of_seen (conflicting first second places) = report_of_conflict first second places
+report_of_seen (failed why) = report_of_fault why
 
-fault_seen : (why : TextsFault) → told_of_fault why ≡ told_of_seen (seen_of why)
+fault_seen : (why : TextsFault) → report_of_fault why ≡ report_of_seen (seen_of why)
 fault_seen (NoDocument why) = refl
 fault_seen (Patch number why) = refl
 fault_seen (OfList list.NoPatches) = refl
@@ -37,61 +37,61 @@ fault_seen Missing = refl
 fault_seen OutOfMemory = refl
 
 -- an answer of the call is reported so
-pub record Seen (call : Call) (told : Told) : Type 0 where
+pub record Seen (call : Call) (report : Report) : Type 0 where
   pub answer : CallAnswer
   pub is : IsCallAnswer call answer
-  pub shows : told ≡ told_of_seen answer
+  pub shows : report ≡ report_of_seen answer
 
-abbrev pub HasMemory : Told → Type 0
-HasMemory told = told.status ≢ status_no_memory
+abbrev pub HasMemory : Report → Type 0
+HasMemory report = report.status ≢ status_no_memory
 
-text_seen : (call : Call) (result : List ℕ) → MayReturn call result → Seen call (plain status_result result)
+text_seen : (call : Call) (result : List ℕ) → MayReturn call result → Seen call (unnumbered status_result result)
 text_seen call result may = record { answer = returned result; is = may; shows = refl }
 
-is_seen : FaultsShowTheAnswer → (call : Call) (why : TextsFault) → MayFail call why → HasMemory (told_of_fault why) → Seen call (told_of_fault why)
+is_seen : FaultsShowTheAnswer → (call : Call) (why : TextsFault) → MayFail call why → HasMemory (report_of_fault why) → Seen call (report_of_fault why)
 is_seen faults call why may memory = record {
   answer = seen_of why;
-  is = faults call why may (λ none. memory (ap (λ f. (told_of_fault f).status) none));
+  is = faults call why may (λ none. memory (ap (λ f. (report_of_fault f).status) none));
   shows = fault_seen why;
 }
 
-pub one_seen : CallHasOneAnswer → (call : Call) (told other : Told) → Seen call told → Seen call other → told ≡ other
-one_seen answers call told other one also = one.shows ∙ ap told_of_seen (answers call one.answer also.answer one.is also.is) ∙ sym also.shows
+pub one_seen : CallHasOneAnswer → (call : Call) (report other : Report) → Seen call report → Seen call other → report ≡ other
+one_seen answers call report other one also = one.shows ∙ ap report_of_seen (answers call one.answer also.answer one.is also.is) ∙ sym also.shows
 
 -- ---- replies that report the same
 
 reply_of : ℕ → ℕ → ℕ → ℕ → Reply
 reply_of whole first second status = record { length = whole; first = first; second = second; status = status }
 
-same_reply : (told : Told) (reply other : Reply) (before after other_before other_after : List ℕ) → IsReply told reply before after → IsReply told other other_before other_after
+same_reply : (report : Report) (reply other : Reply) (before after other_before other_after : List ℕ) → IsReply report reply before after → IsReply report other other_before other_after
     → ReportTheSame reply other before after other_before other_after
 unfolding reply_of
-same_reply told reply other before after other_before other_after one also = record {
+same_reply report reply other before after other_before other_after one also = record {
   same =
       ap (λ (n : ℕ). reply_of n reply.first reply.second reply.status) (one.whole ∙ sym also.whole)
       ∙ ap (λ (n : ℕ). reply_of other.length n reply.second reply.status) (one.first ∙ sym also.first)
       ∙ ap (λ (n : ℕ). reply_of other.length other.first n reply.status) (one.second ∙ sym also.second)
       ∙ ap (λ (n : ℕ). reply_of other.length other.first other.second n) (one.status ∙ sym also.status);
-  text = told.text;
+  text = report.text;
   whole = one.whole;
-  buffer = one.room;
-  other_buffer = also.room;
+  buffer = one.buffer;
+  other_buffer = also.buffer;
 }
 
 -- what is reported of the answers of an export, one and all
-abbrev pub OneIsTold : (Answered → Type 0) → Type 0
-OneIsTold IsAnswer = (a b : Answered) → IsAnswer a → IsAnswer b → HasMemory (told_of a) → HasMemory (told_of b) → told_of a ≡ told_of b
+abbrev pub OneIsReported : (ExportAnswer → Type 0) → Type 0
+OneIsReported IsAnswer = (a b : ExportAnswer) → IsAnswer a → IsAnswer b → HasMemory (report_of a) → HasMemory (report_of b) → report_of a ≡ report_of b
 
-replied_once : (IsAnswer : Answered → Type 0) → OneIsTold IsAnswer → HasOneReply IsAnswer
+replied_once : (IsAnswer : ExportAnswer → Type 0) → OneIsReported IsAnswer → HasOneReply IsAnswer
 replied_once IsAnswer one reply other before after other_before other_after (a, is, replied) (b, was, other_replied) memory other_memory =
     let same = one a b is was (λ none. memory (replied.status ∙ none)) (λ none. other_memory (other_replied.status ∙ none)) in
-    same_reply (told_of a) reply other before after other_before other_after replied
-    (subst (λ (told : Told). IsReply told other other_before other_after) (sym same) other_replied)
+    same_reply (report_of a) reply other before after other_before other_after replied
+    (subst (λ (report : Report). IsReply report other other_before other_after) (sym same) other_replied)
 
 -- ---- a text that is cut
 
 begins : (before other_before written : List ℕ) → length before ≤ length written → length written ≤ length other_before
-    → room_after before written ≡ take (length before) (room_after other_before written)
+    → buffer_after before written ≡ take (length before) (buffer_after other_before written)
 begins before other_before written short enough =
     let n = length before in
     let rest = drop (length written) other_before in
@@ -100,7 +100,7 @@ begins before other_before written short enough =
     ∙ sym (take-append-le n written rest short)
     ∙ sym (ap (λ (t : List ℕ). take n (t ++ rest)) (take_all (length other_before) written enough))
 
-begins_the_larger : (IsAnswer : Answered → Type 0) → HasOneReply IsAnswer → BeginsTheLarger IsAnswer
+begins_the_larger : (IsAnswer : ExportAnswer → Type 0) → HasOneReply IsAnswer → BeginsTheLarger IsAnswer
 begins_the_larger IsAnswer one reply other before after other_before other_after replied other_replied memory other_memory short enough =
     let same = one reply other before after other_before other_after replied other_replied memory other_memory in
     let cut : length before ≤ length same.text = subst (λ (n : ℕ). length before ≤ n) same.whole short in
@@ -110,17 +110,17 @@ begins_the_larger IsAnswer one reply other before after other_before other_after
 -- ---- the exports that answer as the call over texts does
 
 module _ (answers : CallHasOneAnswer) (faults : FaultsShowTheAnswer) where
-  module _ (call : Call) (IsAnswer : Answered → Type 0) (texts : (t : List ℕ) → IsAnswer (text t) → MayReturn call t) (whys : (why : TextsFault) → IsAnswer (fault why) → MayFail call why)
+  module _ (call : Call) (IsAnswer : ExportAnswer → Type 0) (texts : (t : List ℕ) → IsAnswer (answer_text t) → MayReturn call t) (whys : (why : TextsFault) → IsAnswer (answer_fault why) → MayFail call why)
       (no_offset : (offset : ℕ) → IsAnswer (not_utf8 offset) → ⊥) where
-    pub all_seen : (a : Answered) → IsAnswer a → HasMemory (told_of a) → Seen call (told_of a)
-    all_seen (text t) is memory = text_seen call t (texts t is)
-    all_seen (fault why) is memory = is_seen faults call why (whys why is) memory
+    pub all_seen : (a : ExportAnswer) → IsAnswer a → HasMemory (report_of a) → Seen call (report_of a)
+    all_seen (answer_text t) is memory = text_seen call t (texts t is)
+    all_seen (answer_fault why) is memory = is_seen faults call why (whys why is) memory
     all_seen (not_utf8 offset) is memory = absurd (no_offset offset is)
 
     as_over_texts : HasOneReply IsAnswer
     as_over_texts =
         replied_once IsAnswer
-        (λ a b is was memory other_memory. one_seen answers call (told_of a) (told_of b) (all_seen a is memory) (all_seen b was other_memory))
+        (λ a b is was memory other_memory. one_seen answers call (report_of a) (report_of b) (all_seen a is memory) (all_seen b was other_memory))
 
   -- ---- parts
 
@@ -145,8 +145,8 @@ module _ (answers : CallHasOneAnswer) (faults : FaultsShowTheAnswer) where
   unread : (document : List ℕ) (d : Document) (why : ReadFault) → document_in document ≡ Ok d → document_in document ≡ Err why → ⊥
   unread document d why one other = cc
 
-  -- a pointer that is not UTF-8 has no other fault
-  no_other_fault : (document pointer : List ℕ) (why : TextsFault) (offset : ℕ) → IsPartFault why document pointer → HasMemory (told_of_fault why) → IsPart document pointer (not_utf8 offset) → ⊥
+  -- a pointer that is not UTF-8 has no other error
+  no_other_fault : (document pointer : List ℕ) (why : TextsFault) (offset : ℕ) → IsPartFault why document pointer → HasMemory (report_of_fault why) → IsPart document pointer (not_utf8 offset) → ⊥
   no_other_fault document pointer (NoDocument why) offset is memory not = unread document not.0.0 why not.0.1 is
   no_other_fault document pointer (Patch number why) offset is memory not = utf8_or_not pointer offset is.0 not.1
   no_other_fault document pointer (OfList why) offset is memory not = utf8_or_not pointer offset is.0 not.1
@@ -156,24 +156,24 @@ module _ (answers : CallHasOneAnswer) (faults : FaultsShowTheAnswer) where
   no_other_fault document pointer Missing offset is memory not = utf8_or_not pointer offset is.0 not.1
   no_other_fault document pointer OutOfMemory offset is memory not = memory refl
 
-  pub one_part : (document pointer : List ℕ) → OneIsTold (IsPart document pointer)
-  one_part document pointer (text v) (text w) is was memory other =
+  pub one_part : (document pointer : List ℕ) → OneIsReported (IsPart document pointer)
+  one_part document pointer (answer_text v) (answer_text w) is was memory other =
       let call = part_text document pointer in
-      one_seen answers call (told_of (text v)) (told_of (text w)) (text_seen call v is.1) (text_seen call w was.1)
-  one_part document pointer (text v) (fault why) is was memory other =
+      one_seen answers call (report_of (answer_text v)) (report_of (answer_text w)) (text_seen call v is.1) (text_seen call w was.1)
+  one_part document pointer (answer_text v) (answer_fault why) is was memory other =
       let call = part_text document pointer in
-      one_seen answers call (told_of (text v)) (told_of_fault why) (text_seen call v is.1) (is_seen faults call why (part_fails document pointer why was) other)
-  one_part document pointer (text v) (not_utf8 offset) is was memory other = absurd (utf8_or_not pointer offset is.0 was.1)
-  one_part document pointer (fault why) (text w) is was memory other =
+      one_seen answers call (report_of (answer_text v)) (report_of_fault why) (text_seen call v is.1) (is_seen faults call why (part_fails document pointer why was) other)
+  one_part document pointer (answer_text v) (not_utf8 offset) is was memory other = absurd (utf8_or_not pointer offset is.0 was.1)
+  one_part document pointer (answer_fault why) (answer_text w) is was memory other =
       let call = part_text document pointer in
-      one_seen answers call (told_of_fault why) (told_of (text w)) (is_seen faults call why (part_fails document pointer why is) memory) (text_seen call w was.1)
-  one_part document pointer (fault why) (fault also) is was memory other =
+      one_seen answers call (report_of_fault why) (report_of (answer_text w)) (is_seen faults call why (part_fails document pointer why is) memory) (text_seen call w was.1)
+  one_part document pointer (answer_fault why) (answer_fault also) is was memory other =
       let call = part_text document pointer in
-      one_seen answers call (told_of_fault why) (told_of_fault also) (is_seen faults call why (part_fails document pointer why is) memory) (is_seen faults call also (part_fails document pointer also was) other)
-  one_part document pointer (fault why) (not_utf8 offset) is was memory other = absurd (no_other_fault document pointer why offset is memory was)
-  one_part document pointer (not_utf8 offset) (text w) is was memory other = absurd (utf8_or_not pointer offset was.0 is.1)
-  one_part document pointer (not_utf8 offset) (fault also) is was memory other = absurd (no_other_fault document pointer also offset was other is)
-  one_part document pointer (not_utf8 offset) (not_utf8 also) is was memory other = ap (λ (n : ℕ). told_of (not_utf8 n)) (one_offset pointer offset also is.1 was.1)
+      one_seen answers call (report_of_fault why) (report_of_fault also) (is_seen faults call why (part_fails document pointer why is) memory) (is_seen faults call also (part_fails document pointer also was) other)
+  one_part document pointer (answer_fault why) (not_utf8 offset) is was memory other = absurd (no_other_fault document pointer why offset is memory was)
+  one_part document pointer (not_utf8 offset) (answer_text w) is was memory other = absurd (utf8_or_not pointer offset was.0 is.1)
+  one_part document pointer (not_utf8 offset) (answer_fault also) is was memory other = absurd (no_other_fault document pointer also offset was other is)
+  one_part document pointer (not_utf8 offset) (not_utf8 also) is was memory other = ap (λ (n : ℕ). report_of (not_utf8 n)) (one_offset pointer offset also is.1 was.1)
 
   -- ---- all six
 

@@ -20,14 +20,14 @@ use Rattle.mp_texts.specs.Calls.{Call, join_texts, replay_texts, merge_texts, re
 use Rattle.mp_texts.specs.Faults.{IsRead}
 use Rattle.mp_texts.specs.declared.fault.TextsFault.{TextsFault}
 use Rattle.mp_texts.specs.declared.fault.TextsFault.TheVariants.{Document as NoDocument, Patch, List as OfList, Form, Refused, Pointer, Missing, OutOfMemory}
-use Rattle.mp_c.specs.Answered.{Answered, text, fault, not_utf8, IsJoined, IsReplayed, IsMerged, IsRewritten, IsPatched, IsPart}
+use Rattle.mp_c.specs.Answered.{ExportAnswer, answer_text, answer_fault, not_utf8, IsJoined, IsReplayed, IsMerged, IsRewritten, IsPatched, IsPart}
 use Rattle.mp_c.specs.Laws.{EachHasReport, HasReport, MayReport}
 use Rattle.mp_c.specs.Private.LawsOfTexts.{LawsOfTexts}
 use Rattle.mp_c.specs.Replies.{IsReply, Replies}
-use Rattle.mp_c.specs.Told.{Told, status_document, status_no_memory, status_patch, told_of, told_of_apply, told_of_fault, told_of_form, told_of_list, told_of_pointer, told_of_unread}
+use Rattle.mp_c.specs.Report.{Report, status_document, status_no_memory, status_patch, report_of, report_of_apply, report_of_fault, report_of_form, report_of_list, report_of_pointer, report_of_unread}
 use Rattle.mp_c.specs.declared.replying.Reply.{Reply}
 use Rattle.mp_c.proofs.Exports.{part_fault}
-use Rattle.mp_c.proofs.OneReply.{HasMemory, all_seen, one_part, one_seen, told_of_seen}
+use Rattle.mp_c.proofs.OneReply.{HasMemory, all_seen, one_part, one_seen, report_of_seen}
 
 -- ---- bytes are UTF-8, or there is the offset from which on they are not
 
@@ -76,29 +76,29 @@ utf8_or_offset bs = by (is_utf8 bs) refl
           },
         )
 
--- ---- a fault that is not out of memory is not reported as that
+-- ---- an error that is not out of memory is not reported as that
 
-unread_memory : (status number : ℕ) (why : ReadFault) → status ≢ status_no_memory → why ≢ read.OutOfMemory → HasMemory (told_of_unread status number why)
+unread_memory : (status number : ℕ) (why : ReadFault) → status ≢ status_no_memory → why ≢ read.OutOfMemory → HasMemory (report_of_unread status number why)
 unread_memory status number read.NotJson other some = other
 unread_memory status number read.NotWhole other some = other
 unread_memory status number read.TooDeep other some = other
 unread_memory status number read.OutOfMemory other some = absurd (some refl)
 
-list_memory : (why : ListFault) → why ≢ list.OutOfMemory → HasMemory (told_of_list why)
+list_memory : (why : ListFault) → why ≢ list.OutOfMemory → HasMemory (report_of_list why)
 list_memory list.NoPatches some = λ e. cc
 list_memory (list.ConflictOf first second places) some = λ e. cc
 list_memory list.OutOfMemory some = absurd (some refl)
 
-form_memory : (why : FormFault) → why ≢ form.OutOfMemory → HasMemory (told_of_form why)
+form_memory : (why : FormFault) → why ≢ form.OutOfMemory → HasMemory (report_of_form why)
 form_memory form.NotAnArray some = λ e. cc
 form_memory (form.Form number cause) some = λ e. cc
 form_memory form.OutOfMemory some = absurd (some refl)
 
-apply_memory : (why : ApplyFault) → why ≢ apply.OutOfMemory → HasMemory (told_of_apply why)
+apply_memory : (why : ApplyFault) → why ≢ apply.OutOfMemory → HasMemory (report_of_apply why)
 apply_memory (apply.Refused number cause) some = λ e. cc
 apply_memory apply.OutOfMemory some = absurd (some refl)
 
-pointer_memory : (why : PointerFault) → why ≢ pointer.OutOfMemory → HasMemory (told_of_pointer why)
+pointer_memory : (why : PointerFault) → why ≢ pointer.OutOfMemory → HasMemory (report_of_pointer why)
 pointer_memory pointer.NoSlash some = λ e. cc
 pointer_memory (pointer.BadTilde offset) some = λ e. cc
 pointer_memory pointer.OutOfMemory some = absurd (some refl)
@@ -155,7 +155,7 @@ module _ (laws : LawsOfTexts) where
   pointer_fault (patch_text document json_patch) why is = absurd is
   pointer_fault (part_text document pointer) why is = is.1
 
-  fault_memory : (call : Call) (why : TextsFault) → why ≢ OutOfMemory → MayFail call why → HasMemory (told_of_fault why)
+  fault_memory : (call : Call) (why : TextsFault) → why ≢ OutOfMemory → MayFail call why → HasMemory (report_of_fault why)
   fault_memory call (NoDocument why) some is = unread_memory status_document 0 why (λ e. cc) (document_fault call why is)
   fault_memory call (Patch number why) some is = unread_memory status_patch number why (λ e. cc) (patch_fault call number why is)
   fault_memory call (OfList why) some is = list_memory why (list_fault call why is)
@@ -165,51 +165,51 @@ module _ (laws : LawsOfTexts) where
   fault_memory call Missing some is = λ e. cc
   fault_memory call OutOfMemory some is = absurd (some refl)
 
-  answer_memory : (call : Call) (answer : CallAnswer) → IsCallAnswer call answer → HasMemory (told_of_seen answer)
+  answer_memory : (call : Call) (answer : CallAnswer) → IsCallAnswer call answer → HasMemory (report_of_seen answer)
   answer_memory call (returned result) is = λ e. cc
   answer_memory call (conflicting first second places) is = λ e. cc
   answer_memory call (failed why) is = fault_memory call why is.0 is.2
 
   -- ---- each reply is the one that there is
 
-  all_report : (IsAnswer : Answered → Type 0) (told : Told) → ((a : Answered) → IsAnswer a → HasMemory (told_of a) → told_of a ≡ told)
-      → (reply : Reply) (before after : List ℕ) → Replies IsAnswer reply before after → reply.status ≢ status_no_memory → IsReply told reply before after
-  all_report IsAnswer told one reply before after (a, is, replied) memory =
-      subst (λ (t : Told). IsReply t reply before after) (one a is (λ none. memory (replied.status ∙ none))) replied
+  all_report : (IsAnswer : ExportAnswer → Type 0) (report : Report) → ((a : ExportAnswer) → IsAnswer a → HasMemory (report_of a) → report_of a ≡ report)
+      → (reply : Reply) (before after : List ℕ) → Replies IsAnswer reply before after → reply.status ≢ status_no_memory → IsReply report reply before after
+  all_report IsAnswer report one reply before after (a, is, replied) memory =
+      subst (λ (t : Report). IsReply t reply before after) (one a is (λ none. memory (replied.status ∙ none))) replied
 
   -- ---- the exports that answer as the call over texts does
 
-  module _ (call : Call) (IsAnswer : Answered → Type 0) (texts : (t : List ℕ) → IsAnswer (text t) → MayReturn call t) (whys : (why : TextsFault) → IsAnswer (fault why) → MayFail call why)
-      (no_offset : (offset : ℕ) → IsAnswer (not_utf8 offset) → ⊥) (is_text : (t : List ℕ) → MayReturn call t → IsAnswer (text t)) (is_why : (why : TextsFault) → MayFail call why → IsAnswer (fault why)) where
-    may_report : (answer : CallAnswer) → IsCallAnswer call answer → MayReport call IsAnswer (told_of_seen answer)
-    may_report (returned result) is = inl (text result, is_text result is, refl)
+  module _ (call : Call) (IsAnswer : ExportAnswer → Type 0) (texts : (t : List ℕ) → IsAnswer (answer_text t) → MayReturn call t) (whys : (why : TextsFault) → IsAnswer (answer_fault why) → MayFail call why)
+      (no_offset : (offset : ℕ) → IsAnswer (not_utf8 offset) → ⊥) (is_text : (t : List ℕ) → MayReturn call t → IsAnswer (answer_text t)) (is_why : (why : TextsFault) → MayFail call why → IsAnswer (answer_fault why)) where
+    may_report : (answer : CallAnswer) → IsCallAnswer call answer → MayReport call IsAnswer (report_of_seen answer)
+    may_report (returned result) is = inl (answer_text result, is_text result is, refl)
     may_report (conflicting first second places) is = inr (first, second, places, is, refl)
-    may_report (failed why) is = inl (fault why, is_why why is.2, refl)
+    may_report (failed why) is = inl (answer_fault why, is_why why is.2, refl)
 
     report_over_texts : HasReport call IsAnswer
     report_over_texts =
         let (answer, is) = laws.has_answer call in
-        let told = told_of_seen answer in
+        let report = report_of_seen answer in
         record {
-          told = told;
+          report = report;
           may = may_report answer is;
           has_memory = answer_memory call answer is;
-          each = all_report IsAnswer told
-              (λ a can memory. one_seen laws.one_answer call (told_of a) told (all_seen laws.one_answer laws.faults_show call IsAnswer texts whys no_offset a can memory) (record { answer = answer; is = is; shows = refl }));
+          each = all_report IsAnswer report
+              (λ a can memory. one_seen laws.one_answer call (report_of a) report (all_seen laws.one_answer laws.faults_show call IsAnswer texts whys no_offset a can memory) (record { answer = answer; is = is; shows = refl }));
         }
 
   -- ---- parts
 
   record PartAnswer (document pointer : List ℕ) : Type 0 where
-    answer : Answered
+    answer : ExportAnswer
     is : IsPart document pointer answer
-    memory : HasMemory (told_of answer)
+    memory : HasMemory (report_of answer)
 
   part_of_text : (document pointer : List ℕ) → IsUtf8 pointer → (answer : CallAnswer) → IsCallAnswer (part_text document pointer) answer → PartAnswer document pointer
-  part_of_text document pointer utf8 (returned value) is = record { answer = text value; is = (utf8, is); memory = λ e. cc }
+  part_of_text document pointer utf8 (returned value) is = record { answer = answer_text value; is = (utf8, is); memory = λ e. cc }
   part_of_text document pointer utf8 (conflicting first second places) is = absurd is
   part_of_text document pointer utf8 (failed why) is = record {
-    answer = fault why;
+    answer = answer_fault why;
     is = part_fault why document pointer utf8 is.2;
     memory = fault_memory (part_text document pointer) why is.0 is.2;
   }
@@ -225,17 +225,17 @@ module _ (laws : LawsOfTexts) where
     where
       by : (r : Result Document ReadFault) → document_in document ≡ r → PartAnswer document pointer
       by (Ok d) is = part_of_document document pointer (d, is)
-      by (Err why) is = record { answer = fault (NoDocument why); is = is; memory = unread_memory status_document 0 why (λ e. cc) (of_bytes document why is) }
+      by (Err why) is = record { answer = answer_fault (NoDocument why); is = is; memory = unread_memory status_document 0 why (λ e. cc) (of_bytes document why is) }
 
   report_of_part : (document pointer : List ℕ) → HasReport (part_text document pointer) (IsPart document pointer)
   report_of_part document pointer =
       let some = some_part document pointer in
-      let told = told_of some.answer in
+      let report = report_of some.answer in
       record {
-        told = told;
+        report = report;
         may = inl (some.answer, some.is, refl);
         has_memory = some.memory;
-        each = all_report (IsPart document pointer) told (λ a can memory. one_part laws.one_answer laws.faults_show document pointer a some.answer can some.is memory some.memory);
+        each = all_report (IsPart document pointer) report (λ a can memory. one_part laws.one_answer laws.faults_show document pointer a some.answer can some.is memory some.memory);
       }
 
   -- ---- all six

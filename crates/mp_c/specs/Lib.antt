@@ -2,4 +2,4 @@ pub mod Answered
 pub mod Laws
 pub mod Private
 pub mod Replies
-pub mod Told
+pub mod Report

@@ -1,3 +1,3 @@
 -- What private clauses alone cite: who trusts the public contracts need not read it.
 pub mod LawsOfTexts
-pub mod Telling
+pub mod Reporting

@@ -2,7 +2,7 @@
 ghost use Rattle.mp_c.specs.Answered.{IsPart, IsPatched, IsRewritten};
 ghost use Rattle.mp_c.specs.Replies.{Replies};
 
-use crate::replying::{Reply, tell, tell_not_utf8};
+use crate::replying::{Reply, report, report_not_utf8};
 use mp_texts::{TextsFault, part_text, patch_text, rewrite_text};
 use mp_tree::read_doc;
 use std::alloc::Global;
@@ -10,7 +10,7 @@ use std::alloc::Global;
 /// The text of a merge patch as a JSON Patch for the document, as `mp_texts::rewrite_text` gives it.
 ///
 /// ```text
-/// mergejoin_rewrite("5", 1, "6", 1, out, room)
+/// mergejoin_rewrite("5", 1, "6", 1, out, buffer)
 /// // [{"op":"test","path":"","value":5},{"op":"replace","path":"","value":6}], status 0
 /// ```
 #[unsafe(no_mangle)]
@@ -22,13 +22,13 @@ pub extern "C" fn mergejoin_rewrite(
 ) -> Reply
     ensures { Replies (IsRewritten document.now patch.now) result out.old out.new }
 {
-    tell(alloc, rewrite_text(alloc, document, patch), out)
+    report(alloc, rewrite_text(alloc, document, patch), out)
 }
 
 /// The text of the document after a JSON Patch (RFC 6902), as `mp_texts::patch_text` gives it.
 ///
 /// ```text
-/// mergejoin_patch("[1]", 3, patch, length, out, room)  // of [{"op":"remove","path":"/0"}]: [], status 0
+/// mergejoin_patch("[1]", 3, patch, length, out, buffer)  // of [{"op":"remove","path":"/0"}]: [], status 0
 /// ```
 #[unsafe(no_mangle)]
 pub extern "C" fn mergejoin_patch(
@@ -39,14 +39,14 @@ pub extern "C" fn mergejoin_patch(
 ) -> Reply
     ensures { Replies (IsPatched document.now patch.now) result out.old out.new }
 {
-    tell(alloc, patch_text(alloc, document, patch), out)
+    report(alloc, patch_text(alloc, document, patch), out)
 }
 
 /// The text of the part of the document that the pointer names (RFC 6901), as `mp_texts::part_text` gives it. A pointer
-/// whose bytes are not UTF-8 is told after a document that is none, and before any other fault of a pointer.
+/// whose bytes are not UTF-8 is reported after a document that is not one, and before any other error of a pointer.
 ///
 /// ```text
-/// mergejoin_get("{\"a\":[5]}", 9, "/a", 2, out, room)  // [5], status 0
+/// mergejoin_get("{\"a\":[5]}", 9, "/a", 2, out, buffer)  // [5], status 0
 /// ```
 #[unsafe(no_mangle)]
 pub extern "C" fn mergejoin_get(
@@ -58,10 +58,10 @@ pub extern "C" fn mergejoin_get(
     ensures { Replies (IsPart document.now pointer.now) result out.old out.new }
 {
     match str::from_utf8(pointer) {
-        Ok(pointer) => tell(alloc, part_text(alloc, document, pointer), out),
+        Ok(pointer) => report(alloc, part_text(alloc, document, pointer), out),
         Err(fault) => match read_doc(alloc, document) {
-            Ok(_) => tell_not_utf8(fault.valid_up_to(), out),
-            Err(why) => tell(alloc, Err(TextsFault::Document(why)), out),
+            Ok(_) => report_not_utf8(fault.valid_up_to(), out),
+            Err(why) => report(alloc, Err(TextsFault::Document(why)), out),
         },
     }
 }

@@ -1,22 +1,22 @@
 //! Laws over replies: each function runs nothing, and its contract is the law.
-ghost use Rattle.mp_c.specs.Laws.{EachBeginsTheLarger, EachHasOneReply, EachHasReport, ReplaysAgreeInTheirRooms};
+ghost use Rattle.mp_c.specs.Laws.{EachBeginsTheLarger, EachHasOneReply, EachHasReport, ReplaysAgreeInTheirBuffers};
 ghost use Rattle.mp_c.specs.Private.LawsOfTexts.{LawsOfTexts};
 
 use mp_texts::laws as texts;
 use mp_tree::laws as tree;
 
 /// Replays agree: two callers that replay texts of the same documents, in any order and with any repeats, on texts of one
-/// start, and that have a result and room enough for it, have the same bytes.
-pub fn replays_agree_in_their_rooms()
-    ensures { ReplaysAgreeInTheirRooms }
+/// start, and that have a result and a buffer as long as it, have the same bytes.
+pub fn replays_agree_in_their_buffers()
+    ensures { ReplaysAgreeInTheirBuffers }
 {
     texts::replays_agree();
 }
 
-/// One reply: of each of the six exports, two calls with the same arguments have the same status, numbers, length and text,
-/// unless memory runs out in one of them. What a buffer has afterwards depends on nothing but that text, on its capacity and
-/// on what it had before: each has the text's first bytes, as many as fit. So a caller whose buffer was too small may call
-/// again with one of `length` bytes, and has the whole of the text whose beginning it saw.
+/// One reply: of each of the six exports, two calls with the same arguments have the same status, numbers, length and
+/// text, unless memory runs out in one of them. What a buffer has afterwards depends on nothing but that text, on its
+/// capacity and on what it had before: each has the text's first bytes, as many as fit. So a caller whose buffer was
+/// too small may call again with one of `length` bytes, and has the whole of the text whose beginning it saw.
 pub fn one_reply()
     ensures one { EachHasOneReply }
     ensures again { EachBeginsTheLarger }
@@ -24,8 +24,8 @@ pub fn one_reply()
     texts::one_answer();
 }
 
-/// A reply exists: each of the six exports, whatever bytes its arguments are, may report something other than out of memory,
-/// as the contract of its call over texts has it; and every reply reports that, unless memory runs out.
+/// A reply exists: each of the six exports, whatever bytes its arguments are, may report something other than out of
+/// memory, as the contract of its call over texts has it; and every reply reports that, unless memory runs out.
 pub fn reply_exists()
     ensures { EachHasReport }
 {

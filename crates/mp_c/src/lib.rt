@@ -1,7 +1,7 @@
 //! Merge patches, pointers and JSON Patches for C: the calls over texts as six exports of a static library.
 //!
-//! A call borrows the texts and a room of the caller's, and answers by value. It keeps nothing, and takes what it needs from
-//! the C library's heap and gives it back before it returns.
+//! A call borrows the texts and a buffer of the caller's, and answers by value. It keeps nothing, and takes what it
+//! needs from the C library's heap and gives it back before it returns.
 #![tactic(auto)]
 
 mod documents;

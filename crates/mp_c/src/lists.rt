@@ -3,27 +3,27 @@ ghost use Rattle.mp_texts.specs.Texts.{given};
 ghost use Rattle.mp_c.specs.Answered.{IsJoined, IsMerged, IsReplayed};
 ghost use Rattle.mp_c.specs.Replies.{Replies};
 
-use crate::replying::{Reply, tell};
+use crate::replying::{Reply, report};
 use mp_texts::{join_texts, merge_texts, replay_texts};
 use std::alloc::Global;
 
 /// The text of the join of merge patches, as `mp_texts::join_texts` gives it.
 ///
 /// ```text
-/// mergejoin_join(patches, 2, out, room)  // of {"a":1} and {"b":null}: {"a":1,"b":null}, status 0
+/// mergejoin_join(patches, 2, out, buffer)  // of {"a":1} and {"b":null}: {"a":1,"b":null}, status 0
 /// ```
 #[unsafe(no_mangle)]
 pub extern "C" fn mergejoin_join(alloc: Global, patches: &[&[u8]], out: &mut [u8]) -> Reply
     ensures { Replies (IsJoined (given patches.now)) result out.old out.new }
 {
-    tell(alloc, join_texts(alloc, patches), out)
+    report(alloc, join_texts(alloc, patches), out)
 }
 
-/// The text of the document that merge patches, no two of which clash, make of the start's, as `mp_texts::replay_texts`
+/// The text of the document that merge patches, no two of which conflict, make of the start's, as `mp_texts::replay_texts`
 /// gives it.
 ///
 /// ```text
-/// mergejoin_replay("5", 1, patches, 0, out, room)  // 5, status 0
+/// mergejoin_replay("5", 1, patches, 0, out, buffer)  // 5, status 0
 /// ```
 #[unsafe(no_mangle)]
 pub extern "C" fn mergejoin_replay(
@@ -34,14 +34,14 @@ pub extern "C" fn mergejoin_replay(
 ) -> Reply
     ensures { Replies (IsReplayed start.now (given patches.now)) result out.old out.new }
 {
-    tell(alloc, replay_texts(alloc, start, patches), out)
+    report(alloc, replay_texts(alloc, start, patches), out)
 }
 
 /// The text of the document after the merge patches, each applied to what those before it left, as `mp_texts::merge_texts`
 /// gives it: that they are compatible is not checked.
 ///
 /// ```text
-/// mergejoin_merge("{\"a\":0}", 7, patches, 2, out, room)  // of {"a":1} and {"a":2}: {"a":2}, status 0
+/// mergejoin_merge("{\"a\":0}", 7, patches, 2, out, buffer)  // of {"a":1} and {"a":2}: {"a":2}, status 0
 /// ```
 #[unsafe(no_mangle)]
 pub extern "C" fn mergejoin_merge(
@@ -52,5 +52,5 @@ pub extern "C" fn mergejoin_merge(
 ) -> Reply
     ensures { Replies (IsMerged document.now (given patches.now)) result out.old out.new }
 {
-    tell(alloc, merge_texts(alloc, document, patches), out)
+    report(alloc, merge_texts(alloc, document, patches), out)
 }

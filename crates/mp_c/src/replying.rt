@@ -1,7 +1,7 @@
-//! What a call leaves behind: the reply, and the text in the caller's room.
-ghost use Rattle.mp_c.specs.Private.Telling.{Tells, answered_by};
+//! What a call leaves: the reply, and the text in the caller's buffer.
+ghost use Rattle.mp_c.specs.Private.Reporting.{Reports, answered_by};
 ghost use Rattle.mp_c.specs.Replies.{IsReply};
-ghost use Rattle.mp_c.specs.Told.{no_memory, numbered, plain, told_of, told_of_fault, told_of_form, told_of_list, told_of_pointer, told_of_apply, told_of_unread};
+ghost use Rattle.mp_c.specs.Report.{no_memory, numbered, unnumbered, report_of, report_of_fault, report_of_form, report_of_list, report_of_pointer, report_of_apply, report_of_unread};
 ghost use Rattle.mp_c.specs.Answered.{not_utf8};
 
 use mp_merge::ListFault;
@@ -11,24 +11,24 @@ use mp_texts::{TextsFault, write_places};
 use mp_tree::ReadFault;
 use std::alloc::Global;
 
-/// What a call answers beside the text in the room.
+/// What a call returns in addition to the text in the buffer.
 #[repr(C)]
 #[derive(Clone, Copy, Drop)]
 pub struct Reply {
-    /// Of the whole text in bytes: where it is more than the room, the room has the text's first bytes alone.
+    /// Of the whole text in bytes: if it is more than the buffer, the buffer has the text's first bytes alone.
     pub length: usize,
     /// What the status says: the number of a patch or of an operation, or an offset in bytes; else 0.
     pub first: usize,
-    /// The number of the second of two patches that clash; else 0.
+    /// The number of the second of two patches that conflict; else 0.
     pub second: usize,
-    /// 0 where the text is the result, and else why there is none.
+    /// 0 if the text is the result, and else why there is none.
     pub status: u32,
 }
 
 /// There is a result.
 const RESULT: u32 = 0;
 
-/// Two merge patches clash: `first` and `second` are their numbers, and the text is a JSON array of all places.
+/// Two merge patches conflict: `first` and `second` are their numbers, and the text is a JSON array of all places.
 const CONFLICT: u32 = 1;
 
 /// There is no patch to join.
@@ -40,66 +40,66 @@ const REFUSED: u32 = 3;
 /// The document has no part there.
 const MISSING: u32 = 4;
 
-/// The document, or the start, is none.
+/// The document, or the start, is not a document.
 const DOCUMENT: u32 = 5;
 
-/// The patch of number `first` is no document.
+/// The patch of number `first` is not a document.
 const PATCH: u32 = 6;
 
-/// The document given as JSON Patch is none: `first` is the number of the operation.
+/// The document given as JSON Patch is not one: `first` is the number of the operation.
 const FORM: u32 = 7;
 
-/// The pointer is none: `first` is the offset in bytes.
+/// The text is not a pointer: `first` is the offset in bytes.
 const POINTER: u32 = 8;
 
 /// Memory ran out.
 const NO_MEMORY: u32 = 9;
 
 // The answer of a call over texts.
-pub(crate) fn tell(alloc: Global, answer: Result<String, TextsFault>, out: &mut [u8]) -> Reply
-    ensures { Tells (told_of (answered_by answer)) result out.old out.new }
+pub(crate) fn report(alloc: Global, answer: Result<String, TextsFault>, out: &mut [u8]) -> Reply
+    ensures { Reports (report_of (answered_by answer)) result out.old out.new }
 {
     match answer {
         Ok(text) => write(RESULT, 0, text.as_str(), out),
-        Err(fault) => tell_fault(alloc, fault, out),
+        Err(fault) => report_fault(alloc, fault, out),
     }
 }
 
 // The bytes of a pointer that are no text from the offset on.
-pub(crate) fn tell_not_utf8(offset: usize, out: &mut [u8]) -> Reply
-    ensures { IsReply (told_of (not_utf8 offset)) result out.old out.new }
+pub(crate) fn report_not_utf8(offset: usize, out: &mut [u8]) -> Reply
+    ensures { IsReply (report_of (not_utf8 offset)) result out.old out.new }
 {
     write(POINTER, offset, "not UTF-8", out)
 }
 
-fn tell_fault(alloc: Global, fault: TextsFault, out: &mut [u8]) -> Reply
-    ensures { Tells (told_of_fault fault) result out.old out.new }
+fn report_fault(alloc: Global, fault: TextsFault, out: &mut [u8]) -> Reply
+    ensures { Reports (report_of_fault fault) result out.old out.new }
 {
     match fault {
-        TextsFault::Document(fault) => tell_unread(DOCUMENT, 0, fault, out),
-        TextsFault::Patch { number, fault } => tell_unread(PATCH, number, fault, out),
-        TextsFault::List(fault) => tell_list_fault(alloc, fault, out),
-        TextsFault::Form(fault) => tell_form_fault(fault, out),
-        TextsFault::Refused(fault) => tell_run_fault(fault, out),
-        TextsFault::Pointer(fault) => tell_pointer_fault(fault, out),
+        TextsFault::Document(fault) => report_unread(DOCUMENT, 0, fault, out),
+        TextsFault::Patch { number, fault } => report_unread(PATCH, number, fault, out),
+        TextsFault::List(fault) => report_list_fault(alloc, fault, out),
+        TextsFault::Form(fault) => report_form_fault(fault, out),
+        TextsFault::Refused(fault) => report_run_fault(fault, out),
+        TextsFault::Pointer(fault) => report_pointer_fault(fault, out),
         TextsFault::Missing => write(MISSING, 0, "missing", out),
-        TextsFault::OutOfMemory => tell_no_memory(out),
+        TextsFault::OutOfMemory => report_no_memory(out),
     }
 }
 
-fn tell_unread(status: u32, number: usize, fault: ReadFault, out: &mut [u8]) -> Reply
-    ensures { IsReply (told_of_unread status number fault) result out.old out.new }
+fn report_unread(status: u32, number: usize, fault: ReadFault, out: &mut [u8]) -> Reply
+    ensures { IsReply (report_of_unread status number fault) result out.old out.new }
 {
     match fault {
         ReadFault::NotJson => write(status, number, "not JSON", out),
         ReadFault::NotWhole => write(status, number, "number not whole", out),
         ReadFault::TooDeep => write(status, number, "too deep", out),
-        ReadFault::OutOfMemory => tell_no_memory(out),
+        ReadFault::OutOfMemory => report_no_memory(out),
     }
 }
 
-fn tell_list_fault(alloc: Global, fault: ListFault, out: &mut [u8]) -> Reply
-    ensures { Tells (told_of_list fault) result out.old out.new }
+fn report_list_fault(alloc: Global, fault: ListFault, out: &mut [u8]) -> Reply
+    ensures { Reports (report_of_list fault) result out.old out.new }
 {
     match fault {
         ListFault::NoPatches => write(NO_PATCHES, 0, "no patches", out),
@@ -112,49 +112,49 @@ fn tell_list_fault(alloc: Global, fault: ListFault, out: &mut [u8]) -> Reply
                 second,
                 ..write(CONFLICT, first, text.as_str(), out)
             },
-            Err(_) => tell_no_memory(out),
+            Err(_) => report_no_memory(out),
         },
-        ListFault::OutOfMemory => tell_no_memory(out),
+        ListFault::OutOfMemory => report_no_memory(out),
     }
 }
 
-fn tell_form_fault(fault: FormFault, out: &mut [u8]) -> Reply
-    ensures { IsReply (told_of_form fault) result out.old out.new }
+fn report_form_fault(fault: FormFault, out: &mut [u8]) -> Reply
+    ensures { IsReply (report_of_form fault) result out.old out.new }
 {
     match fault {
         FormFault::NotAnArray => write(FORM, 0, "not an array", out),
         FormFault::Form { op, cause } => write(FORM, op, cause.as_str(), out),
-        FormFault::OutOfMemory => tell_no_memory(out),
+        FormFault::OutOfMemory => report_no_memory(out),
     }
 }
 
-fn tell_run_fault(fault: ApplyFault, out: &mut [u8]) -> Reply
-    ensures { IsReply (told_of_apply fault) result out.old out.new }
+fn report_run_fault(fault: ApplyFault, out: &mut [u8]) -> Reply
+    ensures { IsReply (report_of_apply fault) result out.old out.new }
 {
     match fault {
         ApplyFault::Refused { op, cause } => write(REFUSED, op, cause.as_str(), out),
-        ApplyFault::OutOfMemory => tell_no_memory(out),
+        ApplyFault::OutOfMemory => report_no_memory(out),
     }
 }
 
-fn tell_pointer_fault(fault: PointerFault, out: &mut [u8]) -> Reply
-    ensures { IsReply (told_of_pointer fault) result out.old out.new }
+fn report_pointer_fault(fault: PointerFault, out: &mut [u8]) -> Reply
+    ensures { IsReply (report_of_pointer fault) result out.old out.new }
 {
     match fault {
         PointerFault::NoSlash => write(POINTER, 0, "no slash", out),
         PointerFault::BadTilde(offset) => write(POINTER, offset, "bad tilde", out),
-        PointerFault::OutOfMemory => tell_no_memory(out),
+        PointerFault::OutOfMemory => report_no_memory(out),
     }
 }
 
 // No text, so that nothing is written.
-fn tell_no_memory(out: &mut [u8]) -> Reply
+fn report_no_memory(out: &mut [u8]) -> Reply
     ensures { IsReply no_memory result out.old out.new }
 {
     write(NO_MEMORY, 0, "", out)
 }
 
-// As much of the text as the room holds, from its start on, and nothing behind it.
+// As much of the text as the buffer holds, from its start on, and nothing after it.
 fn write(status: u32, number: usize, text: &str, out: &mut [u8]) -> Reply
     ensures { IsReply (numbered status number text.now) result out.old out.new }
 {

@@ -7,36 +7,36 @@ use Rattle.mp_merge.specs.Lists.{IsJoinAllFault, IsReplayFault}
 use Rattle.mp_merge.specs.declared.fault.ListFault.{ListFault}
 use Rattle.mp_merge.specs.declared.fault.ListFault.TheVariants.{NoPatches, ConflictOf, OutOfMemory}
 use Rattle.mp_cli.specs.Answered.{IsJoinAnswer, none_joined, join_refused, IsReplayAnswer, replay_refused, IsPatchAnswerTo, IsReplayAnswerTo, IsRewriteAnswerTo, IsGetAnswerTo, IsPartAnswer}
-use Rattle.mp_cli.specs.Lines.{Answered, wrong_shape}
+use Rattle.mp_cli.specs.Lines.{Output, wrong_shape}
 use Rattle.mp_cli.specs.Private.Answers.{list_fault}
 use Rattle.mp_tree.proofs.Facts.{list_of-items}
 
-pub no_join : (fault : ListFault) (patches : List Document) (a : Answered) → IsJoinAllFault fault patches → list_fault fault ≡ Some a → IsJoinAnswer patches a
+pub no_join : (fault : ListFault) (patches : List Document) (a : Output) → IsJoinAllFault fault patches → list_fault fault ≡ Some a → IsJoinAnswer patches a
 no_join NoPatches patches a none is = none_joined none (cc)
 no_join (ConflictOf first second places) patches a clash is = join_refused first second places.items clash (cc)
 no_join OutOfMemory patches a none is = absurd (cc)
 
-pub no_replay : (fault : ListFault) (start : Document) (patches : List Document) (a : Answered) → IsReplayFault fault patches → list_fault fault ≡ Some a → IsReplayAnswer start patches a
+pub no_replay : (fault : ListFault) (start : Document) (patches : List Document) (a : Output) → IsReplayFault fault patches → list_fault fault ≡ Some a → IsReplayAnswer start patches a
 no_replay NoPatches start patches a never is = absurd never
 no_replay (ConflictOf first second places) start patches a clash is = replay_refused first second places.items clash (cc)
 no_replay OutOfMemory start patches a none is = absurd (cc)
 
 -- the input of `replay` is its start and the patches
-pub replay_answer : (docs ps : List Doc) (d : Doc) (a : Answered) → docs ≡ d ∷ ps → IsReplayAnswer (document d) (map document ps) a → IsReplayAnswerTo (items docs) a
+pub replay_answer : (docs ps : List Doc) (d : Doc) (a : Output) → docs ≡ d ∷ ps → IsReplayAnswer (document d) (map document ps) a → IsReplayAnswerTo (items docs) a
 replay_answer docs ps d a split is =
     subst (λ (ds : List Doc). IsReplayAnswerTo (items ds) a) (sym split) (subst (λ (qs : List Document). IsReplayAnswer (document d) qs a) (sym (list_of-items ps)) is)
 
 -- `get` wants one document
-pub no_single : (pointer : List ℕ) (docs : List Doc) (a : Answered) → ((d : Doc) → docs ≢ d ∷ []) → a ≡ wrong_shape → IsGetAnswerTo pointer (items docs) a
+pub no_single : (pointer : List ℕ) (docs : List Doc) (a : Output) → ((d : Doc) → docs ≢ d ∷ []) → a ≡ wrong_shape → IsGetAnswerTo pointer (items docs) a
 no_single pointer [] a other is = is
 no_single pointer (d ∷ []) a other is = absurd (other d refl)
 no_single pointer (d ∷ e ∷ docs) a other is = is
 
-pub single_part : (pointer : List ℕ) (docs : List Doc) (d : Doc) (a : Answered) → docs ≡ d ∷ [] → IsPartAnswer (document d) pointer a → IsGetAnswerTo pointer (items docs) a
+pub single_part : (pointer : List ℕ) (docs : List Doc) (d : Doc) (a : Output) → docs ≡ d ∷ [] → IsPartAnswer (document d) pointer a → IsGetAnswerTo pointer (items docs) a
 single_part pointer docs d a split is = subst (λ (ds : List Doc). IsGetAnswerTo pointer (items ds) a) (sym split) is
 
 -- `patch` and `rewrite` want two
-pub no_pair : (docs : List Doc) (a : Answered) → ((d e : Doc) → docs ≢ d ∷ e ∷ []) → a ≡ wrong_shape → IsPatchAnswerTo (items docs) a × IsRewriteAnswerTo (items docs) a
+pub no_pair : (docs : List Doc) (a : Output) → ((d e : Doc) → docs ≢ d ∷ e ∷ []) → a ≡ wrong_shape → IsPatchAnswerTo (items docs) a × IsRewriteAnswerTo (items docs) a
 no_pair [] a other is = (is, is)
 no_pair (d ∷ []) a other is = (is, is)
 no_pair (d ∷ e ∷ []) a other is = absurd (other d e refl)

@@ -20,7 +20,7 @@ use Rattle.clap.specs.declared.parser.matches.ArgMatches.TheViews.{out-ArgMatche
 use Rattle.mp_cli.specs.CommandLine.{command_line, asked_for, pointer_in, subcommands, HasMistake}
 use Rattle.mp_cli.specs.Private.Matches.{HasPointer, IsOneOf, IsSubcommand}
 
--- the line is of the kind whose matches and faults are functions of the words
+-- the line is of the kind whose matches and errors are functions of the arguments
 pub command_line-simple : is_simple_and_free command_line ≡ true
 unfolding clap_on_literals command_line
 command_line-simple = refl
@@ -64,7 +64,7 @@ unfolding IfFound
 known None some found = cc
 known (Some name) some found = found
 
--- a subcommand that the words name is one of the line's
+-- a subcommand that the arguments name is one of the line's
 asked_for-known : (words : List Text) → is_some (asked_for words) ≡ true → IsSubcommand (asked_for words)
 asked_for-known words some = known (asked_for words) some (subst (λ names. IfFound names (asked_for words)) subcommand_words (entered-name (built command_line) _))
 
@@ -81,7 +81,7 @@ module _ {Z : Type 0} where
 name-rows : (m : ArgMatches) → subcommand_name_of m ≡ option_map (λ e. e.0) (subcommand_rows_of m)
 name-rows m = first_name (out-ArgMatches m).subcommand
 
--- the matches that the line gives at the words name the subcommand that the words ask for
+-- the matches that the line gives at the arguments name the subcommand that the arguments ask for
 pub matches-asked_for : (line : Command) (m : ArgMatches) (words : List Text) → app_of line ≡ command_line → HasMatchesOf (app_of line) words m
     → subcommand_name_of m ≡ asked_for words
 matches-asked_for line m words is matches =
@@ -96,14 +96,14 @@ matches-known line m words is globals required parsed matches =
     let met : is_some (subcommand_name_of m) ≡ true = some_name (out-ArgMatches m).subcommand ∙ subcommand_required line m parsed globals required in
     subst IsSubcommand (sym same) (asked_for-known words (ap is_some (sym same) ∙ met))
 
--- and its rows are those that the words give
+-- and its rows are those that the arguments give
 pub matches-rows : (line : Command) (m : ArgMatches) (words : List Text) → app_of line ≡ command_line → HasMatchesOf (app_of line) words m
     → subcommand_rows_of m ≡ subcommand_of command_line words
 matches-rows line m words is matches =
     let simple : is_simple (app_of line) ≡ true = ap is_simple is ∙ (both _ _ command_line-simple).0 in
     (matches simple).1 ∙ ap (λ a. subcommand_of a words) is
 
--- where the line finds no fault in the words, `get` has its word
+-- where the line finds no error in the arguments, `get` has its argument
 pub matches-pointer : (line : Command) (m : ArgMatches) (words : List Text) → app_of line ≡ command_line → HasMatchesOf (app_of line) words m
     → fault_of (app_of line) words ≡ [] → HasPointer (subcommand_rows_of m)
 matches-pointer line m words is matches none =
@@ -115,7 +115,7 @@ pointer_in-rows (Some e) rows is =
     let same : e.1 ≡ rows = cc in
     ap (first_of (codes "POINTER")) same
 
--- the word for POINTER is the first value that the subcommand's matches have for it
+-- the argument for POINTER is the first value that the subcommand's matches have for it
 pub pointer_in-first_value : (m found : ArgMatches) → option_map (λ e. e.1) (subcommand_rows_of m) ≡ Some (rows_of (found_of found))
     → first_value (found_of found) (codes "POINTER") ≡ pointer_in (subcommand_rows_of m)
 pointer_in-first_value m found rows =
@@ -136,7 +136,7 @@ pub HasKind-help : (error : Error) (found faults : Kinds) → kind_of error ≡ 
 HasKind-help error found faults help is (inl memory) = cc
 HasKind-help error found faults help is (inr among) = subst (IsAmong DisplayHelp) is (subst (λ kind. IsAmong kind found) help among)
 
--- another error is a mistake in the words
+-- another error is a mistake in the arguments
 pub HasKind-mistake : (error : Error) (found faults : Kinds) → kind_of error ≢ OutOfMemory → kind_of error ≢ DisplayHelp → found ≡ faults → HasKind found error
     → HasMistake faults
 HasKind-mistake error found faults memory_left no_help is (inl memory) = absurd (memory_left memory)

@@ -1,4 +1,4 @@
--- Where the line has no fault to find in the words, the subcommand `get` has its word.
+-- If the line has no error to find in the arguments, the subcommand `get` has its argument.
 use Rattle.std.proofs.Common.{ℕ, ◌≡◌, ◌∙◌, Bool, true, false, not, ◌||◌, Option, None, Some, List, [], ◌∷◌, is_some, codes, refl, sym, subst}
 use Rattle.std.specs.Prelude.{find, IfSome, if◌then◌else◌}
 use Rattle.std.specs.Str.{bytes_eq}
@@ -21,7 +21,7 @@ or_else-first : (first last : Kinds) → or_else first last ≡ [] → first ≡
 or_else-first [] last none = refl
 or_else-first (k ∷ ks) last none = cc
 
--- the last check of a level, where the level has no fault
+-- the last check of a level, where the level has no error
 level-check : (s : Shape) (words : List Text) → level_fault s [] nothing_held words false [] ≡ [] → check_fault s (rows_after s.rules [] words) false ≡ []
 level-check s words none =
     let end = (walk s.rules [] nothing_held words).held in
@@ -57,7 +57,7 @@ entered-good : (P : Text × List Row → Type 0) (a : App) → AllPass (LeavesGo
 entered-good P a all None none = tt
 entered-good P a all (Some p) none = found-good P (λ s. answers_to p.0 (label_of s)) p.1 a.subs all none
 
--- where the line finds no fault in the words, what holds of each subcommand's matches holds of those that the words give
+-- where the line finds no error in the arguments, what holds of each subcommand's matches holds of those that the arguments give
 subcommand-good : (P : Text × List Row → Type 0) (a : App) (words : List Text) → AllPass (LeavesGood P) (built a).subs → fault_of a words ≡ []
     → IfSome (subcommand_of a words) P
 subcommand-good P a words all none =
@@ -69,7 +69,7 @@ subcommand-good P a words all none =
     let after = or_else-last (walk_fault top names (walk_from nothing_held) rest) _ none in
     entered-good P (built a) all end.stopped (or_else-first below _ after)
 
--- `get` has its word
+-- `get` has its argument
 abbrev CarriesWord : Text × List Row → Type 0
 CarriesWord e = e.0 ≡ codes "get" → is_some (first_of (codes "POINTER") e.1) ≡ true
 
@@ -124,6 +124,6 @@ subcommands-good : AllPass (LeavesGood CarriesWord) (built command_line).subs
 unfolding clap_on_literals command_line
 subcommands-good = (get-good _ refl (λ _. refl), (other-good _ refl, (other-good _ refl, (other-good _ refl, (other-good _ refl, (other-good _ refl, tt))))))
 
--- where the line finds no fault in the words, `get` has its word
+-- where the line finds no error in the arguments, `get` has its argument
 pub get-word : (words : List Text) → fault_of command_line words ≡ [] → HasPointer (subcommand_of command_line words)
 get-word words none = subcommand-good CarriesWord command_line words subcommands-good none

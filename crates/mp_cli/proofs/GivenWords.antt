@@ -1,4 +1,4 @@
--- What `clap`'s walk over the words of a subcommand leaves: each row has a value, where no flag of
+-- What `clap`'s walk over the arguments of a subcommand leaves: each row has a value, if no flag of
 -- the subcommand makes a row.
 use Rattle.std.proofs.Common.{◌≡◌, ◌<◌, ◌++◌, ◌&&◌, ℕ, zero, suc, arith, refl, Bool, true, false, Option, None, Some, List, [], ◌∷◌, length, length-append, is_some, drop}
 use Rattle.std.specs.Prelude.{fold, find, encode_utf8, slice_get, option_and_then, if◌then◌else◌}

@@ -5,7 +5,7 @@ use Rattle.std.specs.List.{All}
 use Rattle.mp_tree.specs.Document.{Document, IsDocument}
 use Rattle.mp_tree.specs.Look.{Path}
 use Rattle.mp_merge.specs.Join.{IsJoin}
-use Rattle.mp_merge.specs.Lists.{IsToldPair, PairwiseCompatible}
+use Rattle.mp_merge.specs.Lists.{IsReportedPair, PairwiseCompatible}
 use Rattle.mp_merge.specs.Outcome.{IsOutcome}
 use Rattle.mp_cli.specs.Private.LawsBelow.{MergeLaws}
 
@@ -19,7 +19,7 @@ module _ (laws : MergeLaws) where
   pub replayed_are_compatible : (d : Document) (patches : List Document) (e : Document) → IsDocument d → All IsDocument patches → IsDocument e → IsOutcome d patches e → PairwiseCompatible patches
   replayed_are_compatible d patches e start all good outcome = (laws.outcome_exists d patches start all).0 (e, good, outcome)
 
-  pub told_are_some : (patches : List Document) (first second : ℕ) (places : List Path) → IsToldPair patches first second places → patches ≢ []
-  told_are_some patches first second places told none =
-      laws.told_is_incompatible patches first second places told
+  pub reported_are_some : (patches : List Document) (first second : ℕ) (places : List Path) → IsReportedPair patches first second places → patches ≢ []
+  reported_are_some patches first second places reported none =
+      laws.reported_is_incompatible patches first second places reported
       (subst (λ (ps : List Document). PairwiseCompatible ps) (sym none) (λ p q at there. absurd (All-contains (λ r. ⊥) [] p (All-nil (λ r. ⊥)) at)))

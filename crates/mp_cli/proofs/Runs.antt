@@ -14,13 +14,13 @@ use Rattle.mp_cli.specs.Run.{input_limit, MovesInPieces, ReadsBytes, WritesPart}
 
 -- ---- the pieces in which bytes were moved
 
-abbrev pub IsSome : List ℕ → Type 0
-IsSome piece = piece ≢ []
+abbrev pub IsNotEmpty : List ℕ → Type 0
+IsNotEmpty piece = piece ≢ []
 
 -- each call so far moved one of the pieces that these bytes are made of
 pub record MovedSoFar {T : Type 0} (now : Counted T) (bytes : List ℕ) : Type 0 where
   pub pieces : List (List ℕ)
-  pub some : All IsSome pieces
+  pub some : All IsNotEmpty pieces
   pub whole : bytes ≡ concat pieces
   pub number : length pieces ≡ calls_of now
   pub moving : moving_calls_of now ≡ calls_of now
@@ -42,7 +42,7 @@ pub MovedSoFar-more : {T : Type 0} (mid new : Counted T) (count : ℕ) (bytes mo
     → MovedSoFar mid bytes → CountsBytes mid new count → count ≡ length more → 0 < count → MovedSoFar new (bytes ++ more)
 MovedSoFar-more mid new count bytes more before counts is some = record {
   pieces = before.pieces ++ more ∷ [];
-  some = All-push IsSome before.pieces more before.some (λ none. absurd (omega (arith, is, some, ap length none)));
+  some = All-push IsNotEmpty before.pieces more before.some (λ none. absurd (omega (arith, is, some, ap length none)));
   whole = ap (λ xs. xs ++ more) before.whole ∙ ap (λ xs. concat before.pieces ++ xs) (sym (append-nil more))
       ∙ sym (concat-append before.pieces (more ∷ []));
   number = omega (arith, length-append before.pieces (more ∷ []), before.number, counts.calls);
@@ -63,11 +63,11 @@ MovesInPieces-last old mid new bytes fresh before calls moving counted = record 
   counted = omega (arith, counted, before.counted, old.no_bytes_before_calls fresh);
 }
 
-pieces_within : (pieces : List (List ℕ)) → All IsSome pieces → length pieces ≤ length (concat pieces)
+pieces_within : (pieces : List (List ℕ)) → All IsNotEmpty pieces → length pieces ≤ length (concat pieces)
 pieces_within [] some = omega arith
-pieces_within ([] ∷ pieces) some = absurd (All-head IsSome [] pieces some refl)
+pieces_within ([] ∷ pieces) some = absurd (All-head IsNotEmpty [] pieces some refl)
 pieces_within ((b ∷ bs) ∷ pieces) some =
-    let rest = pieces_within pieces (All-tail IsSome (b ∷ bs) pieces some) in
+    let rest = pieces_within pieces (All-tail IsNotEmpty (b ∷ bs) pieces some) in
     omega (arith, rest, length-append (b ∷ bs) (concat pieces))
 
 -- so there were no more calls than bytes

@@ -18,16 +18,16 @@ use Rattle.mp_pointer.specs.Part.{part}
 use Rattle.mp_patch.specs.Operation.{HaveDocuments, Operation}
 use Rattle.mp_patch.specs.declared.fault.ApplyFault.TheVariants.{Refused}
 use Rattle.mp_cli.specs.Answered.{merge_answer, IsPartAnswer, spelled, misspelled, IsGetAnswerTo, IsRunAnswer, ran, halted, IsPatchAnswer, malformed, formed, IsJoinAnswer, joined, none_joined, join_refused, IsReplayAnswer, replayed, replay_refused, IsRewriteAnswer, rewritten, IsPatchAnswerTo, IsReplayAnswerTo, IsRewriteAnswerTo, IsAnswerTo, IsChecked, IsAnswered}
-use Rattle.mp_cli.specs.Lines.{Answered, result_line, conflict_line, form_fault, operation_line, part_line, spelling_fault, status_no_result, no_patches, wrong_shape, input_fault}
+use Rattle.mp_cli.specs.Lines.{Output, result_line, conflict_line, form_fault, operation_line, part_line, spelling_fault, exit_no_result, no_patches, wrong_shape, input_fault}
 use Rattle.mp_cli.specs.Laws.{AnswerExists}
 use Rattle.mp_cli.specs.Private.LawsBelow.{PointerLaws, PatchLaws, MergeLaws, RewritingLaws}
 use Rattle.mp_cli.specs.declared.command.Command.{Command}
 use Rattle.mp_cli.specs.declared.command.Command.TheVariants.{Get, Patch, Merge, Join, Replay, Rewrite}
 
-abbrev Has : (Answered → Type 0) → Type 0
-Has Is = (a : Answered) × Is a
+abbrev Has : (Output → Type 0) → Type 0
+Has Is = (a : Output) × Is a
 
--- ---- each fault but want of memory has its line
+-- ---- each error but out of memory has its line
 
 input_line : (fault : DocsFault) → fault ≢ DocsFault.OutOfMemory → Has (λ a. input_fault fault ≡ Some a)
 input_line NotJson other = (_, refl)
@@ -49,13 +49,13 @@ module _ (pointers : PointerLaws) (json : PatchLaws) (merges : MergeLaws) (rewri
   some_run : (d : Document) (operations : List Operation) → IsDocument d → HaveDocuments operations → Has (IsRunAnswer d operations)
   some_run d operations good values = elim (json.runs_or_is_refused d operations good values) [
     | inl run ↦ (result_line run.0, ran run.0 run.1 run.2 refl)
-    | inr refused ↦ (operation_line refused.0 (cause_text refused.1) status_no_result, halted (Refused refused.0 refused.1) refused.2 refl)
+    | inr refused ↦ (operation_line refused.0 (cause_text refused.1) exit_no_result, halted (Refused refused.0 refused.1) refused.2 refl)
   ]
 
   some_patch : (d patch : Document) → IsDocument d → IsDocument patch → Has (IsPatchAnswer d patch)
   some_patch d patch good fine = elim (json.form_or_faulty patch) [
     | inl forms ↦ let run = some_run d forms.0 good (json.form_documents patch forms.0 fine forms.1) in (run.0, formed forms.0 forms.1 run.1)
-    | inr fault ↦ let told = form_line fault.0 fault.1 in (told.0, malformed fault.0 fault.2 told.1)
+    | inr fault ↦ let reported = form_line fault.0 fault.1 in (reported.0, malformed fault.0 fault.2 reported.1)
   ]
 
   some_patch_to : (ds : Items) → AreDocuments ds → Has (IsPatchAnswerTo ds)
@@ -66,15 +66,15 @@ module _ (pointers : PointerLaws) (json : PatchLaws) (merges : MergeLaws) (rewri
 
   some_join : (patches : List Document) → All IsDocument patches → Has (IsJoinAnswer patches)
   some_join [] good = (no_patches, none_joined refl refl)
-  some_join (p ∷ patches) good = elim (merges.compatible_or_told (p ∷ patches) good) [
+  some_join (p ∷ patches) good = elim (merges.compatible_or_reported (p ∷ patches) good) [
     | inl compatible ↦ let join = (merges.join_exists (p ∷ patches) (λ none. cc) good).1 compatible in (result_line join.0, joined join.0 join.1 join.2 refl)
-    | inr told ↦ (conflict_line told.0 told.1 told.2, join_refused told.0 told.1 told.2 told.3 refl)
+    | inr reported ↦ (conflict_line reported.0 reported.1 reported.2, join_refused reported.0 reported.1 reported.2 reported.3 refl)
   ]
 
   some_replay : (d : Document) (patches : List Document) → IsDocument d → All IsDocument patches → Has (IsReplayAnswer d patches)
-  some_replay d patches good fine = elim (merges.compatible_or_told patches fine) [
+  some_replay d patches good fine = elim (merges.compatible_or_reported patches fine) [
     | inl compatible ↦ let end = (merges.outcome_exists d patches good fine).1 compatible in (result_line end.0, replayed end.0 end.1 end.2 refl)
-    | inr told ↦ (conflict_line told.0 told.1 told.2, replay_refused told.0 told.1 told.2 told.3 refl)
+    | inr reported ↦ (conflict_line reported.0 reported.1 reported.2, replay_refused reported.0 reported.1 reported.2 reported.3 refl)
   ]
 
   some_replay_to : (ds : Items) → All IsDocument (list_of ds) → Has (IsReplayAnswerTo ds)
@@ -93,7 +93,7 @@ module _ (pointers : PointerLaws) (json : PatchLaws) (merges : MergeLaws) (rewri
   some_part : (d : Document) (pointer : List ℕ) → Has (IsPartAnswer d pointer)
   some_part d pointer = elim (pointers.spells_or_is_faulty pointer) [
     | inl spelling ↦ (part_line (part d spelling.0), spelled spelling.0 spelling.1 refl)
-    | inr fault ↦ let told = spelling_line fault.0 fault.1 in (told.0, misspelled fault.0 fault.2 told.1)
+    | inr fault ↦ let reported = spelling_line fault.0 fault.1 in (reported.0, misspelled fault.0 fault.2 reported.1)
   ]
 
   some_get_to : (pointer : List ℕ) (ds : Items) → Has (IsGetAnswerTo pointer ds)

@@ -1,4 +1,4 @@
--- The command line takes the words of each command.
+-- The command line takes the arguments of each command.
 use Rattle.std.proofs.Common.{[], ◌∷◌, refl}
 use Rattle.clap.proofs.OnLiterals.{clap_on_literals}
 use Rattle.clap.specs.Words.{Text}
@@ -6,7 +6,7 @@ use Rattle.mp_pointer.specs.Spelling.{Tokens, spell}
 use Rattle.mp_cli.specs.CommandLine.{command_line}
 use Rattle.mp_cli.specs.Laws.{TakesPointer, TakesEachCommand}
 
--- a word that begins with a slash is no option, whatever follows
+-- an argument that begins with a slash is no option, whatever follows
 takes_slash : (rest : Text) → TakesPointer (47 ∷ rest)
 unfolding command_line clap_on_literals
 takes_slash rest = ((refl, refl), refl)

@@ -1,4 +1,4 @@
--- The program's command line, in `clap`'s words, and what its reading of the words gives.
+-- The program's command line, in `clap`'s terms, and what its reading of the arguments gives.
 use Rattle.std.specs.Prelude.{◌≡◌, ◌≢◌, ⊤, List, [], ◌∷◌, Option, Some, true, codes, fold, option_and_then, option_map}
 use Rattle.std.specs.Prelude.{string_bytes}
 use Rattle.clap.specs.Simple.{on_top, new_shape}
@@ -38,15 +38,15 @@ word_of Join = codes "join"
 word_of Replay = codes "replay"
 word_of Rewrite = codes "rewrite"
 
--- the subcommand that the words name, the program's name first, where they name one
+-- the subcommand that the arguments name, the program's name first, if they name one
 abbrev pub asked_for : List Text → Option Text
 asked_for words = option_map (λ entered. entered.0) (subcommand_of command_line words)
 
--- the word for POINTER by the matches of a subcommand
+-- the argument for POINTER by the matches of a subcommand
 abbrev pub pointer_in : Option (Text × List Row) → Option Text
 pointer_in entered = option_and_then (λ e. first_of (codes "POINTER") e.1) entered
 
--- the word for POINTER by the matches of the subcommand that the words name
+-- the argument for POINTER by the matches of the subcommand that the arguments name
 abbrev pub pointer_given : List Text → Option Text
 pointer_given words = pointer_in (subcommand_of command_line words)
 
@@ -59,11 +59,11 @@ CarriesPointer Join given = ⊤
 CarriesPointer Replay given = ⊤
 CarriesPointer Rewrite given = ⊤
 
--- the kinds of fault that the line finds in the words: none where it takes them
+-- the kinds of error that the line finds in the arguments: none if it takes them
 abbrev pub faults_of : List Text → Kinds
 faults_of words = fault_of command_line words
 
--- a fault among these is no request for help
+-- an error among these is no request for help
 abbrev pub HasMistake : Kinds → Type 0
 HasMistake faults = (kind : ErrorKind) × (kind ≢ DisplayHelp) × IsAmong kind faults
 
@@ -73,7 +73,7 @@ IsHelp (Help text) = ⊤
 IsHelp (Usage text) = ⊥
 IsHelp OutOfMemory = ⊥
 
--- the words are at fault
+-- the arguments are wrong
 abbrev pub IsUsage : CommandFault → Type 0
 IsUsage (Help text) = ⊥
 IsUsage (Usage text) = ⊤

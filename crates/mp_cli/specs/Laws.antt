@@ -11,36 +11,36 @@ use Rattle.mp_pointer.specs.Spelling.{Tokens, spell}
 use Rattle.mp_patch.specs.Form.{deepest}
 use Rattle.mp_patch.specs.Operation.{Operation}
 use Rattle.mp_merge.specs.Clash.{Clash}
-use Rattle.mp_merge.specs.Lists.{IsToldPair}
+use Rattle.mp_merge.specs.Lists.{IsReportedPair}
 use Rattle.mp_merge.specs.Replicas.{AreReplicas}
 use Rattle.mp_merge.specs.Rewriting.{IsRewriting}
 use Rattle.mp_cli.specs.Answered.{IsAnswered}
-use Rattle.mp_cli.specs.Lines.{Answered, conflict_line, line, status_no_result, status_result}
+use Rattle.mp_cli.specs.Lines.{Output, conflict_line, line, exit_no_result, exit_result}
 use Rattle.mp_cli.specs.CommandLine.{asked_for, command_line, pointer_given}
 use Rattle.mp_cli.specs.declared.command.Command.{Command}
 use Rattle.mp_cli.specs.declared.command.Command.TheVariants.{Patch, Merge, Join, Replay, Rewrite}
 
 -- a command and its input bytes have an answer
 abbrev pub AnswerExists : Type 0
-AnswerExists = (command : Command) (input : List ℕ) → (a : Answered) × IsAnswered command input a
+AnswerExists = (command : Command) (input : List ℕ) → (a : Output) × IsAnswered command input a
 
 -- and one alone: its bytes and its status are a function of them
 abbrev pub HasOneAnswer : Type 0
-HasOneAnswer = (command : Command) (input : List ℕ) (a b : Answered) → IsAnswered command input a
+HasOneAnswer = (command : Command) (input : List ℕ) (a b : Output) → IsAnswered command input a
     → IsAnswered command input b → a ≡ b
 
--- the command line takes the words, the program's name first, and finds this subcommand in them
+-- the command line takes the arguments, the program's name first, and finds this subcommand in them
 abbrev pub Takes : List Text → Text → Type 0
 Takes words name = (takes command_line words ≡ true) × (asked_for words ≡ Some name)
 
--- `get` with its word, which is found
+-- `get` with its argument, which is found
 abbrev pub TakesPointer : Text → Type 0
 TakesPointer pointer =
     let words = codes "mergejoin" ∷ codes "get" ∷ pointer ∷ [] in
     Takes words (codes "get") × (pointer_given words ≡ Some pointer)
 
--- the words of each of the six commands are taken, and `get` with the spelling of every pointer: so `command_of`
--- gives the command, but for want of memory
+-- the arguments of each of the six commands are taken, and `get` with the spelling of every pointer: so `command_of`
+-- gives the command, unless memory runs out
 abbrev pub TakesEachCommand : Type 0
 TakesEachCommand =
     ((t : Tokens) → TakesPointer (spell t))
@@ -63,21 +63,21 @@ pub record AreReplicaInputs (here there : List ℕ) : Type 0 where
 
 -- every answer of `replay` to the one is every answer to the other
 abbrev pub ReplicasPrintTheSame : Type 0
-ReplicasPrintTheSame = (here there : List ℕ) (a b : Answered) → AreReplicaInputs here there
-    → IsAnswered Replay here a → IsAnswered Replay there b → (a ≡ b) × (a.status ≡ status_result)
+ReplicasPrintTheSame = (here there : List ℕ) (a b : Output) → AreReplicaInputs here there
+    → IsAnswered Replay here a → IsAnswered Replay there b → (a ≡ b) × (a.status ≡ exit_result)
 
 -- and so it is with `join` and the lists alone
 abbrev pub JoinsPrintTheSame : Type 0
-JoinsPrintTheSame = (here there : List ℕ) (ps qs : Items) (a b : Answered)
+JoinsPrintTheSame = (here there : List ℕ) (ps qs : Items) (a b : Output)
     → documents_in here ≡ Ok ps → documents_in there ≡ Ok qs → AreReplicas (list_of ps) (list_of qs)
-    → IsAnswered Join here a → IsAnswered Join there b → (a ≡ b) × (a.status ≡ status_result)
+    → IsAnswered Join here a → IsAnswered Join there b → (a ≡ b) × (a.status ≡ exit_result)
 
--- the answer is the line of the pair that is told of the patches
-pub record TellsPair (patches : List Document) (a : Answered) : Type 0 where
+-- the answer is the line of the pair that is reported of the patches
+pub record ReportsPair (patches : List Document) (a : Output) : Type 0 where
   pub first : ℕ
   pub second : ℕ
   pub places : List Path
-  pub told : IsToldPair patches first second places
+  pub reported : IsReportedPair patches first second places
   pub is : a ≡ conflict_line first second places
 
 -- two of the patches clash
@@ -85,32 +85,32 @@ abbrev pub HaveAClash : List Document → Type 0
 HaveAClash patches = (p : Document) × (q : Document) × (w : Path) × Contains patches p × Contains patches q
     × Clash p q w
 
--- where two members clash, no answer of `replay` is a document
-abbrev pub ClashesAreTold : Type 0
-ClashesAreTold = (input : List ℕ) (start : Document) (ps : Items) (a : Answered)
+-- if two members clash, no answer of `replay` is a document
+abbrev pub ClashesAreReported : Type 0
+ClashesAreReported = (input : List ℕ) (start : Document) (ps : Items) (a : Output)
     → documents_in input ≡ Ok (item start ps) → HaveAClash (list_of ps)
-    → IsAnswered Replay input a → TellsPair (list_of ps) a × (a.status ≡ status_no_result)
+    → IsAnswered Replay input a → ReportsPair (list_of ps) a × (a.status ≡ exit_no_result)
 
 -- nor any of `join`
-abbrev pub JoinTellsClashes : Type 0
-JoinTellsClashes = (input : List ℕ) (ps : Items) (a : Answered)
+abbrev pub JoinReportsClashes : Type 0
+JoinReportsClashes = (input : List ℕ) (ps : Items) (a : Output)
     → documents_in input ≡ Ok ps → HaveAClash (list_of ps)
-    → IsAnswered Join input a → TellsPair (list_of ps) a × (a.status ≡ status_no_result)
+    → IsAnswered Join input a → ReportsPair (list_of ps) a × (a.status ≡ exit_no_result)
 
--- where `join` answers a line, that line in the list's place, behind the start's text, is answered by `merge` and by
+-- if `join` answers a line, that line in the list's place, after the start's text, is answered by `merge` and by
 -- `replay` with what `replay` answers to the start and the list
 abbrev pub JoinPrintedIsRead : Type 0
-JoinPrintedIsRead = (input patches joined printed : List ℕ) (start : Document) (ps : Items) (a b c : Answered)
+JoinPrintedIsRead = (input patches joined printed : List ℕ) (start : Document) (ps : Items) (a b c : Output)
     → documents_in input ≡ Ok (item start ps) → documents_in patches ≡ Ok ps
-    → IsAnswered Join patches (line printed status_result) → IsArrayOf (compact start ∷ printed ∷ []) joined
+    → IsAnswered Join patches (line printed exit_result) → IsArrayOf (compact start ∷ printed ∷ []) joined
     → IsAnswered Replay input a → IsAnswered Merge joined b → IsAnswered Replay joined c → (b ≡ a) × (c ≡ a)
 
--- where `rewrite` answers a line, that line in the patch's place is answered by `patch` with what `merge` answers to
--- the document and the patch, where the values of the rewriting leave room for its two levels
+-- if `rewrite` answers a line, that line in the patch's place is answered by `patch` with what `merge` answers to
+-- the document and the patch, where the values of the rewriting allow its two levels
 abbrev pub RewritingPrintedIsRead : Type 0
 RewritingPrintedIsRead =
-    (input rewritten printed : List ℕ) (d p : Document) (operations : List Operation) (a b : Answered)
-    → documents_in input ≡ Ok (item d (item p no_items)) → IsAnswered Rewrite input (line printed status_result)
+    (input rewritten printed : List ℕ) (d p : Document) (operations : List Operation) (a b : Output)
+    → documents_in input ≡ Ok (item d (item p no_items)) → IsAnswered Rewrite input (line printed exit_result)
     → IsRewriting d p operations → 2 + deepest operations ≤ depth_limit
     → IsArrayOf (compact d ∷ printed ∷ []) rewritten
     → IsAnswered Merge input a → IsAnswered Patch rewritten b → b ≡ a

@@ -20,26 +20,26 @@ use Rattle.mp_cli.specs.declared.running.RunFault.TheVariants as run_fails
 
 -- ---- the status that the program ends with
 
--- where the command gives a result
-abbrev pub status_result : ℕ
-status_result = 0
+-- if the command gives a result
+abbrev pub exit_result : ℕ
+exit_result = 0
 
--- where it gives none
-abbrev pub status_no_result : ℕ
-status_no_result = 1
+-- if it gives none
+abbrev pub exit_no_result : ℕ
+exit_no_result = 1
 
--- where the input or a word is at fault
-abbrev pub status_refused : ℕ
-status_refused = 2
+-- if the input or an argument is wrong
+abbrev pub exit_refused : ℕ
+exit_refused = 2
 
--- where the machine is
-abbrev pub status_failed : ℕ
-status_failed = 3
+-- if memory or a stream fails
+abbrev pub exit_failed : ℕ
+exit_failed = 3
 
 -- ---- the lines
 
 -- the bytes that the program writes, with the newline, and the status that it ends with
-pub record Answered : Type 0 where
+pub record Output : Type 0 where
   pub text : List ℕ
   pub status : ℕ
 
@@ -47,52 +47,52 @@ abbrev pub newline : ℕ
 newline = 10
 
 -- each line ends with one newline byte
-abbrev pub line : List ℕ → ℕ → Answered
+abbrev pub line : List ℕ → ℕ → Output
 line s status = record { text = s ++ newline ∷ []; status = status }
 
 -- a result is its compact text
-abbrev pub result_line : Document → Answered
-result_line d = line (compact d) status_result
+abbrev pub result_line : Document → Output
+result_line d = line (compact d) exit_result
 
-abbrev pub wrong_shape : Answered
-wrong_shape = line (codes "input: wrong shape") status_refused
+abbrev pub wrong_shape : Output
+wrong_shape = line (codes "input: wrong shape") exit_refused
 
--- Want of memory is no fault of the bytes: among the answers it has no line.
+-- Out of memory is no error of the bytes: among the answers it has no line.
 
 -- what is wrong with the input
-abbrev pub input_fault : DocsFault → Option Answered
-input_fault NotJson = Some (line (codes "input: not JSON") status_refused)
-input_fault NotWhole = Some (line (codes "input: number not whole") status_refused)
+abbrev pub input_fault : DocsFault → Option Output
+input_fault NotJson = Some (line (codes "input: not JSON") exit_refused)
+input_fault NotWhole = Some (line (codes "input: number not whole") exit_refused)
 input_fault DocsFault.NotAnArray = Some wrong_shape
 input_fault DocsFault.OutOfMemory = None
 
 -- what is wrong with the spelling of a pointer, a tilde with its offset in plain decimals
-abbrev pub bad_tilde_line : ℕ → Answered
-bad_tilde_line offset = line (codes "pointer: bad tilde at " ++ numeral offset) status_refused
+abbrev pub bad_tilde_line : ℕ → Output
+bad_tilde_line offset = line (codes "pointer: bad tilde at " ++ numeral offset) exit_refused
 
-abbrev pub spelling_fault : PointerFault → Option Answered
-spelling_fault NoSlash = Some (line (codes "pointer: no slash") status_refused)
+abbrev pub spelling_fault : PointerFault → Option Output
+spelling_fault NoSlash = Some (line (codes "pointer: no slash") exit_refused)
 spelling_fault (BadTilde offset) = Some (bad_tilde_line offset)
 spelling_fault PointerFault.OutOfMemory = None
 
--- a part of a document, where there is one
-abbrev pub part_line : Option Document → Answered
-part_line None = line (codes "missing") status_no_result
+-- a part of a document, if there is one
+abbrev pub part_line : Option Document → Output
+part_line None = line (codes "missing") exit_no_result
 part_line (Some d) = result_line d
 
 -- an operation by its number, and what is wrong with it
-abbrev pub operation_line : ℕ → List ℕ → ℕ → Answered
+abbrev pub operation_line : ℕ → List ℕ → ℕ → Output
 operation_line number words status = line (codes "operation " ++ numeral number ++ codes ": " ++ words) status
 
 -- what is wrong with the form of a patch
-abbrev pub form_fault : FormFault → Option Answered
+abbrev pub form_fault : FormFault → Option Output
 form_fault FormFault.NotAnArray = Some wrong_shape
-form_fault (Form number cause) = Some (operation_line number (form_text cause) status_refused)
+form_fault (Form number cause) = Some (operation_line number (form_text cause) exit_refused)
 form_fault FormFault.OutOfMemory = None
 
 -- why a patch has no result
-abbrev pub apply_fault : ApplyFault → Option Answered
-apply_fault (Refused number cause) = Some (operation_line number (cause_text cause) status_no_result)
+abbrev pub apply_fault : ApplyFault → Option Output
+apply_fault (Refused number cause) = Some (operation_line number (cause_text cause) exit_no_result)
 apply_fault ApplyFault.OutOfMemory = None
 
 -- a pointer as a JSON string
@@ -105,13 +105,13 @@ pointers_text [] = []
 pointers_text (w ∷ ws) = pointer_text w ++ flat_map (λ u. codes ", " ++ pointer_text u) ws
 
 -- the two patches by their numbers, and the pointers to all their conflicts
-abbrev pub conflict_line : ℕ → ℕ → List Path → Answered
+abbrev pub conflict_line : ℕ → ℕ → List Path → Output
 conflict_line first second places =
     line (codes "conflict: patches " ++ numeral first ++ codes " and " ++ numeral second
-    ++ codes " at " ++ pointers_text places) status_no_result
+    ++ codes " at " ++ pointers_text places) exit_no_result
 
-abbrev pub no_patches : Answered
-no_patches = line (codes "no patches") status_no_result
+abbrev pub no_patches : Output
+no_patches = line (codes "no patches") exit_no_result
 
 -- ---- the line for a run that gives no status
 
@@ -122,9 +122,9 @@ line_of run_fails.WriteFailed = codes "write failed"
 line_of run_fails.TooLong = codes "input: too long"
 line_of run_fails.OutOfMemory = codes "out of memory"
 
--- 2 where the input is at fault, 3 where the machine is
+-- 2 if the input is wrong, 3 if memory or a stream fails
 abbrev pub status_of : RunFault → ℕ
-status_of run_fails.ReadFailed = status_failed
-status_of run_fails.WriteFailed = status_failed
-status_of run_fails.TooLong = status_refused
-status_of run_fails.OutOfMemory = status_failed
+status_of run_fails.ReadFailed = exit_failed
+status_of run_fails.WriteFailed = exit_failed
+status_of run_fails.TooLong = exit_refused
+status_of run_fails.OutOfMemory = exit_failed

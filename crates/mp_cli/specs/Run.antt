@@ -3,7 +3,7 @@ use Rattle.std.specs.Prelude.{◌≡◌, ◌≢◌, ◌+◌, ◌≤◌, ◌++◌
 use Rattle.std.specs.Io.KnownBytes.{Appends, Consumes, IsAtEnd}
 use Rattle.std.specs.List.{All, concat}
 use Rattle.mp_cli.specs.declared.counted.Counted.{Counted}
-use Rattle.mp_cli.specs.Lines.{Answered, status_result}
+use Rattle.mp_cli.specs.Lines.{Output, exit_result}
 use Rattle.mp_cli.specs.Counted.{device_of, calls_of, failures_of, moving_calls_of, bytes_of, IsFlushed}
 
 -- The most bytes that an input has. A run makes one read more at most, which finds the end.
@@ -20,14 +20,14 @@ pub record MovesInPieces {T : Type 0} (old new : Counted T) (bytes : List ℕ) :
   pub calls : calls_of new ≤ calls_of old + length pieces + 1
   pub counted : bytes_of new ≡ bytes_of old + length bytes
 
--- The reads gave these bytes. `remaining` says which bytes a reader has left, where it says so.
+-- The reads gave these bytes. `remaining` says which bytes a reader has left, if it says so.
 pub record ReadsBytes {R : Type 0} (remaining : R → Option (List ℕ)) (old new : Counted R)
     (bytes : List ℕ) : Type 0 where
   pub consumed : Consumes (remaining (device_of old)) (remaining (device_of new)) bytes
   pub moved : MovesInPieces old new bytes
 
 -- The reads gave these bytes and then the end, none failed, and the bytes are within the limit. So
--- where the reader says which bytes it has, they are these.
+-- if the reader says which bytes it has, they are these.
 pub record ReadsWhole {R : Type 0} (remaining : R → Option (List ℕ)) (old new : Counted R)
     (bytes : List ℕ) : Type 0 where
   pub given : ReadsBytes remaining old new bytes
@@ -35,7 +35,7 @@ pub record ReadsWhole {R : Type 0} (remaining : R → Option (List ℕ)) (old ne
   pub failures : failures_of new ≡ failures_of old
   pub short : length bytes ≤ input_limit
 
--- The writes took this text. `contents` says which bytes a writer holds, where it says so.
+-- The writes took this text. `contents` says which bytes a writer holds, if it says so.
 pub record Writes {W : Type 0} (contents : W → Option (List ℕ)) (old new : Counted W) (text : List ℕ) : Type 0 where
   pub appended : Appends (contents (device_of old)) (contents (device_of new)) text
   pub moved : MovesInPieces old new text
@@ -55,20 +55,20 @@ pub record WritesPart {W : Type 0} (contents : W → Option (List ℕ)) (old new
   pub written : Writes contents old new front
   pub failures : failures_of new ≡ failures_of old + 1
 
--- `Result` was done to `out` where the status is that of a result, and else `Refusal` to `err`, and the other was
+-- `Result` was done to `out` if the status is that of a result, and else `Refusal` to `err`, and the other was
 -- not touched.
 pub record ToOneWriter {W E : Type 0} (Result : Counted W → Counted W → List ℕ → Type 0)
-    (Refusal : Counted E → Counted E → List ℕ → Type 0) (answer : Answered) (out new_out : Counted W)
+    (Refusal : Counted E → Counted E → List ℕ → Type 0) (answer : Output) (out new_out : Counted W)
     (err new_err : Counted E) : Type 0 where
-  pub result : answer.status ≡ status_result → Result out new_out answer.text × (new_err ≡ err)
-  pub refusal : answer.status ≢ status_result → Refusal err new_err answer.text × (new_out ≡ out)
+  pub result : answer.status ≡ exit_result → Result out new_out answer.text × (new_err ≡ err)
+  pub refusal : answer.status ≢ exit_result → Refusal err new_err answer.text × (new_out ≡ out)
 
--- The answer's text went whole to `out` where its status is 0, and else to `err`.
-abbrev pub Delivers : {W E : Type 0} → (W → Option (List ℕ)) → (E → Option (List ℕ)) → Answered → Counted W → Counted W
+-- The answer's text went whole to `out` if its status is 0, and else to `err`.
+abbrev pub Delivers : {W E : Type 0} → (W → Option (List ℕ)) → (E → Option (List ℕ)) → Output → Counted W → Counted W
     → Counted E → Counted E → Type 0
 Delivers out_contents err_contents = ToOneWriter (WritesWhole out_contents) (WritesWhole err_contents)
 
 -- Its writing was broken off.
-abbrev pub BreaksOff : {W E : Type 0} → (W → Option (List ℕ)) → (E → Option (List ℕ)) → Answered → Counted W → Counted W
+abbrev pub BreaksOff : {W E : Type 0} → (W → Option (List ℕ)) → (E → Option (List ℕ)) → Output → Counted W → Counted W
     → Counted E → Counted E → Type 0
 BreaksOff out_contents err_contents = ToOneWriter (WritesPart out_contents) (WritesPart err_contents)

@@ -22,7 +22,7 @@ use std::alloc::{AllocError, Global};
 ///
 /// The checks come in this order: the input is JSON; its numbers are whole; it is an array of the
 /// right length, and for `patch` its second element is an array; for `get` the spelling of the
-/// pointer; for `patch` the form of all operations; then the work. `AllocError` where memory ran out,
+/// pointer; for `patch` the form of all operations; then the work. `AllocError` if memory ran out,
 /// which may be at any point.
 ///
 /// ```text

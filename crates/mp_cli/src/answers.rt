@@ -7,7 +7,7 @@
 pub struct Answer {
     /// The text with its newline.
     pub text: String,
-    /// 0 where the command gives a result, 1 where the command is refused, 2 where the input or a
-    /// word is at fault.
+    /// 0 if the command gives a result, 1 if the command is refused, 2 if the input or an
+    /// argument is wrong.
     pub status: u8,
 }

@@ -1,4 +1,4 @@
-//! The commands of the program, and the words that ask for them.
+//! The commands of the program, and the arguments that ask for them.
 ghost use Rattle.std.specs.Prelude.{◌≡◌, ◌≢◌, map, true, false, Some, [], codes, IfOk, IfErr, OnOk, string_bytes};
 ghost use Rattle.clap.specs.Words.{app_of, kind_of, shape_of, subcommand_name_of, subcommand_rows_of, takes, with_subcommand, IsAmong};
 ghost use Rattle.clap.specs.Simple.{new_shape};
@@ -15,11 +15,11 @@ use thiserror::Error;
 
 /// What the program is asked to do with its input.
 ///
-/// The words `mergejoin get /a` ask for `Command::Get` with the text `/a`.
+/// The arguments `mergejoin get /a` ask for `Command::Get` with the text `/a`.
 #[derive(Debug, PartialEq, Eq, Drop)]
 pub enum Command {
-    /// Print the part of the input's one element that this JSON Pointer names. The text is the word
-    /// as it was given, which may be no pointer.
+    /// Print the part of the input's one element that this JSON Pointer names. The text is the argument
+    /// as it was given, which may not be a pointer.
     Get(String),
     /// Apply the JSON Patch that is the input's second element to its first.
     Patch,
@@ -33,13 +33,13 @@ pub enum Command {
     Rewrite,
 }
 
-/// Why words ask for no command.
+/// Why arguments ask for no command.
 #[derive(Debug, Drop, Error)]
 pub enum CommandFault {
     /// Help was asked for; this is its text, for standard output.
     #[error("{0}")]
     Help(String),
-    /// The words are at fault in some other way; this is the text that says how, for standard
+    /// The arguments are wrong in some other way; this is the text that says how, for standard
     /// error.
     #[error("{0}")]
     Usage(String),
@@ -56,16 +56,16 @@ impl From<AllocError> for CommandFault {
     }
 }
 
-/// The command that the words ask for, the program's name first.
+/// The command that the arguments ask for, the program's name first.
 ///
-/// Where there is none:
+/// If there is none:
 ///
-/// - `Help`: the words ask for help, as `mergejoin --help`.
-/// - `Usage`: the command line does not take the words, as `mergejoin`, `mergejoin frob` and
+/// - `Help`: the arguments ask for help, as `mergejoin --help`.
+/// - `Usage`: the command line does not take the arguments, as `mergejoin`, `mergejoin frob` and
 ///   `mergejoin get`.
 /// - `OutOfMemory`: memory ran out.
 ///
-/// The words `mergejoin merge` give `Command::Merge`, and `mergejoin get /a` gives `Command::Get` with
+/// The arguments `mergejoin merge` give `Command::Merge`, and `mergejoin get /a` gives `Command::Get` with
 /// the text `/a`.
 pub fn command_of(alloc: Global, words: Vec<String>) -> Result<Command, CommandFault>
     ensures command { IfOk result (λ command.
@@ -75,7 +75,7 @@ pub fn command_of(alloc: Global, words: Vec<String>) -> Result<Command, CommandF
     ensures taken { takes command_line (map string_bytes words.items) ≡ true
         → IfErr result (λ fault. fault ≡ CommandFault.OutOfMemory) }
 
-    // By the kinds of fault that the line finds in the words.
+    // By the kinds of error that the line finds in the arguments.
     ensures faultless { OnOk result (faults_of (map string_bytes words.items) ≡ []) }
     ensures help { IfErr result (λ fault. IsHelp fault
         → IsAmong ErrorKind.DisplayHelp (faults_of (map string_bytes words.items))) }
@@ -137,7 +137,7 @@ fn plain_line<'a>(alloc: Global, name: &'a str, help: HelpTexts<'a>) -> clap::Co
         .after_help(help.after)
 }
 
-/// The subcommand `get`, with its one word.
+/// The subcommand `get`, with its one argument.
 fn get_line<'a>(alloc: Global) -> Result<clap::Command<'a>, AllocError>
     ensures shape { IfOk result (λ line. shape_of line ≡ get_shape) }
     ensures no_globals { IfOk result (λ line. (out-Command line).has_globals ≡ false) }
@@ -184,7 +184,7 @@ fn pointer_word(alloc: Global, matches: &ArgMatches<'_>) -> Result<String, Alloc
     String::from_str(alloc, word)
 }
 
-/// What the caller is told of an error of the command line.
+/// What is reported to the caller of an error of the command line.
 fn refusal(alloc: Global, error: &clap::Error) -> CommandFault
     ensures out_of_memory { kind_of error.now ≡ ErrorKind.OutOfMemory
         → result ≡ CommandFault.OutOfMemory }

@@ -8,7 +8,7 @@ mod device;
 /// at least one byte, and whether the last call was a flush that did not fail.
 ///
 /// The calls are made by `run` alone. A call counts as failed where the device answered an error,
-/// also that it was interrupted, and where a write of at least one byte took none. No count goes
+/// also that it was interrupted, and if a write of at least one byte took none. No count goes
 /// past the range of `u64`.
 ///
 /// ```text
@@ -73,7 +73,7 @@ impl<T> Counted<T> {
         self.failures
     }
 
-    /// How many bytes the reads gave or the writes took: 0 where no call was made.
+    /// How many bytes the reads gave or the writes took: 0 if no call was made.
     pub fn bytes(&self) -> u64
         ensures value { result ≡ bytes_of self.now }
         ensures none_before_calls { calls_of self.now ≡ 0 → result ≡ 0 }

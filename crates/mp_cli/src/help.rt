@@ -1,6 +1,6 @@
 // The texts of the help: what each subcommand is for, the shape of its input with an example, and its statuses.
 
-// What stands at the head of a help, and what stands at its end.
+// What is at the head of a help, and what is at its end.
 #[derive(Clone, Copy)]
 pub(crate) struct HelpTexts<'a> {
     pub(crate) about: &'a str,
@@ -9,7 +9,7 @@ pub(crate) struct HelpTexts<'a> {
 
 pub(crate) const AFTER_HELP: &str = "\
 Limits: 1,048,576 bytes of input, 127 levels of nesting, whole numbers from -2^63 to 2^64 - 1.
-Status: 0 with a result; 1 there is none; 2 the input or a word is at fault; 3 memory or a device failed.
+Status: 0 with a result; 1 there is none; 2 the input or an argument is wrong; 3 memory or a stream failed.
 Each subcommand's help has its input; docs/REFUSALS.md of its repository has each line of refusal.";
 
 pub(crate) const GET: HelpTexts<'static> = HelpTexts {
@@ -17,7 +17,7 @@ pub(crate) const GET: HelpTexts<'static> = HelpTexts {
     after: "\
 Input: [document]
 Example: echo '[{\"a\":[1,2]}]' | mergejoin get /a/0
-Status: 0; 1 nothing is there; 2 the input or the pointer is at fault; 3 memory or a device failed.",
+Status: 0; 1 nothing is there; 2 the input or the pointer is wrong; 3 memory or a stream failed.",
 };
 
 pub(crate) const PATCH: HelpTexts<'static> = HelpTexts {
@@ -25,7 +25,7 @@ pub(crate) const PATCH: HelpTexts<'static> = HelpTexts {
     after: "\
 Input: [document, JSON Patch]
 Example: echo '[{\"a\":1},[{\"op\":\"remove\",\"path\":\"/a\"}]]' | mergejoin patch
-Status: 0; 1 an operation is refused; 2 the input or an operation's form is at fault; 3 memory or a device failed.",
+Status: 0; 1 an operation is refused; 2 the input or an operation's form is wrong; 3 memory or a stream failed.",
 };
 
 pub(crate) const MERGE: HelpTexts<'static> = HelpTexts {
@@ -33,7 +33,7 @@ pub(crate) const MERGE: HelpTexts<'static> = HelpTexts {
     after: "\
 Input: [document, merge patch, ..]
 Example: echo '[{\"a\":1},{\"a\":null,\"b\":2}]' | mergejoin merge
-Status: 0; 2 the input is at fault; 3 memory or a device failed.",
+Status: 0; 2 the input is wrong; 3 memory or a stream failed.",
 };
 
 pub(crate) const JOIN: HelpTexts<'static> = HelpTexts {
@@ -41,7 +41,7 @@ pub(crate) const JOIN: HelpTexts<'static> = HelpTexts {
     after: "\
 Input: [merge patch, ..]
 Example: echo '[{\"a\":1},{\"b\":null}]' | mergejoin join
-Status: 0; 1 two patches clash, or there is none; 2 the input is at fault; 3 memory or a device failed.",
+Status: 0; 1 two patches conflict, or there is none; 2 the input is wrong; 3 memory or a stream failed.",
 };
 
 pub(crate) const REPLAY: HelpTexts<'static> = HelpTexts {
@@ -49,7 +49,7 @@ pub(crate) const REPLAY: HelpTexts<'static> = HelpTexts {
     after: "\
 Input: [document, merge patch, ..]
 Example: echo '[{\"k\":0},{\"a\":1},{\"k\":null},{\"a\":1}]' | mergejoin replay
-Status: 0; 1 two patches clash; 2 the input is at fault; 3 memory or a device failed.",
+Status: 0; 1 two patches conflict; 2 the input is wrong; 3 memory or a stream failed.",
 };
 
 pub(crate) const REWRITE: HelpTexts<'static> = HelpTexts {
@@ -57,5 +57,5 @@ pub(crate) const REWRITE: HelpTexts<'static> = HelpTexts {
     after: "\
 Input: [document, merge patch]
 Example: echo '[{\"a\":1},{\"a\":null}]' | mergejoin rewrite
-Status: 0; 2 the input is at fault; 3 memory or a device failed.",
+Status: 0; 2 the input is wrong; 3 memory or a stream failed.",
 };

@@ -1,5 +1,5 @@
 //! Laws of the program: each function runs nothing, and its contract is the law.
-ghost use Rattle.mp_cli.specs.Laws.{AnswerExists, HasOneAnswer, TakesEachCommand, ReplicasPrintTheSame, JoinsPrintTheSame, ClashesAreTold, JoinTellsClashes, JoinPrintedIsRead, RewritingPrintedIsRead};
+ghost use Rattle.mp_cli.specs.Laws.{AnswerExists, HasOneAnswer, TakesEachCommand, ReplicasPrintTheSame, JoinsPrintTheSame, ClashesAreReported, JoinReportsClashes, JoinPrintedIsRead, RewritingPrintedIsRead};
 ghost use Rattle.mp_cli.specs.Private.LawsBelow.{TextLaws, PointerLaws, PatchLaws, MergeLaws, RewritingLaws};
 
 use mp_merge::laws as merge;
@@ -15,21 +15,21 @@ pub fn answer_exists()
 }
 
 /// A command and an input have at most one answer: its bytes and its status are a function of the command and of the
-/// input bytes. So where memory does not run out, each run of `answer` on them gives the same.
+/// input bytes. So unless memory runs out, each run of `answer` on them gives the same.
 pub fn one_answer()
     ensures { HasOneAnswer }
 {
     laws_below();
 }
 
-/// The command line takes the words of each of the six commands, with the program's name first, and for `get` the
-/// spelling of every pointer: so on them `command_of` gives the command, where memory does not run out.
+/// The command line takes the arguments of each of the six commands, with the program's name first, and for `get` the
+/// spelling of every pointer: so on them `command_of` gives the command, unless memory runs out.
 pub fn takes_each_command()
     ensures { TakesEachCommand }
 {}
 
-/// Replicas print the same: where two inputs are one start, followed by lists with the same members, at least one, in
-/// any orders and with any repeats, no two of which clash, each answer of `replay` to the one is each to the other, byte
+/// Replicas print the same: if two inputs are one start, followed by lists with the same members, at least one, in
+/// any orders and with any repeats, no two of which conflict, each answer of `replay` to the one is each to the other, byte
 /// for byte, with status 0; and so it is with `join` and the lists alone.
 pub fn replicas_print_the_same()
     ensures replay { ReplicasPrintTheSame }
@@ -38,11 +38,11 @@ pub fn replicas_print_the_same()
     laws_below();
 }
 
-/// Clashes are told: where two members of a list clash, each answer of `replay` and of `join` has status 1 and is the
-/// line of the pair that is told of the list. It is never a document.
-pub fn clashes_are_told()
-    ensures replay { ClashesAreTold }
-    ensures join { JoinTellsClashes }
+/// Conflicts are reported: if two members of a list conflict, each answer of `replay` and of `join` has status 1 and is the
+/// line of the pair that is reported of the list. It is never a document.
+pub fn clashes_are_reported()
+    ensures replay { ClashesAreReported }
+    ensures join { JoinReportsClashes }
 {
     laws_below();
 }
@@ -57,7 +57,7 @@ pub fn join_printed_is_read()
 }
 
 /// What `rewrite` prints of a document and a patch is taken by `patch`: the document's text and that line, put together
-/// in the same way, are answered with what `merge` answers to the document and the patch, where no value of the
+/// in the same way, are answered with what `merge` answers to the document and the patch, if no value of the
 /// rewriting is more than 124 deep. A deeper one nests more than what is read may, and the answer is
 /// `input: not JSON`.
 pub fn rewriting_printed_is_read()
@@ -96,7 +96,7 @@ fn laws_below()
     merge::one_outcome();
     merge::outcome_exists();
     merge::replicas_agree();
-    merge::told_pair();
+    merge::reported_pair();
     merge::empty_has_no_join();
     merge::one_join();
     merge::join_exists();

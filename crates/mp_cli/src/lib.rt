@@ -1,4 +1,4 @@
-//! The program `mergejoin` but for its `main`: the command that words ask for, the answer to an
+//! The program `mergejoin` but for its `main`: the command that arguments ask for, the answer to an
 //! input, and the run that reads the input and writes the answer.
 #![tactic(auto)]
 

@@ -1,9 +1,9 @@
-//! The lines of the program, each with its status: the texts stand here alone.
+//! The lines of the program, each with its status: the texts are here alone.
 ghost use Rattle.std.specs.Prelude.{◌≡◌, ◌++◌, IfOk, OnOk, option_map, string_bytes};
 ghost use Rattle.mp_tree.specs.View.{document};
 ghost use Rattle.mp_pointer.specs.Part.{numeral};
 ghost use Rattle.mp_cli.specs.Lines as lines;
-ghost use Rattle.mp_cli.specs.Lines.{line_of, pointers_text, status_of, status_result};
+ghost use Rattle.mp_cli.specs.Lines.{line_of, pointers_text, status_of, exit_result};
 ghost use Rattle.mp_cli.specs.Private.Answers as answers;
 ghost use Rattle.mp_cli.specs.Private.Answers.{Gives, GivesLine};
 
@@ -15,16 +15,16 @@ use mp_pointer::{Pointer, PointerFault};
 use mp_tree::{Doc, DocsFault, write_doc, write_text};
 use std::alloc::{AllocError, Global};
 
-/// The status where the command gives a result.
+/// The status if the command gives a result.
 const RESULT: u8 = 0;
 
-/// The status where the command has no result.
+/// The status if the command has no result.
 const NO_RESULT: u8 = 1;
 
-/// The status where the input or a word is at fault.
+/// The status if the input or an argument is wrong.
 const REFUSED: u8 = 2;
 
-/// The status where the machine is.
+/// The status if memory or a stream fails.
 const FAILED: u8 = 3;
 
 pub(crate) fn input_fault(alloc: Global, fault: DocsFault) -> Result<Answer, AllocError>
@@ -174,12 +174,12 @@ fn with_number(alloc: Global, before: &str, number: usize) -> Result<String, All
 }
 
 pub(crate) fn result_line(text: String) -> Result<Answer, AllocError>
-    ensures { Gives result (lines.line (string_bytes text) status_result) }
+    ensures { Gives result (lines.line (string_bytes text) exit_result) }
 {
     ended(text, RESULT)
 }
 
-/// The line for a fault of `run`, without its newline, and the status that the program ends with.
+/// The line for an error of `run`, without its newline, and the status that the program ends with.
 ///
 /// For `RunFault::ReadFailed` it is the line `read failed` with the status 3.
 pub fn fault_line(fault: &RunFault) -> (&'static str, u8)

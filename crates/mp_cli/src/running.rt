@@ -1,7 +1,7 @@
 //! The run of the program: its input is read, answered and written.
 ghost use Rattle.std.specs.Prelude.{◌+◌, ◌≡◌, ◌≢◌, ◌↔◌, ◌<◌, ◌≤◌, ℕ, List, IsErrOf, IfOk, IfErr, OnOk, OnErr};
 ghost use Rattle.mp_cli.specs.Answered.{answered_by, IsAnswered};
-ghost use Rattle.mp_cli.specs.Lines.{Answered};
+ghost use Rattle.mp_cli.specs.Lines.{Output};
 ghost use Rattle.mp_cli.specs.Counted.{calls_of, failures_of, bytes_of};
 ghost use Rattle.mp_cli.specs.Run.{ReadsBytes, ReadsWhole, WritesPart, WritesWhole, BreaksOff, Delivers, input_limit};
 ghost use Rattle.mp_cli.specs.declared.running.RunFault.TheVariants.{OutOfMemory};
@@ -33,7 +33,7 @@ pub enum RunFault {
     #[error("write failed")]
     WriteFailed,
     /// The input has more than `INPUT_LIMIT` bytes.
-    #[error("input too long")]
+    #[error("input: too long")]
     TooLong,
     /// Memory ran out.
     #[error("out of memory")]
@@ -50,10 +50,10 @@ impl From<AllocError> for RunFault {
 
 /// Reads the input to its end, writes the answer to it, and gives the status of the answer.
 ///
-/// The answer's text goes whole to `out` where its status is 0, and else to `err`, which is then
+/// The answer's text goes whole to `out` if its status is 0, and else to `err`, which is then
 /// flushed. A run makes at most `READ_LIMIT` reads, whatever the reader does.
 ///
-/// Where it gives no status:
+/// If it gives no status:
 ///
 /// - `ReadFailed`: a read failed. Nothing was written.
 /// - `TooLong`: the input has more than `INPUT_LIMIT` bytes. Nothing was written.
@@ -77,7 +77,7 @@ pub fn run<R: Read, W: Write, E: Write>(
     requires fresh_out { calls_of out.old ≡ 0 }
     requires fresh_err { calls_of err.old ≡ 0 }
 
-    // When a fault of the input comes.
+    // When an error of the input comes.
     ensures read_failed { IsErrOf result RunFault.ReadFailed ↔ (0 < failures_of input.new) }
     ensures too_long { IsErrOf result RunFault.TooLong ↔ (input_limit < bytes_of input.new) }
 
@@ -88,11 +88,11 @@ pub fn run<R: Read, W: Write, E: Write>(
     // What was written.
     ensures answered { IfOk result (λ status. (bytes : List ℕ)
         × ReadsWhole R.remaining input.old input.new bytes
-        × (a : Answered) × IsAnswered command.now bytes a × (status ≡ a.status)
+        × (a : Output) × IsAnswered command.now bytes a × (status ≡ a.status)
         × Delivers W.contents E.contents a out.old out.new err.old err.new) }
     ensures write_failed { IsErrOf result RunFault.WriteFailed → (bytes : List ℕ)
         × ReadsWhole R.remaining input.old input.new bytes
-        × (a : Answered) × IsAnswered command.now bytes a
+        × (a : Output) × IsAnswered command.now bytes a
         × BreaksOff W.contents E.contents a out.old out.new err.old err.new }
     ensures nothing_written { IfErr result (λ fault. fault ≢ RunFault.WriteFailed
         → (out.new ≡ out.old) × (err.new ≡ err.old)) }

@@ -1,5 +1,5 @@
--- Where two patches clash, and the pair that is told of a list.
+-- Where two patches clash, and the pair that is reported of a list.
 pub mod ByName
 pub mod Conflicts
 pub mod Exchange
-pub mod ToldPair
+pub mod ReportedPair

@@ -21,7 +21,7 @@ use Rattle.mp_merge.proofs.Application.InTurn.{IsDocument-in_turn, applied_in_tu
 use Rattle.mp_merge.proofs.Joins.Laws.{join_exists, join_is_no_deeper, join_of_same, one_join}
 use Rattle.mp_merge.proofs.Outcome.{one_outcome, join_gives_outcome}
 use Rattle.mp_merge.proofs.Rewritings.SomeRewriting.{rewriting_exists, rewriting_has_documents}
-use Rattle.mp_merge.proofs.Clashes.ToldPair.{compatible_have_none}
+use Rattle.mp_merge.proofs.Clashes.ReportedPair.{compatible_have_none}
 
 -- the laws of runs that the proof rests on
 pub record RunLaws : Type 0 where
@@ -51,12 +51,12 @@ module _ (laws : RunLaws) (start : Document) (patches : List Document) (good : I
 
     joins : (fault : ListFault) → IsJoinAllFault fault received → fault ≡ OutOfMemory
     joins NoPatches none = absurd (received_some patches refl none)
-    joins (ConflictOf first second places) told = absurd (compatible_have_none received first second places.items told received_compatible)
+    joins (ConflictOf first second places) reported = absurd (compatible_have_none received first second places.items reported received_compatible)
     joins OutOfMemory is = refl
 
     replays : (fault : ListFault) → IsReplayFault fault received → fault ≡ OutOfMemory
     replays NoPatches never = absurd never
-    replays (ConflictOf first second places) told = joins (ConflictOf first second places) told
+    replays (ConflictOf first second places) reported = joins (ConflictOf first second places) reported
     replays OutOfMemory is = refl
 
     received_join : IsJoin received j

@@ -18,7 +18,7 @@ says-plain p w v is = says-has p w (λ none. let differ = sym is ∙ none in cc)
 says-object : (p : Document) (w : Path) → look p w ≡ an_object → says p w ≡ Some an_object
 says-object p w is = says-has p w (λ none. let differ = sym is ∙ none in cc) ∙ ap (λ l. Some (left_of l w)) is
 
--- ---- a patch leaves a path alone exactly where it says nothing of it
+-- ---- a patch leaves a path alone exactly if it says nothing of it
 
 pub says-below_plain : (p : Document) (w : Path) → IsBelowPlain (Some p) w → says p w ≡ Some nothing
 says-below_plain p w at = ap (says p) at.path ∙ says-below p at.above at.name at.rest at.value at.stands
@@ -37,23 +37,23 @@ alone_if_quiet p w quiet = record {
   above = λ u n rest v is stands. let differ = sym quiet ∙ ap (says p) is ∙ says-below p u n rest v stands in cc;
 }
 
--- ---- an outcome looks as each patch says, and as the start where all are quiet
+-- ---- an outcome looks as each patch says, and as the start if all are quiet
 
 pub record Follows (d : Document) (patches : List Document) (e : Document) : Type 0 where
-  pub told : (p : Document) → Contains patches p → (w : Path) (l : Look) → says p w ≡ Some l → look e w ≡ l
+  pub reported : (p : Document) → Contains patches p → (w : Path) (l : Look) → says p w ≡ Some l → look e w ≡ l
   pub kept : (w : Path) → ((p : Document) → Contains patches p → says p w ≡ None) → look e w ≡ look d w
 
 pub outcome_from_follows : (d : Document) (patches : List Document) (e : Document) → Follows d patches e → IsOutcome d patches e
 outcome_from_follows d patches e follows = record {
-  set = λ p at w v is. follows.told p at w (left_by v w) (says-plain p w v is);
-  entered = λ p at w is. follows.told p at w an_object (says-object p w is);
-  cleared = λ p at u n rest v is. follows.told p at (u ++ n ∷ rest) nothing (says-below p u n rest v is);
+  set = λ p at w v is. follows.reported p at w (left_by v w) (says-plain p w v is);
+  entered = λ p at w is. follows.reported p at w an_object (says-object p w is);
+  cleared = λ p at u n rest v is. follows.reported p at (u ++ n ∷ rest) nothing (says-below p u n rest v is);
   kept = λ w leaves. follows.kept w (λ p at. says-alone p w (leaves p at));
 }
 
 pub follows_from_outcome : (d : Document) (patches : List Document) (e : Document) → IsOutcome d patches e → Follows d patches e
 follows_from_outcome d patches e outcome = record {
-  told = λ p at w l is. by p at w l is (reach p w);
+  reported = λ p at w l is. by p at w l is (reach p w);
   kept = λ w quiet. outcome.kept w (λ p at. alone_if_quiet p w (quiet p at));
 }
   where
@@ -77,17 +77,17 @@ follows_from_outcome d patches e outcome = record {
 
 pub application_is_outcome : ApplicationIsOutcome
 application_is_outcome d p good patch = outcome_from_follows d (p ∷ []) (merge_patch (Some d) p) (record {
-  told = λ q at w l is. look-merge_patch (Some d) p w good patch ∙ ap (λ s. or_else s (look d w)) (ap (λ x. says x w) (Contains-one p q at) ∙ is);
+  reported = λ q at w l is. look-merge_patch (Some d) p w good patch ∙ ap (λ s. or_else s (look d w)) (ap (λ x. says x w) (Contains-one p q at) ∙ is);
   kept = λ w quiet. look-merge_patch (Some d) p w good patch ∙ ap (λ s. or_else s (look d w)) (quiet p (Contains-head p []));
 })
 
-abbrev Tells : Path → Document → Type 0
-Tells w p = (l : Look) × (says p w ≡ Some l)
+abbrev SaysSome : Path → Document → Type 0
+SaysSome w p = (l : Look) × (says p w ≡ Some l)
 
-tells_or_quiet : (w : Path) (p : Document) → Tells w p ⊎ (says p w ≡ None)
-tells_or_quiet w p = by (says p w) refl
+says_or_quiet : (w : Path) (p : Document) → SaysSome w p ⊎ (says p w ≡ None)
+says_or_quiet w p = by (says p w) refl
   where
-    by : (s : Option Look) → says p w ≡ s → Tells w p ⊎ (says p w ≡ None)
+    by : (s : Option Look) → says p w ≡ s → SaysSome w p ⊎ (says p w ≡ None)
     by None is = inr is
     by (Some l) is = inl (l, is)
 
@@ -95,8 +95,8 @@ pub one_outcome : HasOneOutcome
 one_outcome d patches e f good other first second =
     let one = follows_from_outcome d patches e first in
     let two = follows_from_outcome d patches f second in
-    (equal_looks e f good other).1 (λ w. elim (some_or_all (Tells w) (λ p. says p w ≡ None) (tells_or_quiet w) patches) [
-      | inl some ↦ one.told some.0 some.1 w some.2.0 some.2.1 ∙ sym (two.told some.0 some.1 w some.2.0 some.2.1)
+    (equal_looks e f good other).1 (λ w. elim (some_or_all (SaysSome w) (λ p. says p w ≡ None) (says_or_quiet w) patches) [
+      | inl some ↦ one.reported some.0 some.1 w some.2.0 some.2.1 ∙ sym (two.reported some.0 some.1 w some.2.0 some.2.1)
       | inr quiet ↦ one.kept w quiet ∙ sym (two.kept w quiet)
     ])
 
@@ -137,6 +137,6 @@ quiet_join patches j joined w quiet = by (reach j w)
 
 pub join_gives_outcome : JoinGivesOutcome
 join_gives_outcome d patches j good whole joined = outcome_from_follows d patches (merge_patch (Some d) j) (record {
-  told = λ p at w l is. look-merge_patch (Some d) j w good whole ∙ ap (λ s. or_else s (look d w)) (says-join patches j joined p at w l is);
+  reported = λ p at w l is. look-merge_patch (Some d) j w good whole ∙ ap (λ s. or_else s (look d w)) (says-join patches j joined p at w l is);
   kept = λ w quiet. look-merge_patch (Some d) j w good whole ∙ ap (λ s. or_else s (look d w)) (quiet_join patches j joined w quiet);
 })

@@ -1,3 +1,3 @@
--- Paths, and what stands at their ends.
+-- Paths, and what is at their ends.
 pub mod Maps
 pub mod Rising

@@ -3,12 +3,12 @@ use Rattle.std.specs.Prelude.{List, [], ◌∷◌, ℕ, Option, None, Some}
 use Rattle.mp_tree.specs.Document.{Document, null, object, Members, no_members, member, find}
 use Rattle.mp_tree.specs.Document.{put, without, depth}
 
--- the members of a target: none where it is absent or no object
+-- the members of a target: none if it is absent or no object
 abbrev pub target_members : Option Document → Members
 target_members (Some (object ts)) = ts
 target_members _ = no_members
 
--- n is taken out where the patch has null there, and else is set to the merged value
+-- n is taken out if the patch has null there, and else is set to the merged value
 abbrev pub set_or_remove : List ℕ → Document → Document → Members → Members
 set_or_remove n null merged ms = without n ms
 set_or_remove n p merged ms = put n merged ms
@@ -34,14 +34,14 @@ abbrev pub depth_of : Option Document → ℕ
 depth_of None = 0
 depth_of (Some d) = depth d
 
--- ---- what stands at a name after an application
+-- ---- what is at a name after an application
 
--- nothing where the patch has null, else the merged value
+-- nothing if the patch has null, else the merged value
 abbrev pub unless_null : Document → Document → Option Document
 unless_null null merged = None
 unless_null p merged = Some merged
 
--- what the target has stays where the patch does not carry the name
+-- what the target has stays if the patch does not carry the name
 abbrev pub after_patch : Option Document → Option Document → Option Document
 after_patch t None = t
 after_patch t (Some p) = unless_null p (merge_patch t p)

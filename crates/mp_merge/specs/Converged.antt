@@ -8,7 +8,7 @@ use Rattle.mp_patch.specs.View.{operations_of}
 use Rattle.mp_patch.specs.declared.fault.Cause.{Cause}
 use Rattle.mp_merge.specs.Application.{merge_patch}
 use Rattle.mp_merge.specs.Join.{IsJoin}
-use Rattle.mp_merge.specs.Lists.{PairwiseCompatible, IsToldPair}
+use Rattle.mp_merge.specs.Lists.{PairwiseCompatible, IsReportedPair}
 use Rattle.mp_merge.specs.Outcome.{IsOutcome}
 use Rattle.mp_merge.specs.Rewriting.{IsRewriting}
 use Rattle.mp_merge.specs.declared.converging.Converged.{Converged}
@@ -39,12 +39,12 @@ pub record IsRewritingRefused (start : Document) (here there : List Document) (o
   pub edits : IsRewriting start joined operations
   pub refused : RefusedAt start operations op cause
 
--- Why there is no result: two patches of the first list clash, or of the second where those of the first do not; a
--- list is empty where none clash; the rewriting is refused where both have a join. Want of memory says nothing.
+-- Why there is no result: two patches of the first list clash, or of the second if those of the first do not; a
+-- list is empty if none clash; the rewriting is refused if both have a join. Out of memory says nothing.
 abbrev pub IsConvergeFault : ConvergeFault → Document → List Document → List Document → Type 0
 IsConvergeFault (Lists (ConflictOf first second places)) start here there =
-    IsToldPair here first second places.items
-    ⊎ (PairwiseCompatible here × IsToldPair there first second places.items)
+    IsReportedPair here first second places.items
+    ⊎ (PairwiseCompatible here × IsReportedPair there first second places.items)
 IsConvergeFault (Lists NoPatches) start here there =
     PairwiseCompatible here × PairwiseCompatible there × ((here ≡ []) ⊎ (there ≡ []))
 IsConvergeFault (Lists ListFault.OutOfMemory) start here there = ⊥

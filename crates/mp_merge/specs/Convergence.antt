@@ -15,14 +15,14 @@ use Rattle.mp_merge.specs.declared.fault.ListFault.TheVariants.{OutOfMemory}
 
 -- a replica that received these patches is not refused, and comes to the end by the join that all have
 pub record ReachesEnd (start joined end : Document) (received : List Document) : Type 0 where
-  -- neither for their join nor for their replay is there any fault but want of memory
+  -- neither for their join nor for their replay is there any error but out of memory
   pub joins : (fault : ListFault) → IsJoinAllFault fault received → fault ≡ OutOfMemory
   pub replays : (fault : ListFault) → IsReplayFault fault received → fault ≡ OutOfMemory
   pub is_join : IsJoin received joined
   pub one_join : (j : Document) → IsDocument j → IsJoin received j → j ≡ joined
   pub is_outcome : IsOutcome start received end
   pub one_outcome : (e : Document) → IsDocument e → IsOutcome start received e → e ≡ end
-  -- a replica that applies each patch as it comes ends with it too
+  -- a replica that applies each patch as it arrives ends with it too
   pub each_in_turn : in_turn start received ≡ end
 
 -- a JSON Patch that is not refused and leads from the start to this end alone

@@ -5,11 +5,11 @@ use Rattle.mp_tree.specs.Look.{Path, nothing, an_object, plain, look}
 
 -- what the patch p has at the path is not what d has there
 pub data Changes (d p : Document) (w : Path) : Type 0 where
-  -- a value that is no object; a null is such a value at the root alone
+  -- a value that is not an object; a null is such a value at the root alone
   sets : (v : Document) → look p w ≡ plain v → (v ≢ null) ⊎ (w ≡ []) → look d w ≢ plain v → Changes d p w
   -- below the root a null removes what is there
   clears : look p w ≡ plain null → w ≢ [] → look d w ≢ nothing → Changes d p w
-  -- an object, where d has none
+  -- an object, and d has none there
   enters : look p w ≡ an_object → look d w ≢ an_object → Changes d p w
 
 pub record IsEditPlace (d p : Document) (w : Path) : Type 0 where

@@ -15,7 +15,7 @@ use Rattle.mp_merge.specs.EditPlace.{IsEditPlace}
 use Rattle.mp_merge.specs.Application.{merge_patch, in_turn, target_members, after_patch}
 use Rattle.mp_merge.specs.Clash.{Clash, Compatible, AreAllClashes}
 use Rattle.mp_merge.specs.Join.{IsJoin, JoinsNames, HasJoin}
-use Rattle.mp_merge.specs.Lists.{PairwiseCompatible, AreWithin, IsToldPair, HaveSameMembers}
+use Rattle.mp_merge.specs.Lists.{PairwiseCompatible, AreWithin, IsReportedPair, HaveSameMembers}
 use Rattle.mp_merge.specs.Outcome.{IsOutcome, HasOutcome}
 use Rattle.mp_merge.specs.Resumption.{AreTries, last_of}
 use Rattle.mp_merge.specs.Rewriting.{IsRewriting, ListsEdits}
@@ -37,7 +37,7 @@ OthersReplace = (t : Option Document) (p : Document) → look p [] ≡ plain p �
 abbrev pub MergedIsDocument : Type 0
 MergedIsDocument = (d p : Document) → IsDocument d → IsDocument p → IsDocument (merge_patch (Some d) p)
 
--- what a patch makes of a document can be read where both can
+-- what a patch makes of a document can be read if both can
 abbrev pub MergedIsReadable : Type 0
 MergedIsReadable = (d p : Document) → IsReadable d → IsReadable p → IsReadable (merge_patch (Some d) p)
 
@@ -104,26 +104,26 @@ HaveOneList = (p q : Document) (places others : List Path) → AreAllClashes p q
 abbrev pub EmptyIfCompatible : Type 0
 EmptyIfCompatible = (p q : Document) (places : List Path) → AreAllClashes p q places → (places ≡ []) ↔ Compatible p q
 
--- a list of patches is pairwise compatible, or there is the pair that is told of it
-abbrev pub CompatibleOrTold : Type 0
-CompatibleOrTold =
+-- a list of patches is pairwise compatible, or there is the pair that is reported of it
+abbrev pub CompatibleOrReported : Type 0
+CompatibleOrReported =
     (patches : List Document) → All IsDocument patches
     → PairwiseCompatible patches
-    ⊎ ((first : ℕ) × (second : ℕ) × (places : List Path) × IsToldPair patches first second places)
+    ⊎ ((first : ℕ) × (second : ℕ) × (places : List Path) × IsReportedPair patches first second places)
 
 -- and not both
 abbrev pub CompatibleHaveNone : Type 0
 CompatibleHaveNone = (patches : List Document) (first second : ℕ) (places : List Path)
-    → IsToldPair patches first second places → ¬ PairwiseCompatible patches
+    → IsReportedPair patches first second places → ¬ PairwiseCompatible patches
 
--- the pair that is told is one alone, and so are its conflicts
-abbrev pub HasOneToldPair : Type 0
-HasOneToldPair =
+-- the pair that is reported is one alone, and so are its conflicts
+abbrev pub HasOneReportedPair : Type 0
+HasOneReportedPair =
     (patches : List Document) (first second other_first other_second : ℕ) (places other_places : List Path)
-    → IsToldPair patches first second places → IsToldPair patches other_first other_second other_places
+    → IsReportedPair patches first second places → IsReportedPair patches other_first other_second other_places
     → (first ≡ other_first) × (second ≡ other_second) × (places ≡ other_places)
 
--- a patch clashes with a join exactly where it clashes with one of the patches that were joined
+-- a patch clashes with a join exactly if it clashes with one of the patches that were joined
 abbrev pub ClashesWithAMember : List Document → Document → Path → Type 0
 ClashesWithAMember patches r w = (p : Document) × Contains patches p × Clash r p w
 
@@ -136,7 +136,7 @@ abbrev pub CompatibleByNames : Type 0
 CompatibleByNames = (ps qs : Members) → Compatible (object ps) (object qs)
     ↔ ((n : List ℕ) (p q : Document) → find n ps ≡ Some p → find n qs ≡ Some q → Compatible p q)
 
--- and what is no object is compatible with its equal alone, on either side
+-- and what is not an object is compatible with its equal alone, on either side
 abbrev pub CompatibleIfEqual : Type 0
 CompatibleIfEqual = (p q : Document) → (look p [] ≡ plain p) ⊎ (look q [] ≡ plain q) → Compatible p q ↔ (p ≡ q)
 
@@ -147,7 +147,7 @@ abbrev pub JoinByNames : Type 0
 JoinByNames = (ps qs : Members) (j : Document) → IsMap ps → IsMap qs → IsDocument j
     → IsJoin (object ps ∷ object qs ∷ []) j ↔ JoinsNames ps qs j
 
--- and where a patch is no object, the join is the one value that both are
+-- and if a patch is not an object, the join is the one value that both are
 abbrev pub JoinOfEqual : Type 0
 JoinOfEqual = (p q j : Document) → look p [] ≡ plain p → IsJoin (p ∷ q ∷ []) j ↔ ((p ≡ q) × (j ≡ p))
 
@@ -206,7 +206,7 @@ abbrev pub JoinIsNoDeeper : Type 0
 JoinIsNoDeeper = (patches : List Document) (j : Document) (n : ℕ) → IsDocument j → All IsDocument patches
     → IsJoin patches j → AreWithin n patches → depth j ≤ n
 
--- and it can be read where they can
+-- and it can be read if they can
 abbrev pub JoinIsReadable : Type 0
 JoinIsReadable = (patches : List Document) (j : Document) → IsDocument j → All IsReadable patches → IsJoin patches j
     → IsReadable j
@@ -232,7 +232,7 @@ abbrev pub RewritingHasDocuments : Type 0
 RewritingHasDocuments = (d p : Document) (operations : List Operation) → IsDocument d → IsDocument p
     → IsRewriting d p operations → HaveDocuments operations
 
--- its operations can be written where the document and the patch can be read
+-- its operations can be written if the document and the patch can be read
 abbrev pub RewritingIsWritable : Type 0
 RewritingIsWritable = (d p : Document) (operations : List Operation) → IsReadable d → IsReadable p
     → IsRewriting d p operations → All IsWritable operations
@@ -247,7 +247,7 @@ abbrev pub EmptyRewriting : Type 0
 EmptyRewriting = (d p : Document) (operations : List Operation) → IsDocument d → IsDocument p
     → IsRewriting d p operations → (operations ≡ []) ↔ (merge_patch (Some d) p ≡ d)
 
--- where the rewriting of d runs from any document x, each place that it changes and where d has something has in x the
+-- if the rewriting of d runs from any document x, each place that it changes and where d has something has in x the
 -- part that it has in d
 abbrev pub GuardedList : Type 0
 GuardedList =
@@ -255,10 +255,10 @@ GuardedList =
     → IsRewriting d p operations → Runs x operations e → IsEditPlace d p w
     → part d w ≡ Some v → part x w ≡ Some v
 
--- what a test that is refused tells, where the rewriting of d is applied to x: it is of a part of d, x does not have
+-- what a test that is refused shows, if the rewriting of d is applied to x: it is of a part of d, x does not have
 -- that part there, and nothing of x was changed
-abbrev pub RefusedGuardTells : Type 0
-RefusedGuardTells =
+abbrev pub RefusedGuardShows : Type 0
+RefusedGuardShows =
     (d p x : Document) (operations : List Operation) (k : ℕ) (cause : Cause) (w : Path) (v : Document)
     → IsRewriting d p operations → (refused : RefusedAt x operations k cause) → slice_get operations k ≡ Some (test w v)
     → (part d w ≡ Some v) × (part x w ≢ Some v) × (refused.0 ≡ x)

@@ -31,21 +31,21 @@ pub record IsClashBelow (patches : List Document) (first second : ℕ) (places :
   pub least_first : CompatibleBelow patches first other
 
 -- `second` is the least number of a patch that clashes with an earlier one, `first` the least number below it that
--- clashes with it, and `places` are all conflicts of the two: the pair that is told of the list
-pub record IsToldPair (patches : List Document) (first second : ℕ) (places : List Path) : Type 0 where
+-- clashes with it, and `places` are all conflicts of the two: the pair that is reported of the list
+pub record IsReportedPair (patches : List Document) (first second : ℕ) (places : List Path) : Type 0 where
   pub clash : IsClashBelow patches first second places
   pub least_second : (k : ℕ) (q : Document) → k < second → slice_get patches k ≡ Some q → CompatibleBelow patches k q
 
--- why a list has no join; want of memory says nothing of it
+-- why a list has no join; out of memory says nothing of it
 abbrev pub IsJoinAllFault : ListFault → List Document → Type 0
 IsJoinAllFault NoPatches patches = patches ≡ []
-IsJoinAllFault (ConflictOf first second places) patches = IsToldPair patches first second places.items
+IsJoinAllFault (ConflictOf first second places) patches = IsReportedPair patches first second places.items
 IsJoinAllFault OutOfMemory patches = ⊤
 
 -- why a list can't be replayed: the empty list can
 abbrev pub IsReplayFault : ListFault → List Document → Type 0
 IsReplayFault NoPatches patches = ⊥
-IsReplayFault (ConflictOf first second places) patches = IsToldPair patches first second places.items
+IsReplayFault (ConflictOf first second places) patches = IsReportedPair patches first second places.items
 IsReplayFault OutOfMemory patches = ⊤
 
 -- the lists have the same members, in any order and with any repeats

@@ -1,17 +1,17 @@
--- What a collection of merge patches makes of a document, said of what stands at each path. Only membership in the
+-- What a collection of merge patches makes of a document, said of what is at each path. Only membership in the
 -- list of patches counts: neither order nor repetition can be expressed.
 use Rattle.std.specs.Prelude.{◌≡◌, ◌≢◌, ℕ, List, [], ◌∷◌, ◌++◌}
 use Rattle.std.specs.List.{Contains}
 use Rattle.mp_tree.specs.Document.{Document, IsDocument, null}
 use Rattle.mp_tree.specs.Look.{Path, Look, nothing, an_object, plain, look}
 
--- what a value that is no object leaves where a patch has it: itself, but a null below the root removes
+-- what a value that is not an object leaves where a patch has it: itself, but a null below the root removes
 abbrev pub left_by : Document → Path → Look
 left_by v [] = plain v
 left_by null (n ∷ w) = nothing
 left_by v w = plain v
 
--- the patch has nothing at the path, and no value that is no object on the way there
+-- the patch has nothing at the path, and no value that is not an object on the way there
 pub record LeavesAlone (p : Document) (w : Path) : Type 0 where
   pub here : look p w ≡ nothing
   pub above : (u : Path) (n : List ℕ) (rest : Path) (v : Document) → w ≡ u ++ n ∷ rest → look p u ≢ plain v

@@ -18,7 +18,7 @@ part_left w None = None
 part_left [] (Some q) = Some (merge_patch None q)
 part_left (n ∷ w) (Some q) = unless_null q (merge_patch None q)
 
--- the operation that leaves it where the document has that look
+-- the operation that leaves it if the document has that look
 abbrev pub edit_to : Path → Look → Option Document → Operation
 edit_to w l None = remove w
 edit_to w nothing (Some v) = add w v
@@ -28,7 +28,7 @@ edit_to w here (Some v) = replace w v
 abbrev pub edit : Document → Document → Path → Operation
 edit d p w = edit_to w (look d w) (part_left w (part p w))
 
--- the test of what d has at the path; none where it has nothing
+-- the test of what d has at the path; none if it has nothing
 abbrev pub guard_of : Path → Option Document → List Operation
 guard_of w None = []
 guard_of w (Some v) = test w v ∷ []

@@ -1,4 +1,4 @@
-//! Whether two merge patches are compatible, and where they clash.
+//! Whether two merge patches are compatible, and where they conflict.
 ghost use Rattle.std.specs.Prelude.{◌≡◌, ◌↔◌, Some, IsTrue, IfOk, OnOk};
 ghost use Rattle.std.specs.Prelude.{List, ℕ};
 ghost use Rattle.mp_tree.specs.Document.{object};
@@ -47,11 +47,11 @@ fn are_members_compatible(changes: &BTreeMap<String, Doc>, others: &BTreeMap<Str
 }
 
 /// All conflicts of two patches: each list of names, reached through objects in both, at which both carry something and
-/// either one of the two is an object or neither is and they differ. The list is empty exactly where the patches are
+/// either one of the two is an object or neither is and they differ. The list is empty exactly if the patches are
 /// compatible.
 ///
-/// Each conflict stands there once, in the order of paths: names are compared by their UTF-8 bytes, lists of names name
-/// by name, and a proper prefix comes first. `AllocError` where memory ran out.
+/// Each conflict is there once, in the order of paths: names are compared by their UTF-8 bytes, lists of names name
+/// by name, and a proper prefix comes first. `AllocError` if memory ran out.
 ///
 /// ```text
 /// conflict(alloc, &p, &q)  // /a/z and /b for {"a":{"z":1},"b":1} and {"a":{"z":2},"b":2}

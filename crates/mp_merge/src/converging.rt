@@ -41,7 +41,7 @@ pub struct Converged {
 /// Patch is taken, and gives that document, wants patches that are at most 126 deep, as all that are read.
 ///
 /// Of any other lists it gives the same, each by itself, or the first refusal among these calls: `Lists` with a
-/// conflict of the first list, or of the second; `Lists` with `NoPatches` where one of them is empty; `Patch` where an
+/// conflict of the first list, or of the second; `Lists` with `NoPatches` if one of them is empty; `Patch` if an
 /// operation of the JSON Patch is refused, as one is that places what is too deep; `OutOfMemory` at any point.
 ///
 /// ```text

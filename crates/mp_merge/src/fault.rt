@@ -9,7 +9,7 @@ use thiserror::Error;
 /// Why two patches have no join.
 #[derive(Debug, Drop, Error)]
 pub enum JoinFault {
-    /// The patches clash; the pointers lead to all their conflicts, in the order of paths.
+    /// The patches conflict; the pointers lead to all their conflicts, in the order of paths.
     #[error("conflict")]
     Conflict(Vec<Pointer>),
     /// Memory ran out.
@@ -33,9 +33,9 @@ pub enum ListFault {
     /// The list is empty: no patch leaves every document as it is, so there is no join of none.
     #[error("no patches")]
     NoPatches,
-    /// `second` is the least number of a patch that clashes with an earlier one, `first` the least number of a patch
-    /// that clashes with it, and `places` lead to all conflicts of the two, in the order of paths.
-    #[error("conflict of patches {first} and {second}")]
+    /// `second` is the least number of a patch that conflicts with an earlier one, `first` the least number of a patch
+    /// that conflicts with it, and `places` lead to all conflicts of the two, in the order of paths.
+    #[error("conflict: patches {first} and {second}")]
     ConflictOf {
         /// The number of the earlier patch.
         first: usize,
@@ -79,9 +79,9 @@ pub enum ConvergeFault {
 }
 
 impl From<ListFault> for ConvergeFault {
-    ghost use Rattle.mp_merge.specs.Faults.{told_of_list};
+    ghost use Rattle.mp_merge.specs.Faults.{converge_fault_of_list};
 
-    ghost from_gives = { λ cause fault. fault ≡ told_of_list cause };
+    ghost from_gives = { λ cause fault. fault ≡ converge_fault_of_list cause };
 
     fn from(cause: ListFault) -> ConvergeFault {
         match cause {
@@ -92,9 +92,9 @@ impl From<ListFault> for ConvergeFault {
 }
 
 impl From<ApplyFault> for ConvergeFault {
-    ghost use Rattle.mp_merge.specs.Faults.{told_of_patch};
+    ghost use Rattle.mp_merge.specs.Faults.{converge_fault_of_patch};
 
-    ghost from_gives = { λ cause fault. fault ≡ told_of_patch cause };
+    ghost from_gives = { λ cause fault. fault ≡ converge_fault_of_patch cause };
 
     fn from(cause: ApplyFault) -> ConvergeFault {
         match cause {

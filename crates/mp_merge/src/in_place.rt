@@ -16,9 +16,9 @@ use std::mem;
 /// Merges the patch into the target where it stands (RFC 7396 section 2): on `Ok` the target is what [`merge`] gives.
 /// The target's parts are neither copied nor made anew; what the patch sets is copied from it.
 ///
-/// `AllocError` where memory ran out. The target may then be merged in part, but nothing that the patch does not speak
+/// `AllocError` if memory ran out. The target may then be merged in part, but nothing that the patch does not speak
 /// of is lost: the call can be made again, with any number of refusals between, until it is `Ok`, and the target is
-/// then what one call would have left. Where the patch is an object of nulls and objects alone, and the target has an
+/// then what one call would have left. If the patch is an object of nulls and objects alone, and the target has an
 /// object wherever the patch has one, no memory is taken and the answer is `Ok`.
 ///
 /// ```text
@@ -89,7 +89,7 @@ fn merge_members(
     Ok(())
 }
 
-// A null takes the name out; another value is merged with what stands there. Where nothing stands there, the value is
+// A null takes the name out; another value is merged with what is there. If nothing is there, the value is
 // made whole before its name is put in, so that a refusal leaves no name that was not there.
 #[cycle(merge_at)]
 fn merge_entry(

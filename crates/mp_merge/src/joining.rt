@@ -12,11 +12,11 @@ use mp_tree::{Doc, members_mut};
 use std::alloc::{AllocError, Global};
 use std::collections::BTreeMap;
 
-/// The join of two compatible patches: one patch with the effect of both, in either order. Where both are objects it
+/// The join of two compatible patches: one patch with the effect of both, in either order. If both are objects it
 /// has the names of both, and a common name has the join of its two values; else it is the one value that both are.
 /// It is no deeper than the deeper of the two.
 ///
-/// `Conflict` with all conflicts exactly where the patches are not compatible; `OutOfMemory` may come at any
+/// `Conflict` with all conflicts exactly if the patches are not compatible; `OutOfMemory` may come at any
 /// point.
 ///
 /// ```text
@@ -37,8 +37,8 @@ pub fn join(alloc: Global, p: &Doc, q: &Doc) -> Result<Doc, JoinFault>
     Ok(joined)
 }
 
-// Whether the two are compatible. Where they are, what was joined before has grown by the patch, and was not copied;
-// where they clash it may have grown in part.
+// Whether the two are compatible. If they are, what was joined before has grown by the patch, and was not copied;
+// if they conflict it may have grown in part.
 #[cycle(unite)]
 pub(crate) fn unite(patch: &Doc, joined: &mut Doc, alloc: Global) -> Result<bool, AllocError>
     ensures { IfOk result (λ united. UnitesTo united (document patch.now)

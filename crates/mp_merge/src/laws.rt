@@ -1,10 +1,10 @@
 //! Laws over documents and merge patches alone: each function runs nothing, and its contract is the law.
 ghost use Rattle.mp_merge.specs.Convergence.{ReplicasConverge};
-ghost use Rattle.mp_merge.specs.Laws.{JoinIsReadable, MergedIsDocument, MergedIsReadable, RewritingIsNoDeeper, RewritingIsWritable, AppliesAtEachName, OthersReplace, MergesIntoNull, AppliedOnce, TriesResume, ApplicationIsOutcome, HasOneOutcome, AppliedInTurn, OutcomeExists, ReplicasAgree, Exchange, ClashesExist, HaveOneList, EmptyIfCompatible, CompatibleOrTold, CompatibleHaveNone, HasOneToldPair, ClashWithAJoin, CompatibleByNames, CompatibleIfEqual, JoinByNames, JoinOfEqual, JoinIsIdempotent, JoinIsCommutative, JoinIsAssociative, JoinGrows, HasOneJoin, EmptyHasNoJoin, JoinExists, PairHasJoin, JoinIsNoDeeper, JoinGivesOutcome, RewritingExists, HasOneRewriting, RewritingHasDocuments, GuardedList, RefusedGuardTells, EmptyRewriting, EditsInAnyOrder, RewritingRuns};
+ghost use Rattle.mp_merge.specs.Laws.{JoinIsReadable, MergedIsDocument, MergedIsReadable, RewritingIsNoDeeper, RewritingIsWritable, AppliesAtEachName, OthersReplace, MergesIntoNull, AppliedOnce, TriesResume, ApplicationIsOutcome, HasOneOutcome, AppliedInTurn, OutcomeExists, ReplicasAgree, Exchange, ClashesExist, HaveOneList, EmptyIfCompatible, CompatibleOrReported, CompatibleHaveNone, HasOneReportedPair, ClashWithAJoin, CompatibleByNames, CompatibleIfEqual, JoinByNames, JoinOfEqual, JoinIsIdempotent, JoinIsCommutative, JoinIsAssociative, JoinGrows, HasOneJoin, EmptyHasNoJoin, JoinExists, PairHasJoin, JoinIsNoDeeper, JoinGivesOutcome, RewritingExists, HasOneRewriting, RewritingHasDocuments, GuardedList, RefusedGuardShows, EmptyRewriting, EditsInAnyOrder, RewritingRuns};
 
-/// Application in the words of RFC 7396 section 2: a patch that is no object is the result. An object makes an object of
-/// every target, in which a name that the patch does not carry stays as it was, a null removes it, and any other value
-/// is merged with what stood there. The result of a document and a patch that is one is a document.
+/// Application in the words of RFC 7396 section 2: a patch that is not an object is the result. An object makes an
+/// object of every target, in which a name that the patch does not carry stays as it was, a null removes it, and any
+/// other value is merged with what stood there. The result of a document and a patch that is one is a document.
 pub fn applies_at_each_name()
     ensures objects { AppliesAtEachName }
     ensures others { OthersReplace }
@@ -12,14 +12,14 @@ pub fn applies_at_each_name()
 {}
 
 /// Merging a patch into null gives what merging it into nothing gives, and applying it twice is applying it once. So a
-/// merge in place that was refused for want of memory, however often, is made whole by one that succeeds.
+/// merge in place that ran out of memory, however often, is made whole by one that succeeds.
 pub fn merging_again()
     ensures into_null { MergesIntoNull }
     ensures twice { AppliedOnce }
     ensures tries { TriesResume }
 {}
 
-/// What a patch makes of a document can be read where both can: written, it is read back, so it can be a new start.
+/// What a patch makes of a document can be read if both can: written, it is read back, so it can be a new start.
 pub fn merged_is_readable()
     ensures { MergedIsReadable }
 {}
@@ -35,13 +35,13 @@ pub fn one_outcome()
     ensures { HasOneOutcome }
 {}
 
-/// Patches, no two of which clash, that are applied one after another make their outcome of the start: so what a
-/// replica has that applies each patch as it comes is what any other has.
+/// Patches, no two of which conflict, that are applied one after another make their outcome of the start: so what a
+/// replica has that applies each patch as it arrives is what any other has.
 pub fn applied_in_turn()
     ensures { AppliedInTurn }
 {}
 
-/// Patches have an outcome exactly if no two of them clash, and then on every document.
+/// Patches have an outcome exactly if no two of them conflict, and then on every document.
 pub fn outcome_exists()
     ensures { OutcomeExists }
 {}
@@ -52,13 +52,13 @@ pub fn replicas_agree()
     ensures { ReplicasAgree }
 {}
 
-/// Two patches can be applied in either order with one result exactly if they do not clash: then on every document,
+/// Two patches can be applied in either order with one result exactly if they do not conflict: then on every document,
 /// and else on none.
 pub fn exchange()
     ensures { Exchange }
 {}
 
-/// Two patches have one list of all their conflicts, so every replica that compares them is told the same; it is empty
+/// Two patches have one list of all their conflicts, so every replica that compares them reports the same; it is empty
 /// exactly if they are compatible.
 pub fn all_conflicts()
     ensures exist { ClashesExist }
@@ -66,29 +66,29 @@ pub fn all_conflicts()
     ensures empty { EmptyIfCompatible }
 {}
 
-/// A list of patches is pairwise compatible, or there is the pair that is told of it, and not both; that pair is one
-/// alone, and so are its conflicts: so each replica that holds the list in this order is told the same.
-pub fn told_pair()
-    ensures exists { CompatibleOrTold }
+/// A list of patches is pairwise compatible, or there is the pair that is reported of it, and not both; that pair is one
+/// alone, and so are its conflicts: so each replica that holds the list in this order reports the same.
+pub fn reported_pair()
+    ensures exists { CompatibleOrReported }
     ensures none { CompatibleHaveNone }
-    ensures one { HasOneToldPair }
+    ensures one { HasOneReportedPair }
 {}
 
-/// A patch clashes with a join exactly where it clashes with one of the patches that were joined: so a replica that
-/// keeps only the join of what it received still learns of every clash.
+/// A patch conflicts with a join exactly if it conflicts with one of the patches that were joined: so a replica that
+/// keeps only the join of what it received still learns of every conflict.
 pub fn clash_with_a_join()
     ensures { ClashWithAJoin }
 {}
 
 /// The rule of compatibility: two objects are compatible exactly if each name that both carry has compatible values,
-/// and what is no object, on either side, is compatible with its equal alone.
+/// and what is not an object, on either side, is compatible with its equal alone.
 pub fn compatible_by_names()
     ensures objects { CompatibleByNames }
     ensures others { CompatibleIfEqual }
 {}
 
 /// The rule of joining: the join of two objects has at each name what one of them carries there alone, or the join of
-/// both values; where a patch is no object, the join is the one value that both are.
+/// both values; if a patch is not an object, the join is the one value that both are.
 pub fn join_by_names()
     ensures objects { JoinByNames }
     ensures others { JoinOfEqual }
@@ -111,7 +111,7 @@ pub fn join_is_associative()
 {}
 
 /// The join of patches and one more is the join of their join with it, and exists exactly if that does: so a replica
-/// may keep the join of what it received, and join each patch to it as it comes.
+/// may keep the join of what it received, and join each patch to it as it arrives.
 pub fn join_grows()
     ensures { JoinGrows }
 {}
@@ -127,7 +127,7 @@ pub fn empty_has_no_join()
     ensures { EmptyHasNoJoin }
 {}
 
-/// Patches, at least one, have a join exactly if no two of them clash: so compatible patches can always be kept as one.
+/// Patches, at least one, have a join exactly if no two of them conflict: so compatible patches can always be kept as one.
 pub fn join_exists()
     ensures { JoinExists }
 {}
@@ -163,7 +163,7 @@ pub fn rewritings_have_documents()
     ensures { RewritingHasDocuments }
 {}
 
-/// The operations of a rewriting can be written where the document and the patch can be read: their values can be read,
+/// The operations of a rewriting can be written if the document and the patch can be read: their values can be read,
 /// their tokens are UTF-8. And their values are no deeper than the deeper of the two: so its text is read back where
 /// both are at most 124 deep.
 pub fn rewritings_are_writable()
@@ -174,17 +174,17 @@ pub fn rewritings_are_writable()
     mp_pointer::laws::parts_are_shallower();
 }
 
-/// The tests at the head of a rewriting guard it: where it runs on another document, each place that it changes and
-/// where the document of the rewriting has something has the same there. And where a test is refused, that document
-/// differs at its place, and nothing of it was changed: the number of the operation tells where.
+/// The tests at the head of a rewriting guard it: if it runs on another document, each place that it changes and
+/// where the document of the rewriting has something has the same there. And if a test is refused, that document
+/// differs at its place, and nothing of it was changed: the number of the operation shows where.
 ///
-/// Not promised: that a place which is added is free, since it has no test, and what stands there is overwritten; that a
+/// Not promised: that a place which is added is free, since it has no test, and what is there is overwritten; that a
 /// document which passes the tests takes every add, as `{"a":5}` does not take one at `/a/b`, where the start has
 /// `{"a":{}}`; nor what the edits do to one that has an array where the start has an object with names that spell
 /// indices, as `{"a":[1,2]}` for `{"a":{"0":1}}`.
-pub fn guards_tell()
+pub fn guards_show()
     ensures passed { GuardedList }
-    ensures refused { RefusedGuardTells }
+    ensures refused { RefusedGuardShows }
 {
     mp_patch::laws::operations_are_taken();
 }
@@ -209,10 +209,10 @@ pub fn rewriting_runs()
     mp_patch::laws::operations_are_taken();
 }
 
-/// Replicas that start from one document and receive the same patches, at least one and no two of which clash, in any
+/// Replicas that start from one document and receive the same patches, at least one and no two of which conflict, in any
 /// orders and with any repeats, are not refused and end with the same document, whether they apply each patch as it
 /// comes or all at once: one application of the patches' join to the start. The join, rewritten against the start, is a
-/// JSON Patch that is not refused and leads from the start to that document alone, where the patches are at most 126
+/// JSON Patch that is not refused and leads from the start to that document alone, if the patches are at most 126
 /// deep.
 ///
 /// Join is commutative, associative and idempotent, and two patches have one exactly if they are compatible.

@@ -1,4 +1,5 @@
-//! Merge patches (RFC 7396): application, compatibility, conflict and join, with the laws that replicas of one document rest on.
+//! Merge patches (RFC 7396): application, compatibility, conflict and join, with the laws that replicas of one document
+//! rest on.
 #![tactic(auto)]
 
 mod comparing;

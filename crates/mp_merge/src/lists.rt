@@ -17,7 +17,7 @@ use std::alloc::{AllocError, Global};
 
 /// The join of a list of patches: one patch with the effect of all, in any order and with any repeats.
 ///
-/// `NoPatches` exactly for the empty list; `ConflictOf` exactly where two patches of the list are not compatible, with
+/// `NoPatches` exactly for the empty list; `ConflictOf` exactly if two patches of the list are not compatible, with
 /// the least such pair by the later patch and all its conflicts; `OutOfMemory` may come at any point. Costs grow with
 /// the total size of the patches, unless there is a conflict.
 ///
@@ -68,7 +68,7 @@ fn join_next(
     })
 }
 
-// The first of the patches below number `second` that clashes with it, and all conflicts of the two.
+// The first of the patches below number `second` that conflicts with it, and all conflicts of the two.
 fn clash_before(
     alloc: Global,
     patches: &[Doc],
@@ -89,11 +89,11 @@ fn clash_before(
     Ok(None)
 }
 
-/// The document that the patches make of the start, where they are pairwise compatible: each replica that receives
+/// The document that the patches make of the start, if they are pairwise compatible: each replica that receives
 /// them, in whatever order and with whatever repeats, ends with it. It is one application of their join; of no
 /// patches it is the start.
 ///
-/// `ConflictOf` exactly where `join_all` answers it, never `NoPatches`; `OutOfMemory` may come at any point.
+/// `ConflictOf` exactly if `join_all` answers it, never `NoPatches`; `OutOfMemory` may come at any point.
 ///
 /// ```text
 /// replay(alloc, &start, &patches)  // {"a":{"x":1}} for {"k":0} and {"a":{"x":1}}, {"a":{"y":null}}, {"k":null}

@@ -14,9 +14,9 @@ use std::mem;
 
 /// The target after the merge patch (RFC 7396 section 2); `None` is a target that is absent.
 ///
-/// A patch that is no object is the result. An object changes the target name by name: a null removes the name, any
-/// other value is merged with what stands there, and a target that is absent or no object counts as `{}`. The result
-/// is no deeper than the deeper of the two. `AllocError` where memory ran out.
+/// A patch that is not an object is the result. An object changes the target name by name: a null removes the name, any
+/// other value is merged with what is there, and a target that is absent or not an object counts as `{}`. The result
+/// is no deeper than the deeper of the two. `AllocError` if memory ran out.
 ///
 /// ```text
 /// merge(alloc, Some(&doc), &patch)  // {"a":1,"c":3} for {"a":1,"b":2} and {"b":null,"c":3}

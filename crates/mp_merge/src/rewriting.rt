@@ -21,18 +21,18 @@ use std::collections::BTreeMap;
 
 /// The merge patch as a JSON Patch for this document: first a test of what the document has at each place that the
 /// patch changes and where it has something, then one edit for each place that changes, both in the order of paths. It
-/// is empty where the patch changes nothing.
+/// is empty if the patch changes nothing.
 ///
-/// So a peer whose document differs at a place with a test is refused before anything changes, and is told at which
+/// So a peer whose document differs at a place with a test is refused before anything changes, and the error says at which
 /// test. A place that is added has no test: what a peer has there is overwritten.
 ///
-/// A place is reached through objects in both. Where the patch has a null below its root and the document has
-/// something, that is removed. Where the patch has another value that is no object and the document has another one
-/// or none, it is set; so is an object where the document has none, as a merge into nothing leaves it. To set is to
-/// replace where the document has something, and to add where it has nothing.
+/// A place is reached through objects in both. If the patch has a null below its root and the document has
+/// something, that is removed. If the patch has another value that is not an object and the document has another one
+/// or none, it is set; so is an object if the document has none, as a merge into nothing leaves it. To set is to
+/// replace if the document has something, and to add if it has nothing.
 ///
 /// Of a patch that is at most 126 deep, the result applied to the document gives what the merge gives.
-/// `AllocError` where memory ran out.
+/// `AllocError` if memory ran out.
 ///
 /// ```text
 /// // [{"op":"test","path":"/b/c","value":2},{"op":"remove","path":"/b/c"}], for {"a":1,"b":{"c":2}} and {"b":{"c":null}}

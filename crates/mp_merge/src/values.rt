@@ -18,7 +18,7 @@ pub(crate) fn is_null(doc: &Doc) -> bool
     }
 }
 
-// An absent target, or one that is no object, counts as the empty object.
+// An absent target, or one that is not an object, counts as the empty object.
 pub(crate) fn entries_of(target: Option<Doc>, alloc: Global) -> BTreeMap<String, Doc>
     ensures { members result.entries ≡ target_members (option_map document target) }
 {

@@ -1,4 +1,4 @@
--- The first of several causes that holds: there is at most one, and where none is the first, none holds.
+-- The first of several causes that holds: there is at most one, and if none is the first, none holds.
 use Rattle.std.proofs.Common.{◌≡◌, inl, inr, [], ◌∷◌, refl, sym, ◌∙◌}
 use Rattle.std.specs.Prelude.{⊤}
 use Rattle.mp_tree.specs.Document.{Document}

@@ -64,7 +64,7 @@ AreForms d operations = (ds : Items) × (d ≡ list ds) × EachForm ds operation
 
 -- ---- an element that is a form of no operation
 
--- what an operation needs beside its name and its path
+-- what an operation needs in addition to its name and its path
 pub data Need : Type 0 where
   path_alone : Need
   a_value : Need
@@ -80,7 +80,7 @@ abbrev pub text_of : Document → Option (List ℕ)
 text_of (string s) = Some s
 text_of d = None
 
--- the text that stands at a name
+-- the text at a name
 abbrev pub text_at : List ℕ → Document → Option (List ℕ)
 text_at name d = option_and_then text_of (at_name name d)
 
@@ -123,7 +123,7 @@ pub record IsFaultyAt (number : ℕ) (cause : FormCause) (d : Document) : Type 0
   pub forms : EachForm front operations
   pub faulty : IsFaulty cause element
 
--- why a document is no patch; want of memory says nothing of the document
+-- why a document is not a patch; out of memory says nothing of the document
 abbrev pub IsFormFault : FormFault → Document → Type 0
 IsFormFault NotAnArray d = (ds : Items) → d ≢ list ds
 IsFormFault (Form number cause) d = IsFaultyAt number cause d
@@ -131,7 +131,7 @@ IsFormFault OutOfMemory d = ⊤
 
 -- ---- depth
 
--- the depth of the value, 0 where there is none
+-- the depth of the value, 0 if there is none
 abbrev pub value_depth : Operation → ℕ
 value_depth (add t v) = depth v
 value_depth (remove t) = 0

@@ -19,7 +19,7 @@ use Rattle.mp_patch.specs.declared.op.Op.{Op}
 abbrev pub PatchesHaveDocuments : Type 0
 PatchesHaveDocuments = (ops : List Op) → HaveDocuments (operations_of ops)
 
--- when an operation on d is not refused: where what it names is there, and what it adds has a place and fits
+-- when an operation on d is not refused: if what it names is there, and what it adds has a place and fits
 pub record TakesOperations (d : Document) : Type 0 where
   pub adds : (t : Tokens) (v : Document)
       → ¬ HasNoPlace d t → length t + depth v ≤ depth_limit → ¬ IsRefused d (add t v)
@@ -77,23 +77,23 @@ FormsHaveDocuments = (d : Document) (operations : List Operation)
 abbrev pub ShapesAreForms : Type 0
 ShapesAreForms = (operations : List Operation) → AreForms (shapes operations) operations
 
--- a document that is a form of operations has no fault
+-- a document that is a form of operations has no error
 abbrev pub FormsHaveNoFault : Type 0
 FormsHaveNoFault = (d : Document) (operations : List Operation) (fault : FormFault)
     → AreForms d operations → IsFormFault fault d → fault ≡ OutOfMemory
 
--- a document is a form of operations, or has a fault
+-- a document is a form of operations, or has an error
 abbrev pub IsFormOrFaulty : Type 0
 IsFormOrFaulty = (d : Document)
     → ((operations : List Operation) × AreForms d operations)
     ⊎ ((fault : FormFault) × (fault ≢ OutOfMemory) × IsFormFault fault d)
 
--- and has one fault alone; want of memory is none of a document
-abbrev pub HasOneFault : Type 0
-HasOneFault = (d : Document) (fault other : FormFault) → fault ≢ OutOfMemory → other ≢ OutOfMemory
+-- and has one error alone; out of memory is none of a document
+abbrev pub HasOneFormFault : Type 0
+HasOneFormFault = (d : Document) (fault other : FormFault) → fault ≢ OutOfMemory → other ≢ OutOfMemory
     → IsFormFault fault d → IsFormFault other d → fault ≡ other
 
--- operations that can be written have a document that can be read, where no value is deeper than leaves room for it
+-- operations that can be written have a document that can be read, if no value is deeper than can be read
 abbrev pub ShapesAreReadable : Type 0
 ShapesAreReadable = (operations : List Operation)
     → All IsWritable operations → 2 + deepest operations ≤ depth_limit → IsReadable (shapes operations)

@@ -14,7 +14,7 @@ use Rattle.mp_patch.specs.declared.fault.Cause.TheVariants.{TestFailed}
 abbrev pub IsMissing : Document → Tokens → Type 0
 IsMissing d t = part d t ≡ None
 
--- the token n names no place for a new value there: where there is nothing, in a scalar, or in an array where n is
+-- the token n names no place for a new value there: if there is nothing, in a scalar, or in an array where n is
 -- neither `-` nor an index at most its length
 abbrev pub LacksPlace : List ℕ → Option Document → Type 0
 LacksPlace n None = ⊤

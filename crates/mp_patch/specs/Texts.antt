@@ -7,7 +7,7 @@ use Rattle.mp_patch.specs.declared.fault.FormCause.{FormCause}
 use Rattle.mp_patch.specs.declared.fault.FormCause.TheVariants.{NotAnObject, NoOp, UnknownOp, NoPath, NoFrom}
 use Rattle.mp_patch.specs.declared.fault.FormCause.TheVariants.{BadPointer, NoValue}
 
--- why an element of a document is no operation
+-- why an element of a document is not an operation
 abbrev pub form_text : FormCause → List ℕ
 form_text NotAnObject = codes "not an object"
 form_text NoOp = codes "no op"

@@ -9,7 +9,7 @@ use Rattle.mp_patch.specs.Operation.{Operation, add, remove, replace, move, copy
 abbrev pub AreTexts : Tokens → Type 0
 AreTexts t = All IsUtf8 t
 
--- so are its tokens, and its value can be read, where it has one
+-- so are its tokens, and its value can be read, if it has one
 abbrev pub IsWritable : Operation → Type 0
 IsWritable (add t v) = AreTexts t × IsReadable v
 IsWritable (remove t) = AreTexts t

@@ -13,7 +13,7 @@ use mp_tree::Doc;
 use std::alloc::Global;
 
 /// The document after all operations of the patch, in order, each on what the one before left (RFC 6902 sections 3
-/// to 5). The document that is lent stays as it is.
+/// to 5). The document that is borrowed stays as it is.
 ///
 /// `Refused` with the first operation that is refused, counted from 0, and its cause: then there is no result.
 /// `OutOfMemory` may come at any point.
@@ -31,7 +31,7 @@ pub fn apply(alloc: Global, doc: &Doc, patch: &JsonPatch) -> Result<Doc, ApplyFa
     apply_owned(alloc, doc.copy(alloc)?, patch)
 }
 
-/// As `apply`, of a document that is owned: it is changed in place, and is dropped where an operation is refused.
+/// As `apply`, of a document that is owned: it is changed in place, and is dropped if an operation is refused.
 pub fn apply_owned(alloc: Global, doc: Doc, patch: &JsonPatch) -> Result<Doc, ApplyFault>
     ensures runs { MatchResult result
         (λ e. Runs (document doc) (operations_of patch.now) (document e))

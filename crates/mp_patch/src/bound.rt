@@ -13,12 +13,12 @@ const LEVELS: usize = mp_tree::DEPTH_LIMIT as usize;
 /// So many parts are walked at least before a document is measured: to walk them takes next to no time.
 const LEAST_WALKED: usize = 65_536;
 
-// A bound on the depth of a document, so that a `move` need not walk what it moves where that can't be too deep. The
+// A bound on the depth of a document, so that a `move` need not walk what it moves if that can't be too deep. The
 // document is measured for a `move` alone, and once as many parts were walked as it had when it was measured before: so
 // to measure it again takes no longer than the walks did.
 #[derive(Drop)]
 pub(crate) struct DepthBound {
-    // the depth is at most this; None where nothing is known
+    // the depth is at most this; None if nothing is known
     most: Option<usize>,
     // the parts that were walked since the document was measured
     walked: usize,
@@ -37,16 +37,16 @@ impl DepthBound {
         }
     }
 
-    // Whether a value fits below so many tokens. Where it does, the bound holds also with the value there.
+    // Whether a value fits below so many tokens. If it does, the bound holds also with the value there.
     pub(crate) fn admit(&mut self, value: &Doc, tokens: usize) -> bool
         ensures fits { IsTrue result ↔ (tokens + depth (document value.now) ≤ depth_limit) }
         ensures kept { (d : Document) → Bounds self.old.most 0 d → Bounds self.new.most 0 d }
         ensures bounds { IsTrue result → Bounds self.new.most tokens (document value.now) }
     {
-        let Some(room) = LEVELS.checked_sub(tokens) else {
+        let Some(allowed) = LEVELS.checked_sub(tokens) else {
             return false;
         };
-        let Some(depth) = depth_within(value, room, &mut self.walked) else {
+        let Some(depth) = depth_within(value, allowed, &mut self.walked) else {
             return false;
         };
         self.raise(tokens + depth);
@@ -84,11 +84,11 @@ impl DepthBound {
         ensures bounds { IsTrue result → (v : Document) → Bounds self.old.most origin v
             → Bounds self.new.most tokens v }
     {
-        let (Some(most), Some(room)) = (self.most, LEVELS.checked_sub(tokens)) else {
+        let (Some(most), Some(allowed)) = (self.most, LEVELS.checked_sub(tokens)) else {
             return false;
         };
         let depth = most.saturating_sub(origin);
-        if depth > room {
+        if depth > allowed {
             return false;
         }
         self.raise(tokens + depth);

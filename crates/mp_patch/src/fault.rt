@@ -6,7 +6,7 @@ ghost use Rattle.mp_patch.specs.Private.Faults.{fault_of_element, fault_of_opera
 use std::alloc::{AllocError, AllocFailed};
 use thiserror::Error;
 
-/// Why an operation is refused (RFC 6902 sections 4 and 5). Where several hold, the first in this order is answered.
+/// Why an operation is refused (RFC 6902 sections 4 and 5). If several hold, the first in this order is answered.
 #[derive(Clone, Copy, Debug, Drop, PartialEq, Eq, Error)]
 #[error("{text}", text = self.as_str())]
 pub enum Cause {
@@ -67,12 +67,12 @@ impl From<AllocError> for ApplyFault {
     }
 }
 
-/// Why an element of a document is no operation (RFC 6902 sections 3 and 4). Where several hold, the first in this
+/// Why an element of a document is not an operation (RFC 6902 sections 3 and 4). If several hold, the first in this
 /// order is answered.
 #[derive(Clone, Copy, Debug, Drop, PartialEq, Eq, Error)]
 #[error("{text}", text = self.as_str())]
 pub enum FormCause {
-    /// The element is no object.
+    /// The element is not an object.
     NotAnObject,
     /// `op` is absent or no text.
     NoOp,
@@ -105,13 +105,13 @@ impl FormCause {
     }
 }
 
-/// Why a document is no patch.
+/// Why a document is not a patch.
 #[derive(Clone, Copy, Debug, Drop, PartialEq, Eq, Error)]
 pub enum FormFault {
-    /// The document is no array.
+    /// The document is not an array.
     #[error("not an array")]
     NotAnArray,
-    /// The first element that is no operation, counted from 0.
+    /// The first element that is not an operation, counted from 0.
     #[error("operation {op}: {cause}")]
     Form {
         /// The number of the element, from 0.
@@ -152,7 +152,7 @@ pub(crate) enum Refusal<C> {
 }
 
 impl Refusal<Cause> {
-    // As the fault of the operation with that number.
+    // As the error of the operation with that number.
     pub(crate) fn of_operation(self, number: usize) -> ApplyFault
         ensures { result ≡ fault_of_operation number self }
     {
@@ -164,7 +164,7 @@ impl Refusal<Cause> {
 }
 
 impl Refusal<FormCause> {
-    // As the fault of the element with that number.
+    // As the error of the element with that number.
     pub(crate) fn of_element(self, number: usize) -> FormFault
         ensures { result ≡ fault_of_element number self }
     {

@@ -1,12 +1,12 @@
 //! Laws of patches alone: each function runs nothing, and its contract is the law.
-ghost use Rattle.mp_patch.specs.Laws.{ShapesAreReadable, FormsHaveDocuments, FormsHaveNoFault, HasOneEnd, HasOneFault, HasOneReading, HasOneRefusal, IsFormOrFaulty, OperationsAreTaken, PatchesHaveDocuments, RunsOrIsRefused, RunsUnrefused, ShapesAreForms, StaysShallow};
+ghost use Rattle.mp_patch.specs.Laws.{ShapesAreReadable, FormsHaveDocuments, FormsHaveNoFault, HasOneEnd, HasOneFormFault, HasOneReading, HasOneRefusal, IsFormOrFaulty, OperationsAreTaken, PatchesHaveDocuments, RunsOrIsRefused, RunsUnrefused, ShapesAreForms, StaysShallow};
 
 /// The values of a patch are documents: so the other laws speak of every `JsonPatch`.
 pub fn patches_have_documents()
     ensures { PatchesHaveDocuments }
 {}
 
-/// An operation is not refused where what it names is there, and what it adds has a place and fits (RFC 6902 section 4).
+/// An operation is not refused if what it names is there, and what it adds has a place and fits (RFC 6902 section 4).
 /// `Cause` lists what else refuses one.
 pub fn operations_are_taken()
     ensures { OperationsAreTaken }
@@ -42,7 +42,7 @@ pub fn one_reading()
     ensures { HasOneReading }
 {}
 
-/// Where a form is a document, the values of its operations are documents.
+/// If a form is a document, the values of its operations are documents.
 pub fn forms_have_documents()
     ensures { FormsHaveDocuments }
 {}
@@ -52,23 +52,23 @@ pub fn shapes_are_forms()
     ensures { ShapesAreForms }
 {}
 
-/// A document that is a form of operations has no fault but want of memory.
+/// A document that is a form of operations has no error but out of memory.
 pub fn forms_have_no_fault()
     ensures { FormsHaveNoFault }
 {}
 
-/// A document is a form of operations, or has a fault that is not want of memory.
+/// A document is a form of operations, or has an error that is not out of memory.
 pub fn is_form_or_faulty()
     ensures { IsFormOrFaulty }
 {}
 
-/// A document has one fault alone that is not want of memory.
+/// A document has one error alone that is not out of memory.
 pub fn one_fault()
-    ensures { HasOneFault }
+    ensures { HasOneFormFault }
 {}
 
 /// A JSON Patch whose values can be read and whose tokens are UTF-8 has a document that can be read, and so is read back
-/// from its text, where its values are at most 124 deep: an operation and the array are two levels around each.
+/// from its text, if its values are at most 124 deep: an operation and the array are two levels around each.
 pub fn shapes_are_readable()
     ensures { ShapesAreReadable }
 {

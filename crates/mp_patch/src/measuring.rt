@@ -1,4 +1,4 @@
-// How deep a value is, where it is not too deep: nothing is allocated, and the first part that is too deep ends it.
+// How deep a value is, if it is not too deep: nothing is allocated, and the first part that is too deep ends it.
 ghost use Rattle.std.specs.Prelude.{◌≡◌, ◌≤◌, ◌<◌, MatchOption};
 ghost use Rattle.mp_tree.specs.Document.{depth, items_depth, members_depth};
 ghost use Rattle.mp_tree.specs.View.{document, items};
@@ -7,7 +7,7 @@ ghost use Rattle.mp_tree.specs.Private.Entries.{members};
 use mp_tree::Doc;
 use std::collections::BTreeMap;
 
-// The depth, or None where it is over the limit. The parts that it looks at are added to `walked`.
+// The depth, or None if it is over the limit. The parts that it looks at are added to `walked`.
 #[cycle(measure)]
 #[inline(always)]
 pub(crate) fn depth_within(doc: &Doc, limit: usize, walked: &mut usize) -> Option<usize>

@@ -16,7 +16,7 @@ pub enum Op {
     Remove(Pointer),
     /// What is at the place becomes the value (section 4.3).
     Replace(Pointer, Doc),
-    /// What is at `origin` is removed, and added at `path` in the document that is left (section 4.4). Where both
+    /// What is at `origin` is removed, and added at `path` in the document that is left (section 4.4). If both
     /// are one place, the document stays as it is. `origin` is the member `from`.
     Move {
         /// The pointer to the part that moves.

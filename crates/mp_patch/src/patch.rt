@@ -49,7 +49,7 @@ impl JsonPatch {
         }
     }
 
-    /// Adds an operation at the end. `AllocError` where memory ran out: the operation is dropped, and the list is
+    /// Adds an operation at the end. `AllocError` if memory ran out: the operation is dropped, and the list is
     /// as it was.
     pub fn push(&mut self, op: Op) -> Result<(), AllocError>
         ensures ok { OnOk result (self.new ≡ self.old ++ op ∷ []) }
@@ -113,10 +113,10 @@ impl JsonPatch {
     }
 
     /// The patch that the document is a form of (RFC 6902 section 3): an array of objects, one for each operation, with
-    /// the members `op`, `path` and, where the operation needs it, `value` or `from`. Further members are ignored.
+    /// the members `op`, `path` and, if the operation needs it, `value` or `from`. Further members are ignored.
     /// The document is copied once: `from_doc_owned` copies nothing.
     ///
-    /// `NotAnArray` where the document is no array; `Form` with the first element that is no operation, counted from
+    /// `NotAnArray` if the document is not an array; `Form` with the first element that is not an operation, counted from
     /// 0, and its first cause; `OutOfMemory` may come at any point.
     ///
     /// ```text
@@ -142,14 +142,14 @@ impl JsonPatch {
     }
 
     /// The array of objects with exactly the members that the operations need (RFC 6902 sections 3 and 4).
-    /// `from_doc` of it gives the same list. `AllocError` where memory ran out.
+    /// `from_doc` of it gives the same list. `AllocError` if memory ran out.
     ///
     /// ```text
     /// patch.to_doc(alloc)  // [{"op":"remove","path":"/a"}], for a list of one Op::Remove
     /// ```
     pub fn to_doc(&self, alloc: Global) -> Result<Doc, AllocError>
         ensures document { IfOk result (λ d. document d ≡ shapes (operations_of self.now)) }
-        // At most two deeper than the deepest value, and at most 2 where there is none.
+        // At most two deeper than the deepest value, and at most 2 if there is none.
         ensures depth { IfOk result (λ d.
             depth (document d) ≤ 2 + deepest (operations_of self.now)) }
     {

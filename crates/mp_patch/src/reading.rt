@@ -25,7 +25,7 @@ struct Pointers {
     path: Pointer,
 }
 
-// An operation, but for its value where it has one.
+// An operation, but for its value if it has one.
 #[derive(Drop)]
 enum Draft {
     Whole(Op),
@@ -113,7 +113,7 @@ fn pointers_in(
     Ok(Pointers { origin, path })
 }
 
-// The text at a name; None where there is none, or no text.
+// The text at a name; None if there is none, or no text.
 fn text_at<'a>(entries: &'a BTreeMap<String, Doc>, name: &str) -> Option<&'a str>
     ensures { option_copied result ≡ text_under name.now (object (members entries.now.entries)) }
 {

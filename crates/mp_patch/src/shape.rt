@@ -9,7 +9,7 @@ use crate::op::Op;
 use mp_pointer::Pointer;
 use mp_tree::Doc;
 
-// The members of an operation: `op`, `path`, `from` where there is an origin, and `value` where there is one.
+// The members of an operation: `op`, `path`, `from` if there is an origin, and `value` if there is one.
 #[derive(Clone, Copy)]
 pub(crate) struct Shape<'a> {
     pub(crate) name: OpName,

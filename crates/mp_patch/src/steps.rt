@@ -18,7 +18,7 @@ use mp_pointer::{Pointer, edit_part, get};
 use mp_tree::Doc;
 use std::alloc::Global;
 
-// On a fault the document is not used again.
+// On an error the document is not used again.
 pub(crate) fn step(
     op: &Op,
     doc: &mut Doc,

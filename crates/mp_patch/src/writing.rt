@@ -10,7 +10,7 @@ use serde_json::to_string;
 use std::alloc::{AllocError, Global};
 
 /// The compact text of the document that `to_doc` gives, which is not made for it. It is read back as that document
-/// where no value is more than 124 deep. `AllocError` where memory ran out.
+/// if no value is more than 124 deep. `AllocError` if memory ran out.
 ///
 /// ```text
 /// write_patch(alloc, &patch)  // [{"op":"remove","path":"/a"}], for a list of one Op::Remove

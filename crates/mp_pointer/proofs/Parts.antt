@@ -3,5 +3,5 @@ pub mod Along
 pub mod Depths
 pub mod Documents
 pub mod Kinds
-pub mod Lent
+pub mod Borrowed
 pub mod Readable

@@ -1,4 +1,4 @@
--- The bytes that a pointer's text gives a meaning (RFC 6901 section 3), and those of the digits that are told apart.
+-- The bytes that a pointer's text gives a meaning (RFC 6901 section 3), and those of the digits that are distinguished.
 use Rattle.std.specs.Prelude.{ℕ}
 
 abbrev pub slash : ℕ

@@ -18,7 +18,7 @@ ComparesTokens = (s t : Tokens) → IsTrue (are_same_tokens s t) ↔ (s ≡ t)
 abbrev pub HasOneSpelling : Type 0
 HasOneSpelling = (s t : Tokens) → spell s ≡ spell t → s ≡ t
 
--- a text spells a list of tokens, or has a fault (section 3)
+-- a text spells a list of tokens, or has an error (section 3)
 abbrev pub SpellsOrIsFaulty : Type 0
 SpellsOrIsFaulty = (text : List ℕ)
     → ((t : Tokens) × (text ≡ spell t)) ⊎ ((fault : PointerFault) × (fault ≢ OutOfMemory) × IsPointerFault fault text)
@@ -27,9 +27,9 @@ SpellsOrIsFaulty = (text : List ℕ)
 abbrev pub SpellingsHaveNoFault : Type 0
 SpellingsHaveNoFault = (t : Tokens) (fault : PointerFault) → IsPointerFault fault (spell t) → fault ≡ OutOfMemory
 
--- and has one fault alone; want of memory is none of a text
-abbrev pub HasOneFault : Type 0
-HasOneFault = (text : List ℕ) (fault other : PointerFault) → fault ≢ OutOfMemory → other ≢ OutOfMemory
+-- and has one error alone; out of memory is none of a text
+abbrev pub HasOnePointerFault : Type 0
+HasOnePointerFault = (text : List ℕ) (fault other : PointerFault) → fault ≢ OutOfMemory → other ≢ OutOfMemory
     → IsPointerFault fault text → IsPointerFault other text → fault ≡ other
 
 -- a token spells one index (RFC 6901 section 4)

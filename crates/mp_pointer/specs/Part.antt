@@ -11,7 +11,7 @@ unfoldable pub numeral : ℕ → List ℕ
 numeral zero = digit_zero ∷ []
 numeral (suc n) = map (λ digit. digit_zero + digit) (digits_of 10 (suc n))
 
--- the element whose index the token spells, where the first is counted as i
+-- the element whose index the token spells, if the first is counted as i
 abbrev pub element_from : ℕ → List ℕ → Items → Option Document
 element_from i token no_items = None
 element_from i token (item d ds) = if bytes_eq token (numeral i) then Some d else element_from (suc i) token ds

@@ -50,7 +50,7 @@ pub record IsFirstBadTilde (text : List ℕ) (offset : ℕ) : Type 0 where
   pub here : IsBadTilde text offset
   pub before : (k : ℕ) → k < offset → ¬ IsBadTilde text k
 
--- why the text is no pointer; want of memory says nothing of it
+-- why the text is not a pointer; out of memory says nothing of it
 abbrev pub IsPointerFault : PointerFault → List ℕ → Type 0
 IsPointerFault NoSlash text = LacksSlash text
 IsPointerFault (BadTilde offset) text = (slice_index text 0 ≡ slash) × IsFirstBadTilde text offset

@@ -12,7 +12,7 @@ use mp_tree::{Doc, items_mut, members_mut};
 use std::collections::BTreeMap;
 
 /// Hands the part that the first `count` tokens of the pointer name to `edit`, and answers what `edit` answers. None
-/// exactly where there is no such part, and then nothing has changed; otherwise the document differs from the old one
+/// exactly if there is no such part, and then nothing has changed; otherwise the document differs from the old one
 /// at that place alone, and has there what `edit` left. `count` is at most `len()`. Takes no memory of its own.
 ///
 /// It does what `get_mut` with a write through it does, for code whose proof is to know the document afterwards.

@@ -1,13 +1,13 @@
-//! The part of a document that a pointer names (RFC 6901 section 4), read or lent for writing.
+//! The part of a document that a pointer names (RFC 6901 section 4), read or borrowed for writing.
 ghost use Rattle.std.specs.Prelude.{◌≡◌, ◌≢◌, ◌^◌, ◌≤◌, ◌↔◌, ℕ, IsTrue, slice_index, option_map, MatchOption, string_bytes};
 ghost use Rattle.std.specs.Borrow.{sem};
 ghost use Rattle.mp_tree.specs.View.{document};
 ghost use Rattle.mp_pointer.specs.Bytes.{digit_one};
-ghost use Rattle.mp_pointer.specs.Lending.{LendsPart};
+ghost use Rattle.mp_pointer.specs.Borrowing.{BorrowsPart};
 ghost use Rattle.mp_pointer.specs.Part.{child, numeral, part};
 ghost use Rattle.mp_pointer.specs.Private.Digits.{digit_nine};
 
-use crate::lending::child_mut;
+use crate::borrowing::child_mut;
 use crate::pointer::Pointer;
 use mp_tree::Doc;
 
@@ -41,7 +41,7 @@ fn begins_above_zero(token: &str) -> bool
 }
 
 /// The part of the document that the pointer names, borrowed (RFC 6901 section 4): the document itself for the
-/// empty pointer. None exactly where there is none: a name that an object lacks, a token that spells no index
+/// empty pointer. None exactly if there is none: a name that an object lacks, a token that spells no index
 /// of an array, or any token at a scalar. Takes no memory.
 ///
 /// ```text
@@ -57,7 +57,7 @@ pub fn get<'a>(doc: &'a Doc, pointer: &Pointer) -> Option<&'a Doc>
     Some(target)
 }
 
-/// The part of the document that the pointer names, lent for writing (RFC 6901 section 4). None exactly where `get`
+/// The part of the document that the pointer names, borrowed for writing (RFC 6901 section 4). None exactly if `get`
 /// answers None, and then nothing has changed. Once the borrow ends, the document differs from the old one at that
 /// place alone, and has there what was left in the borrow. Takes no memory.
 ///
@@ -69,7 +69,7 @@ pub fn get<'a>(doc: &'a Doc, pointer: &Pointer) -> Option<&'a Doc>
 /// ```
 // proofs/evaluating/get_mut/Proof.antt follows this body statement by statement.
 pub fn get_mut<'a>(doc: &'a mut Doc, pointer: &Pointer) -> Option<&'a mut Doc>
-    ensures* writes_back { sem 𝓛 (LendsPart pointer.now doc.entry result) }
+    ensures* writes_back { sem 𝓛 (BorrowsPart pointer.now doc.entry result) }
     ensures value { option_map (λ d. document d.now) result ≡ part (document doc.old) pointer.now }
 {
     let mut target = doc;

@@ -1,17 +1,17 @@
-//! Why a text is no pointer.
+//! Why a text is not a pointer.
 ghost use Rattle.std.specs.Prelude.{◌≡◌};
 
 use std::alloc::{AllocError, AllocFailed};
 use thiserror::Error;
 
-/// Why a text is no pointer (RFC 6901 section 3).
+/// Why a text is not a pointer (RFC 6901 section 3).
 #[derive(Clone, Copy, Debug, Drop, PartialEq, Eq, Error)]
 pub enum PointerFault {
     /// The text is not empty and does not begin with `/`.
-    #[error("no slash")]
+    #[error("pointer: no slash")]
     NoSlash,
     /// The offset in bytes of the first `~` that no `0` and no `1` follows.
-    #[error("bad tilde at {0}")]
+    #[error("pointer: bad tilde at {0}")]
     BadTilde(usize),
     /// Memory ran out.
     #[error("out of memory")]

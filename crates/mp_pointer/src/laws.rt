@@ -1,5 +1,5 @@
 //! Laws of pointers alone: each function runs nothing, and its contract is the law.
-ghost use Rattle.mp_pointer.specs.Laws.{ComparesTokens, EqualsByPart, HasOneFault, HasOneSpelling, NamesElements, NamesNothingElse, NumeralsArePrinted, PartsAreDocuments, PartsAreReadable, PartsAreShallower, SpellingsAreTexts, SpellingsHaveNoFault, SpellsOneIndex, SpellsOrIsFaulty};
+ghost use Rattle.mp_pointer.specs.Laws.{ComparesTokens, EqualsByPart, HasOnePointerFault, HasOneSpelling, NamesElements, NamesNothingElse, NumeralsArePrinted, PartsAreDocuments, PartsAreReadable, PartsAreShallower, SpellingsAreTexts, SpellingsHaveNoFault, SpellsOneIndex, SpellsOrIsFaulty};
 
 /// `==` of pointers is equality of their tokens.
 pub fn equal_tokens()
@@ -11,19 +11,19 @@ pub fn one_spelling()
     ensures { HasOneSpelling }
 {}
 
-/// Each text spells a list of tokens or has a fault other than want of memory (RFC 6901 section 3).
+/// Each text spells a list of tokens or has an error other than out of memory (RFC 6901 section 3).
 pub fn spells_or_is_faulty()
     ensures { SpellsOrIsFaulty }
 {}
 
-/// A text that spells a list of tokens has no fault but want of memory.
+/// A text that spells a list of tokens has no error but out of memory.
 pub fn spellings_have_no_fault()
     ensures { SpellingsHaveNoFault }
 {}
 
-/// A text has one fault at most, want of memory aside. So `Pointer::parse` has one answer to each text.
+/// A text has one error at most, unless memory runs out. So `Pointer::parse` has one answer to each text.
 pub fn one_fault()
-    ensures { HasOneFault }
+    ensures { HasOnePointerFault }
 {}
 
 /// A token spells one index at most (RFC 6901 section 4).
@@ -36,7 +36,7 @@ pub fn numerals_are_printed()
     ensures { NumeralsArePrinted }
 {}
 
-/// In an array, the token that spells an index names the element at that place, and nothing where there is none
+/// In an array, the token that spells an index names the element at that place, and nothing if there is none
 /// (RFC 6901 section 4).
 pub fn indices_name_elements()
     ensures { NamesElements }

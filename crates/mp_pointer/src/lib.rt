@@ -1,11 +1,11 @@
 //! JSON Pointer (RFC 6901): pointers as lists of tokens, their spelling, and the part of a document that one names.
 #![tactic(auto)]
 
+mod borrowing;
 mod editing;
 mod evaluating;
 mod fault;
 pub mod laws;
-mod lending;
 mod pointer;
 mod spelling;
 

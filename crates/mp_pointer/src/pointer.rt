@@ -19,7 +19,7 @@ use std::marker::Model;
 /// let part = get(&doc, &pointer);                   // 5, where doc is {"a/b":[5]}
 /// ```
 // The tokens stand in one text, each after a slash, so that a copy asks for memory twice, however many there are, and
-// the text is the spelling where nothing has to be escaped.
+// the text is the spelling if nothing has to be escaped.
 #[derive(Debug, Drop)]
 pub struct Pointer {
     /// The tokens, each after a slash, with nothing escaped.
@@ -45,10 +45,10 @@ impl Pointer {
     /// The pointer that the text spells (RFC 6901 sections 3 and 4): the empty text, or a run of tokens with a `/`
     /// before each, in which `~1` is read as `/` and `~0` as `~`.
     ///
-    /// The first fault that holds is answered: `NoSlash` where the text is not empty and does not begin with `/`,
-    /// `BadTilde` with the offset in bytes of the first `~` that no `0` and no `1` follows; `OutOfMemory` may come
-    /// at any point. Memory aside, each text has one answer: `laws::spells_or_is_faulty`, `spellings_have_no_fault`,
-    /// `one_spelling` and `one_fault`.
+    /// The first error that holds is answered: `NoSlash` if the text is not empty and does not begin with `/`,
+    /// `BadTilde` with the offset in bytes of the first `~` that no `0` and no `1` follows; `OutOfMemory` may come at
+    /// any point. Unless memory runs out, each text has one answer: `laws::spells_or_is_faulty`,
+    /// `spellings_have_no_fault`, `one_spelling` and `one_fault`.
     ///
     /// ```text
     /// Pointer::parse(alloc, "/~01")  // the token `~1`
@@ -73,7 +73,7 @@ impl Pointer {
         }
     }
 
-    // The pointer that is spelled by a slash and then `rest`, which keeps that text as it is; None where a `~` is in it.
+    // The pointer that is spelled by a slash and then `rest`, which keeps that text as it is; None if a `~` is in it.
     fn without_tildes(alloc: Global, rest: &str) -> Result<Option<Pointer>, AllocError>
         ensures { IfOk result (λ found. IfSome found (λ p. slash ∷ rest.now ≡ spell p)) }
     {
@@ -108,8 +108,8 @@ impl Pointer {
         }
     }
 
-    // The same, with room for tokens of so many bytes in all, each counted with a slash.
-    pub(crate) fn with_room(alloc: Global, bytes: usize) -> Result<Pointer, AllocError>
+    // The same, with capacity for tokens of so many bytes in all, each counted with a slash.
+    pub(crate) fn with_capacity(alloc: Global, bytes: usize) -> Result<Pointer, AllocError>
         ensures { IfOk result (λ p. p ≡ []) }
     {
         Ok(Pointer {
@@ -119,7 +119,7 @@ impl Pointer {
         })
     }
 
-    /// The one spelling of this pointer (RFC 6901 section 3). `AllocError` where memory ran out.
+    /// The one spelling of this pointer (RFC 6901 section 3). `AllocError` if memory ran out.
     ///
     /// ```text
     /// pointer.print(alloc)  // /a~1b/~0 for the tokens `a/b` and `~`
@@ -146,14 +146,14 @@ impl Pointer {
         Ok(text)
     }
 
-    /// A pointer with the same tokens. `AllocError` where memory ran out.
+    /// A pointer with the same tokens. `AllocError` if memory ran out.
     pub fn copy(&self, alloc: Global) -> Result<Pointer, AllocError>
         ensures { IfOk result (λ p. p ≡ self.now) }
     {
         self.front(alloc, self.len())
     }
 
-    /// This pointer with one more token at its end, given unescaped. `AllocError` where memory ran out.
+    /// This pointer with one more token at its end, given unescaped. `AllocError` if memory ran out.
     ///
     /// ```text
     /// pointer.child(alloc, "x/")  // prints as /a/x~1, where pointer prints as /a
@@ -161,13 +161,13 @@ impl Pointer {
     pub fn child(&self, alloc: Global, token: &str) -> Result<Pointer, AllocError>
         ensures { IfOk result (λ p. p ≡ self.now ++ token.now ∷ []) }
     {
-        let mut child = self.front_with_room(alloc, self.len(), token.len() + 1, 1)?;
+        let mut child = self.front_with_capacity(alloc, self.len(), token.len() + 1, 1)?;
         child.push(token)?;
         Ok(child)
     }
 
     /// The pointer to the same part in a document that has this one under `token`: that token, given unescaped, and
-    /// then these. `AllocError` where memory ran out.
+    /// then these. `AllocError` if memory ran out.
     ///
     /// ```text
     /// pointer.under(alloc, "x/")  // prints as /x~1/a, where pointer prints as /a
@@ -184,7 +184,7 @@ impl Pointer {
     }
 
     /// Adds a token, given unescaped, at the end: the pointer then leads one step further into the document.
-    /// `AllocError` where memory ran out: the pointer is as it was.
+    /// `AllocError` if memory ran out: the pointer is as it was.
     ///
     /// ```text
     /// pointer.push("x/")?;  // then it prints as /a/x~1, where it printed as /a
@@ -212,16 +212,16 @@ impl Pointer {
     }
 
     /// The pointer of the first `count` tokens, which leads to a part that holds this pointer's.
-    /// `count` is at most `len()`. `AllocError` where memory ran out.
+    /// `count` is at most `len()`. `AllocError` if memory ran out.
     pub fn front(&self, alloc: Global, count: usize) -> Result<Pointer, AllocError>
         requires { count ≤ length self.now }
         ensures { IfOk result (λ p. p ≡ take count self.now) }
     {
-        self.front_with_room(alloc, count, 0, 0)
+        self.front_with_capacity(alloc, count, 0, 0)
     }
 
-    // The same, with room for so many bytes and tokens more.
-    fn front_with_room(
+    // The same, with capacity for so many bytes and tokens more.
+    fn front_with_capacity(
         &self,
         alloc: Global,
         count: usize,
@@ -250,7 +250,7 @@ impl Pointer {
         self.ends.len()
     }
 
-    /// The token of that number, counted from 0, with nothing escaped; None exactly where `number` is not below
+    /// The token of that number, counted from 0, with nothing escaped; None exactly if `number` is not below
     /// `len()`. Takes no memory.
     pub fn token(&self, number: usize) -> Option<&str>
         ensures { option_copied result ≡ slice_get self.now number }
@@ -297,7 +297,7 @@ impl Pointer {
     }
 }
 
-/// Pointers are equal where they have the same tokens in the same order. Takes no memory.
+/// Pointers are equal if they have the same tokens in the same order. Takes no memory.
 impl PartialEq for Pointer {
     ghost use Rattle.mp_pointer.specs.Spelling.{are_same_tokens};
     ghost use Rattle.std.proofs.Common.{rules};

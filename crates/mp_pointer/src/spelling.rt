@@ -32,7 +32,7 @@ pub(crate) fn pointer_after(alloc: Global, rest: &str) -> Result<Pointer, AllocE
     requires { first_bad_tilde rest.now ≡ None }
     ensures { IfOk result (λ p. spell p ≡ slash ∷ rest.now) }
 {
-    let mut pointer = Pointer::with_room(alloc, rest.len().saturating_add(1))?;
+    let mut pointer = Pointer::with_capacity(alloc, rest.len().saturating_add(1))?;
     let mut rest = rest;
     'parts: while let Some((part, more)) = rest.split_once('/') {
         push_unescaped(alloc, &mut pointer, part)?;

@@ -18,7 +18,7 @@ use Rattle.mp_patch.specs.declared.fault.FormFault.{FormFault}
 use Rattle.mp_patch.specs.declared.fault.FormFault.TheVariants as form
 use Rattle.mp_merge.specs.Application.{in_turn}
 use Rattle.mp_merge.specs.Join.{IsJoin}
-use Rattle.mp_merge.specs.Lists.{HaveSameMembers, IsToldPair, PairwiseCompatible}
+use Rattle.mp_merge.specs.Lists.{HaveSameMembers, IsReportedPair, PairwiseCompatible}
 use Rattle.mp_merge.specs.Outcome.{IsOutcome}
 use Rattle.mp_merge.specs.Rewriting.{IsRewriting}
 use Rattle.mp_merge.specs.declared.fault.ListFault.TheVariants as list
@@ -36,11 +36,11 @@ use Rattle.mp_texts.proofs.Steps.{Step, stops, goes_on, IsOneStep, one_step, Rea
 data JoinEnd (ds : List Document) (a : CallAnswer) : Type 0 where
   joined : (j : Document) → IsDocument j → IsJoin ds j → a ≡ returned (compact j) → JoinEnd ds a
   none_joined : ds ≡ [] → a ≡ failed (OfList list.NoPatches) → JoinEnd ds a
-  not_joined : (first second : ℕ) (places : List Tokens) → IsToldPair ds first second places → a ≡ conflicting first second places → JoinEnd ds a
+  not_joined : (first second : ℕ) (places : List Tokens) → IsReportedPair ds first second places → a ≡ conflicting first second places → JoinEnd ds a
 
 data ReplayEnd (d : Document) (ds : List Document) (a : CallAnswer) : Type 0 where
   replayed : (e : Document) → IsDocument e → IsOutcome d ds e → a ≡ returned (compact e) → ReplayEnd d ds a
-  not_replayed : (first second : ℕ) (places : List Tokens) → IsToldPair ds first second places → a ≡ conflicting first second places → ReplayEnd d ds a
+  not_replayed : (first second : ℕ) (places : List Tokens) → IsReportedPair ds first second places → a ≡ conflicting first second places → ReplayEnd d ds a
 
 abbrev MergeEnd : Document → List Document → CallAnswer → Type 0
 MergeEnd d ds a = a ≡ returned (compact (in_turn d ds))
@@ -96,7 +96,7 @@ Steps (part_text document pointer) a = OfDocument document (PointerEnd pointer) 
 
 -- ---- an answer is that of the steps
 
--- a conflict is not seen as another fault
+-- a conflict is not seen as another error
 not_seen : (first second : ℕ) (places : List Tokens) (why : TextsFault) → conflicting first second places ≡ failed why → ⊥
 not_seen first second places why e = cc
 
@@ -214,20 +214,20 @@ module _ (laws : AnswerLaws) where
   none_compatible : PairwiseCompatible []
   none_compatible p q at there = absurd (All-contains (λ r. ⊥) [] p (All-nil (λ r. ⊥)) at)
 
-  told_is_of_some : (ds : List Document) (first second : ℕ) (places : List Tokens) → IsToldPair ds first second places → ds ≢ []
-  told_is_of_some ds first second places told none = laws.told_is_incompatible ds first second places told (subst PairwiseCompatible (sym none) none_compatible)
+  reported_is_of_some : (ds : List Document) (first second : ℕ) (places : List Tokens) → IsReportedPair ds first second places → ds ≢ []
+  reported_is_of_some ds first second places reported none = laws.reported_is_incompatible ds first second places reported (subst PairwiseCompatible (sym none) none_compatible)
 
-  joined_or_told : (ds : List Document) (j : Document) (first second : ℕ) (places : List Tokens) → All IsDocument ds → IsDocument j → IsJoin ds j → IsToldPair ds first second places → ⊥
-  joined_or_told ds j first second places all good is told =
-      laws.told_is_incompatible ds first second places told ((laws.join_exists ds (join_is_of_some ds j is) all).0 (j, good, is))
+  joined_or_reported : (ds : List Document) (j : Document) (first second : ℕ) (places : List Tokens) → All IsDocument ds → IsDocument j → IsJoin ds j → IsReportedPair ds first second places → ⊥
+  joined_or_reported ds j first second places all good is reported =
+      laws.reported_is_incompatible ds first second places reported ((laws.join_exists ds (join_is_of_some ds j is) all).0 (j, good, is))
 
-  replayed_or_told : (d : Document) (ds : List Document) (e : Document) (first second : ℕ) (places : List Tokens) → IsDocument d → All IsDocument ds → IsDocument e → IsOutcome d ds e → IsToldPair ds first second places → ⊥
-  replayed_or_told d ds e first second places start all good is told = laws.told_is_incompatible ds first second places told ((laws.outcome_exists d ds start all).0 (e, good, is))
+  replayed_or_reported : (d : Document) (ds : List Document) (e : Document) (first second : ℕ) (places : List Tokens) → IsDocument d → All IsDocument ds → IsDocument e → IsOutcome d ds e → IsReportedPair ds first second places → ⊥
+  replayed_or_reported d ds e first second places start all good is reported = laws.reported_is_incompatible ds first second places reported ((laws.outcome_exists d ds start all).0 (e, good, is))
 
-  one_conflict : (ds : List Document) (first second least most : ℕ) (places others : List Tokens) → IsToldPair ds first second places → IsToldPair ds least most others
+  one_conflict : (ds : List Document) (first second least most : ℕ) (places others : List Tokens) → IsReportedPair ds first second places → IsReportedPair ds least most others
       → conflicting first second places ≡ conflicting least most others
   one_conflict ds first second least most places others one two =
-      let same = laws.one_told_pair ds first second least most places others one two in
+      let same = laws.one_reported_pair ds first second least most places others one two in
       ap (λ (n : ℕ). conflicting n second places) same.0 ∙ ap (λ (n : ℕ). conflicting least n places) same.1 ∙ ap (conflicting least most) same.2
 
   same_members : (ds : List Document) → HaveSameMembers ds ds
@@ -236,18 +236,18 @@ module _ (laws : AnswerLaws) where
   one_join_end : (ds : List Document) (a b : CallAnswer) → All IsDocument ds → JoinEnd ds a → JoinEnd ds b → a ≡ b
   one_join_end ds a b all (joined i good one is) (joined j other two was) = is ∙ ap (λ d. returned (compact d)) (laws.one_join ds ds i j (same_members ds) good other one two) ∙ sym was
   one_join_end ds a b all (joined i good one is) (none_joined none was) = absurd (join_is_of_some ds i one none)
-  one_join_end ds a b all (joined i good one is) (not_joined first second places two was) = absurd (joined_or_told ds i first second places all good one two)
+  one_join_end ds a b all (joined i good one is) (not_joined first second places two was) = absurd (joined_or_reported ds i first second places all good one two)
   one_join_end ds a b all (none_joined none is) (joined j other two was) = absurd (join_is_of_some ds j two none)
   one_join_end ds a b all (none_joined none is) (none_joined also was) = is ∙ sym was
-  one_join_end ds a b all (none_joined none is) (not_joined first second places two was) = absurd (told_is_of_some ds first second places two none)
-  one_join_end ds a b all (not_joined first second places one is) (joined j other two was) = absurd (joined_or_told ds j first second places all other two one)
-  one_join_end ds a b all (not_joined first second places one is) (none_joined none was) = absurd (told_is_of_some ds first second places one none)
+  one_join_end ds a b all (none_joined none is) (not_joined first second places two was) = absurd (reported_is_of_some ds first second places two none)
+  one_join_end ds a b all (not_joined first second places one is) (joined j other two was) = absurd (joined_or_reported ds j first second places all other two one)
+  one_join_end ds a b all (not_joined first second places one is) (none_joined none was) = absurd (reported_is_of_some ds first second places one none)
   one_join_end ds a b all (not_joined first second places one is) (not_joined least most others two was) = is ∙ one_conflict ds first second least most places others one two ∙ sym was
 
   one_replay_end : (d : Document) (ds : List Document) (a b : CallAnswer) → IsDocument d → All IsDocument ds → ReplayEnd d ds a → ReplayEnd d ds b → a ≡ b
   one_replay_end d ds a b start all (replayed e good one is) (replayed f other two was) = is ∙ ap (λ x. returned (compact x)) (laws.one_outcome d ds e f good other one two) ∙ sym was
-  one_replay_end d ds a b start all (replayed e good one is) (not_replayed first second places two was) = absurd (replayed_or_told d ds e first second places start all good one two)
-  one_replay_end d ds a b start all (not_replayed first second places one is) (replayed f other two was) = absurd (replayed_or_told d ds f first second places start all other two one)
+  one_replay_end d ds a b start all (replayed e good one is) (not_replayed first second places two was) = absurd (replayed_or_reported d ds e first second places start all good one two)
+  one_replay_end d ds a b start all (not_replayed first second places one is) (replayed f other two was) = absurd (replayed_or_reported d ds f first second places start all other two one)
   one_replay_end d ds a b start all (not_replayed first second places one is) (not_replayed least most others two was) = is ∙ one_conflict ds first second least most places others one two ∙ sym was
 
   one_rewrite_end : (d p : Document) (a b : CallAnswer) → RewriteEnd d p a → RewriteEnd d p b → a ≡ b
@@ -312,7 +312,7 @@ module _ (laws : AnswerLaws) where
   pub one_answer : CallHasOneAnswer
   one_answer call a b is was = one_of_steps call a b (steps_of call a is) (steps_of call b was)
 
--- ---- what is seen of a fault is an answer
+-- ---- what is seen of an error is an answer
 
 conflict_seen : (call : Call) (first second : ℕ) (places : _) → MayFail call (OfList (list.ConflictOf first second places)) → IsCallAnswer call (seen_of (OfList (list.ConflictOf first second places)))
 conflict_seen (join_texts patches) first second places is = (is.1, is.2, is.3)

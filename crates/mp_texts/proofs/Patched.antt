@@ -7,7 +7,7 @@ use Rattle.std.specs.Str.{bytes_eq}
 use Rattle.mp_tree.specs.Document.{Document, null, flag, whole, string, list, object, Items, no_items, item, Members, no_members, member, find, IsDocument, AreDocuments, IsMap, IsReadable, IsWhole, Throughout, ThroughoutItems, ThroughoutMembers}
 use Rattle.mp_tree.specs.Elements.{append, nth}
 use Rattle.mp_tree.proofs.Facts.{Contains-head, Throughout-find, Throughout-put, Throughout-without, cases_same, decide_name, find-below, is_name-self}
-use Rattle.mp_pointer.specs.Difference.{DifferOnlyAt, Kind, absent, scalar, names, elements, kind, kind_of, names_of}
+use Rattle.mp_pointer.specs.Difference.{DifferOnlyAt, Kind, absent, scalar, names, array_of, kind, kind_of, names_of}
 use Rattle.mp_pointer.specs.Part.{child, element_from, numeral, part}
 use Rattle.mp_pointer.specs.Spelling.{BeginsWith, Tokens, spell}
 use Rattle.mp_pointer.proofs.Facts.{child-numeral, child-object}
@@ -52,7 +52,7 @@ module _ (N : ℤ → Type 0) (S : List ℕ → Type 0) where
   IsGood absent = ⊤
   IsGood (scalar v) = Throughout N S v
   IsGood (names ns) = AreNames ns
-  IsGood (elements n) = ⊤
+  IsGood (array_of n) = ⊤
 
   abbrev good_from : Option Document → Tokens → Type 0
   good_from o u = IsGood (kind_of (option_and_then (λ d. part d u) o))

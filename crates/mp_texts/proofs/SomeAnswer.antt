@@ -14,7 +14,7 @@ use Rattle.mp_merge.specs.Application.{in_turn}
 use Rattle.mp_merge.specs.declared.fault.ListFault.TheVariants as list
 use Rattle.mp_texts.specs.Answers.{IsMergeText, IsPartText, IsPatchText, IsReplayText, IsRewriteText}
 use Rattle.mp_texts.specs.Calls.{Call, join_texts, replay_texts, merge_texts, rewrite_text, patch_text, part_text, CallAnswer, returned, conflicting, failed, IsCallAnswer}
-use Rattle.mp_texts.specs.Faults.{IsMissing, IsRead, IsRunTextFault}
+use Rattle.mp_texts.specs.Faults.{IsMissingPart, IsRead, IsRunTextFault}
 use Rattle.mp_texts.specs.Laws.{CallHasAnswer}
 use Rattle.mp_texts.specs.Private.LawsBelow.{ExistenceLaws}
 use Rattle.mp_texts.specs.Texts.{AreRead, IsFirstUnread}
@@ -66,9 +66,9 @@ module _ (laws : ExistenceLaws) where
 
   join_of_read : (ts : List (List ℕ)) (ds : List Document) → AreRead ts ds → Has (join_texts ts)
   join_of_read [] ds read = (failed (OfList list.NoPatches), (λ e. cc, refl, (λ e. cc, [], refl, refl)))
-  join_of_read (t ∷ ts) ds read = elim (laws.compatible_or_told ds (documents_of laws.joins (t ∷ ts) ds read)) [
+  join_of_read (t ∷ ts) ds read = elim (laws.compatible_or_reported ds (documents_of laws.joins (t ∷ ts) ds read)) [
     | inl free ↦ let joined = join_text laws.joins (t ∷ ts) ds read (λ none. cc) free in (returned joined.0, joined.1)
-    | inr (first, second, places, told) ↦ (conflicting first second places, (ds, read, told))
+    | inr (first, second, places, reported) ↦ (conflicting first second places, (ds, read, reported))
   ]
 
   some_join : (ts : List (List ℕ)) → Has (join_texts ts)
@@ -78,7 +78,7 @@ module _ (laws : ExistenceLaws) where
   ]
 
   replay_of_read : (start : List ℕ) (ts : List (List ℕ)) (d : Document) (ds : List Document) → document_in start ≡ Ok d → AreRead ts ds → Has (replay_texts start ts)
-  replay_of_read start ts d ds start_read read = elim (laws.compatible_or_told ds (documents_of laws.joins ts ds read)) [
+  replay_of_read start ts d ds start_read read = elim (laws.compatible_or_reported ds (documents_of laws.joins ts ds read)) [
     | inl free ↦
         let good = readable start d start_read in
         let end = in_turn d ds in
@@ -92,7 +92,7 @@ module _ (laws : ExistenceLaws) where
           text = text_of_readable laws.joins.reads_back end (compact end) (in_turn-readable laws.readable_merge d ds good (readables ts ds read)) refl;
         } in
         (returned (compact end), is)
-    | inr (first, second, places, told) ↦ (conflicting first second places, ((d, start_read), (ds, read, told)))
+    | inr (first, second, places, reported) ↦ (conflicting first second places, ((d, start_read), (ds, read, reported)))
   ]
 
   some_replay : (start : List ℕ) (ts : List (List ℕ)) → Has (replay_texts start ts)
@@ -210,7 +210,7 @@ module _ (laws : ExistenceLaws) where
     where
       by : (o : Option Document) → part d tokens ≡ o → Has (part_text document pointer)
       by None none =
-          let is : IsMissing document pointer = record { from = d; document_read = document_read; tokens = tokens; spelled = spelled; no_part = none } in
+          let is : IsMissingPart document pointer = record { from = d; document_read = document_read; tokens = tokens; spelled = spelled; no_part = none } in
           (failed Missing, (λ e. cc, refl, is))
       by (Some x) found =
           let is : IsPartText document pointer (compact x) = record {

@@ -37,7 +37,7 @@ abbrev pub Reads : List ℕ → Document → Type 0
 Reads text d = document_in text ≡ Ok d
 
 abbrev pub Unread : (ReadFault → TextsFault) → List ℕ → TextsFault → Type 0
-Unread told text why = (fault : ReadFault) × (why ≡ told fault) × (document_in text ≡ Err fault)
+Unread reported text why = (fault : ReadFault) × (why ≡ reported fault) × (document_in text ≡ Err fault)
 
 one_document : (r : Result Document ReadFault) (d e : Document) → r ≡ Ok d → r ≡ Ok e → d ≡ e
 one_document r d e one other = cc
@@ -48,16 +48,16 @@ one_fault r fault other one also = cc
 read_or_not : (r : Result Document ReadFault) (d : Document) (fault : ReadFault) → r ≡ Ok d → r ≡ Err fault → ⊥
 read_or_not r d fault one other = cc
 
-pub one_text : (told : ReadFault → TextsFault) (text : List ℕ) → IsOneStep Document (Reads text) (Unread told text)
-one_text told text = record {
+pub one_text : (reported : ReadFault → TextsFault) (text : List ℕ) → IsOneStep Document (Reads text) (Unread reported text)
+one_text reported text = record {
   found = λ d e one other. one_document (document_in text) d e one other;
-  fault = λ why also (fault, is, unread) (other, was, again). is ∙ ap told (one_fault (document_in text) fault other unread again) ∙ sym was;
+  fault = λ why also (fault, is, unread) (other, was, again). is ∙ ap reported (one_fault (document_in text) fault other unread again) ∙ sym was;
   apart = λ d why read (fault, is, unread). read_or_not (document_in text) d fault read unread;
 }
 
 -- ---- texts are read
 
--- the first text is no document, or is one and a later text is none
+-- the first text is not a document, or is one and a later text is none
 abbrev First : List ℕ → List (List ℕ) → ℕ → ReadFault → Type 0
 First t ts zero fault = document_in t ≡ Err fault
 First t ts (suc n) fault = ((d : Document) × (document_in t ≡ Ok d)) × IsFirstUnread ts n fault

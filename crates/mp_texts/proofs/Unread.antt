@@ -1,4 +1,4 @@
--- Texts that are read one by one, up to the first that is no document.
+-- Texts that are read one by one, up to the first that is not a document.
 use Rattle.std.proofs.Common.{◌≡◌, ◌<◌, ◌≤◌, ◌+◌, ℕ, zero, suc, List, [], ◌∷◌, ◌++◌, Bor, length, map, take, get_or, slice_get, slice_index_or, Some, Result, Ok, Err, IsErrAnd, MatchResult, refl, sym, ap, ◌∙◌, subst, arith}
 use Rattle.std.proofs.lemmas.List.{length-map, map-append, take_all, take_more}
 use Rattle.std.proofs.lemmas.List.Elements.{All-append, All-cons, All-nil}
@@ -45,10 +45,7 @@ next_within docs new x within pushed here =
     subst (λ (ds : List Document). All P ds) (sym (ap (map document) pushed ∙ map-append document docs (x ∷ [])))
     (All-append P (map document docs) (document x ∷ []) within (All-cons P (document x) [] here (All-nil P)))
 
-pub all_read : (ps : List (Bor (List ℕ))) (k : ℕ) (ds : List Document) → length ps ≤ k → AreRead (take k (given ps)) ds → AreRead (given ps) ds
-all_read ps k ds over read = subst (λ (ts : List (List ℕ)). AreRead ts ds) (take_all k (given ps) (omega (arith, over, length-map ps (λ (t : Bor (List ℕ)). t.now)))) read
-
--- ---- the first that is none
+-- ---- the first that is not one
 
 pub unread_at : (ts : List (List ℕ)) (k : ℕ) (ds : List Document) → AreRead (take k ts) ds → (t : List ℕ) → slice_get ts k ≡ Some t → (fault : TextsFault) → IsPatchFault fault t k → IsPatchesFault fault ts
 unread_at ts k ds read t at (Patch number fault) (same, unread) = record {
@@ -67,6 +64,6 @@ unread_at ts k ds read t at (Pointer fault) is = absurd is
 unread_at ts k ds read t at Missing is = absurd is
 
 -- what a `?` hands on
-pub handed_on : {A : Type 0} {told : TextsFault} (P : A → Type 0) (Q : TextsFault → Type 0) (r : Result A TextsFault) → IsErrAnd r (λ fault. fault ≡ told) → Q told → MatchResult r P Q
+pub handed_on : {A : Type 0} {reported : TextsFault} (P : A → Type 0) (Q : TextsFault → Type 0) (r : Result A TextsFault) → IsErrAnd r (λ fault. fault ≡ reported) → Q reported → MatchResult r P Q
 handed_on P Q (Ok done) exit is = absurd exit
 handed_on P Q (Err fault) exit is = subst Q (sym exit) is

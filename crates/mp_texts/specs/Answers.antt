@@ -49,7 +49,7 @@ pub record IsMergeText (document : List ℕ) (patches : List (List ℕ)) (answer
 
 -- ---- one document
 
--- of the patch's rewriting against the document: read back where its values leave room for the two levels around them
+-- of the patch's rewriting against the document: read back if its values allow the two levels around them
 pub record IsRewriteText (document patch answer : List ℕ) : Type 0 where
   pub from : Document
   pub document_read : document_in document ≡ Ok from

@@ -2,7 +2,7 @@
 use Rattle.std.specs.Prelude.{◌≡◌, ◌≢◌, ℕ, List}
 use Rattle.mp_tree.specs.Document.{Document}
 use Rattle.mp_pointer.specs.Spelling.{Tokens}
-use Rattle.mp_merge.specs.Lists.{IsToldPair}
+use Rattle.mp_merge.specs.Lists.{IsReportedPair}
 use Rattle.mp_merge.specs.declared.fault.ListFault.TheVariants.{ConflictOf}
 use Rattle.mp_texts.specs.Answers.{IsJoinText, IsMergeText, IsPartText, IsPatchText, IsReplayText, IsRewriteText}
 use Rattle.mp_texts.specs.Faults.{IsJoinTextFault, IsMergeTextFault, IsPartTextFault, IsPatchTextFault, IsRead}
@@ -54,7 +54,7 @@ seen_of fault = failed fault
 -- the patches are read, and these are the numbers and the places of the pair that conflicts
 abbrev pub HaveConflict : List (List ℕ) → ℕ → ℕ → List Tokens → Type 0
 HaveConflict patches first second places =
-    (ds : List Document) × AreRead patches ds × IsToldPair ds first second places
+    (ds : List Document) × AreRead patches ds × IsReportedPair ds first second places
 
 abbrev pub MayConflict : Call → ℕ → ℕ → List Tokens → Type 0
 MayConflict (join_texts patches) first second places = HaveConflict patches first second places

@@ -1,5 +1,5 @@
--- The fault that each call answers: the first that holds, in the order of the cases. Want of memory says nothing, and is one
--- fault, wherever it comes from; a fault that a call can't have is ⊥ there.
+-- The error that each call answers: the first that holds, in the order of the cases. Out of memory says nothing, and is one
+-- error, wherever it comes from; an error that a call can't have is ⊥ there.
 use Rattle.std.specs.Prelude.{◌≡◌, ◌≢◌, ℕ, List, None, Ok, Err, ⊤}
 use Rattle.mp_tree.specs.Document.{Document}
 use Rattle.mp_tree.specs.Text.{document_in}
@@ -23,23 +23,23 @@ use Rattle.mp_texts.specs.declared.fault.TextsFault.{TextsFault}
 use Rattle.mp_texts.specs.declared.fault.TextsFault.TheVariants.{Document as NoDocument, Patch, List as OfList, Form, Refused}
 use Rattle.mp_texts.specs.declared.fault.TextsFault.TheVariants.{Pointer, Missing, OutOfMemory}
 
--- ---- what is told of a fault of a call below
+-- ---- what is reported of an error of a call below
 
-abbrev pub told_of_list : ListFault → TextsFault
-told_of_list list.OutOfMemory = OutOfMemory
-told_of_list refusal = OfList refusal
+abbrev pub texts_fault_of_list : ListFault → TextsFault
+texts_fault_of_list list.OutOfMemory = OutOfMemory
+texts_fault_of_list refusal = OfList refusal
 
-abbrev pub told_of_form : FormFault → TextsFault
-told_of_form form.OutOfMemory = OutOfMemory
-told_of_form refusal = Form refusal
+abbrev pub texts_fault_of_form : FormFault → TextsFault
+texts_fault_of_form form.OutOfMemory = OutOfMemory
+texts_fault_of_form refusal = Form refusal
 
-abbrev pub told_of_apply : ApplyFault → TextsFault
-told_of_apply apply.OutOfMemory = OutOfMemory
-told_of_apply refusal = Refused refusal
+abbrev pub texts_fault_of_apply : ApplyFault → TextsFault
+texts_fault_of_apply apply.OutOfMemory = OutOfMemory
+texts_fault_of_apply refusal = Refused refusal
 
-abbrev pub told_of_pointer : PointerFault → TextsFault
-told_of_pointer pointer.OutOfMemory = OutOfMemory
-told_of_pointer refusal = Pointer refusal
+abbrev pub texts_fault_of_pointer : PointerFault → TextsFault
+texts_fault_of_pointer pointer.OutOfMemory = OutOfMemory
+texts_fault_of_pointer refusal = Pointer refusal
 
 -- ---- lists of merge patches
 
@@ -109,7 +109,7 @@ IsPatchTextFault OutOfMemory document patch = ⊤
 IsPatchTextFault other document patch = ⊥
 
 -- the pointer is spelled, and the document has no part there
-pub record IsMissing (document pointer : List ℕ) : Type 0 where
+pub record IsMissingPart (document pointer : List ℕ) : Type 0 where
   pub from : Document
   pub document_read : document_in document ≡ Ok from
   pub tokens : Tokens
@@ -121,6 +121,6 @@ abbrev pub IsPartTextFault : TextsFault → List ℕ → List ℕ → Type 0
 IsPartTextFault (NoDocument fault) document text = document_in document ≡ Err fault
 IsPartTextFault (Pointer fault) document text =
     IsRead document × (fault ≢ pointer.OutOfMemory) × IsPointerFault fault text
-IsPartTextFault Missing document text = IsMissing document text
+IsPartTextFault Missing document text = IsMissingPart document text
 IsPartTextFault OutOfMemory document text = ⊤
 IsPartTextFault other document text = ⊥

@@ -34,7 +34,7 @@ JoinOfTwoJoins = (texts others : List (List ℕ)) (one other answer : List ℕ)
 abbrev pub HasJoinText : List (List ℕ) → Type 0
 HasJoinText texts = (answer : List ℕ) × IsJoinText texts answer
 
--- where all have one, some of them have one, if they are not none
+-- if all have one, some of them have one, if there is at least one
 abbrev pub EachPartHasAJoin : Type 0
 EachPartHasAJoin = (texts some : List (List ℕ)) → HasJoinText texts
     → ((text : List ℕ) → Contains some text → Contains texts text) → some ≢ [] → HasJoinText some
@@ -74,7 +74,7 @@ ReplayIsMerge = (start : List ℕ) (texts : List (List ℕ)) (answer joined merg
     → IsReplayText start texts answer → IsJoinText texts joined
     → IsMergeText start (joined ∷ []) merged ↔ (merged ≡ answer)
 
--- and the result of the join text's rewriting, where its values leave room for the two levels around them
+-- and the result of the join text's rewriting, if its values allow the two levels around them
 abbrev pub ReplayIsPatch : Type 0
 ReplayIsPatch = (start : List ℕ) (texts : List (List ℕ)) (answer joined edits patched : List ℕ)
     → IsReplayText start texts answer → IsJoinText texts joined

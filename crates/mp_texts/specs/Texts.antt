@@ -14,7 +14,7 @@ given texts = map (λ t. t.now) texts
 abbrev pub AreRead : List (List ℕ) → List Document → Type 0
 AreRead texts documents = map document_in texts ≡ map Ok documents
 
--- the text of that number is no document, for this fault, and those in front of it are documents
+-- the text of that number is not a document, for this error, and those in front of it are documents
 pub record IsFirstUnread (texts : List (List ℕ)) (number : ℕ) (fault : ReadFault) : Type 0 where
   pub before : List Document
   pub read : AreRead (take number texts) before

@@ -13,9 +13,9 @@ use mp_tree::{Doc, laws as reading, write_doc};
 use std::alloc::{AllocError, Global};
 
 /// The text of a merge patch as a JSON Patch for the document, as `mp_merge::rewrite` makes it: tests of what the patch
-/// changes and the document has, then the edits. `patch_text` takes it where none of its values is more than 124 deep.
+/// changes and the document has, then the edits. `patch_text` takes it if none of its values is more than 124 deep.
 ///
-/// In this order: `Document` where the document's text is none; `Patch` of number 0 where the patch's is none.
+/// In this order: `Document` if the document's text is not a document; `Patch` of number 0 if the patch's is not one.
 /// `OutOfMemory` may come at any point.
 ///
 /// ```text
@@ -38,9 +38,9 @@ pub fn rewrite_text(alloc: Global, document: &[u8], patch: &[u8]) -> Result<Stri
 
 /// The text of the document after a JSON Patch (RFC 6902), which is a JSON text too.
 ///
-/// In this order: `Document` where the document's text is none; `Patch` of number 0 where the patch's is none; `Form`
-/// where the patch is a document and no JSON Patch; `Refused` where an operation is refused. `OutOfMemory` may come at any
-/// point.
+/// In this order: `Document` if the document's text is not a document; `Patch` of number 0 if the patch's is not one;
+/// `Form` if the patch is a document but not a JSON Patch; `Refused` if an operation is refused. `OutOfMemory` may come
+/// at any point.
 ///
 /// ```text
 /// patch_text(alloc, b"[1]", b"[{\"op\":\"add\",\"path\":\"/-\",\"value\":2}]")  // [1,2]
@@ -59,8 +59,8 @@ pub fn patch_text(alloc: Global, document: &[u8], json_patch: &[u8]) -> Result<S
 
 /// The text of the part of the document that the pointer names (RFC 6901).
 ///
-/// In this order: `Document` where the document's text is none; `Pointer` where the pointer's text spells none; `Missing`
-/// where there is no such part. `OutOfMemory` may come at any point.
+/// In this order: `Document` if the document's text is not a document; `Pointer` if the pointer's text spells no
+/// pointer; `Missing` if there is no such part. `OutOfMemory` may come at any point.
 ///
 /// ```text
 /// part_text(alloc, b"{\"a\":[5]}", "/a")  // [5]
@@ -79,7 +79,7 @@ pub fn part_text(alloc: Global, document: &[u8], pointer: &str) -> Result<String
     }
 }
 
-/// The pointers' spellings as a JSON array of strings, such as the places of a conflict. `AllocError` where memory ran out.
+/// The pointers' spellings as a JSON array of strings, such as the places of a conflict. `AllocError` if memory ran out.
 ///
 /// ```text
 /// write_places(alloc, &places)  // ["/a","/b~1c"]

@@ -8,14 +8,14 @@ use mp_tree::ReadFault;
 use std::alloc::{AllocError, AllocFailed};
 use thiserror::Error;
 
-/// Why there is no text. Where several hold, the first in the order of the call that answers it is told: each call says
+/// Why there is no text. If several hold, the first in the order of the call that answers it is reported: each call says
 /// which it looks for, and in which order.
 #[derive(Debug, Drop, Error)]
 pub enum TextsFault {
-    /// The text of the document, or of the start, is no document.
+    /// The text of the document, or of the start, is not a document.
     #[error("document: {0}")]
     Document(ReadFault),
-    /// The text with the least number that is no document, of those given as patches, counted from 0.
+    /// The text with the least number that is not a document, of those given as patches, counted from 0.
     #[error("patch {number}: {fault}")]
     Patch {
         /// The number of the text among those given as patches, from 0.
@@ -23,16 +23,16 @@ pub enum TextsFault {
         /// Why the text is not a document.
         fault: ReadFault,
     },
-    /// The patches are none, or two of them clash.
+    /// There are no patches, or two of them conflict.
     #[error("{0}")]
     List(ListFault),
-    /// The patch is a document, and no JSON Patch.
+    /// The patch is a document, but not a JSON Patch.
     #[error("{0}")]
     Form(FormFault),
     /// An operation of the JSON Patch is refused.
     #[error("{0}")]
     Refused(ApplyFault),
-    /// The text of the pointer spells none.
+    /// The text of the pointer spells no pointer.
     #[error("{0}")]
     Pointer(PointerFault),
     /// The document has no part there.
@@ -44,9 +44,9 @@ pub enum TextsFault {
 }
 
 impl From<ListFault> for TextsFault {
-    ghost use Rattle.mp_texts.specs.Faults.{told_of_list};
+    ghost use Rattle.mp_texts.specs.Faults.{texts_fault_of_list};
 
-    ghost from_gives = { λ cause fault. fault ≡ told_of_list cause };
+    ghost from_gives = { λ cause fault. fault ≡ texts_fault_of_list cause };
 
     fn from(cause: ListFault) -> TextsFault {
         match cause {
@@ -57,9 +57,9 @@ impl From<ListFault> for TextsFault {
 }
 
 impl From<FormFault> for TextsFault {
-    ghost use Rattle.mp_texts.specs.Faults.{told_of_form};
+    ghost use Rattle.mp_texts.specs.Faults.{texts_fault_of_form};
 
-    ghost from_gives = { λ cause fault. fault ≡ told_of_form cause };
+    ghost from_gives = { λ cause fault. fault ≡ texts_fault_of_form cause };
 
     fn from(cause: FormFault) -> TextsFault {
         match cause {
@@ -70,9 +70,9 @@ impl From<FormFault> for TextsFault {
 }
 
 impl From<ApplyFault> for TextsFault {
-    ghost use Rattle.mp_texts.specs.Faults.{told_of_apply};
+    ghost use Rattle.mp_texts.specs.Faults.{texts_fault_of_apply};
 
-    ghost from_gives = { λ cause fault. fault ≡ told_of_apply cause };
+    ghost from_gives = { λ cause fault. fault ≡ texts_fault_of_apply cause };
 
     fn from(cause: ApplyFault) -> TextsFault {
         match cause {
@@ -83,9 +83,9 @@ impl From<ApplyFault> for TextsFault {
 }
 
 impl From<PointerFault> for TextsFault {
-    ghost use Rattle.mp_texts.specs.Faults.{told_of_pointer};
+    ghost use Rattle.mp_texts.specs.Faults.{texts_fault_of_pointer};
 
-    ghost from_gives = { λ cause fault. fault ≡ told_of_pointer cause };
+    ghost from_gives = { λ cause fault. fault ≡ texts_fault_of_pointer cause };
 
     fn from(cause: PointerFault) -> TextsFault {
         match cause {

@@ -16,7 +16,7 @@ pub fn one_join_text()
     join_laws();
 }
 
-/// Joins of joins: the join text of two join texts is that of all the texts; and where all have one, so has each part of
+/// Joins of joins: the join text of two join texts is that of all the texts; and if all have one, so has each part of
 /// them that is not empty. So texts may be joined in groups, and the joins in the groups' places.
 pub fn joins_of_joins()
     ensures two { JoinOfTwoJoins }
@@ -25,11 +25,11 @@ pub fn joins_of_joins()
     join_laws();
 }
 
-/// Reduces agree: however texts are shared out, repeated, grouped and joined in a tree, each tree that is joined through
-/// gives the join text of all its texts, and two trees whose texts read as the same documents give the same text, byte for
-/// byte. Every tree, whatever bytes it has, is joined through exactly if all of its texts are documents and no two of them
-/// conflict as patches; any list of texts that read as the same documents decides it as well. This is what a parallel reduce,
-/// a combiner and a stored aggregate ask for.
+/// Reduces agree: however texts are shared out, repeated, grouped and joined in a tree, each tree that is joined
+/// through gives the join text of all its texts, and two trees whose texts read as the same documents give the same
+/// text, byte for byte. Every tree, whatever bytes it has, is joined through exactly if all of its texts are documents
+/// and no two of them conflict as patches; any list of texts that read as the same documents decides it as well. This
+/// is what a parallel reduce, a combiner and a stored aggregate ask for.
 pub fn reduces_agree()
     ensures agree { ReducesAgree }
     ensures all { ReducesGiveTheJoin }
@@ -40,7 +40,7 @@ pub fn reduces_agree()
 }
 
 /// Replays agree: replays of texts of one start and of lists whose texts read as the same documents are one text, byte for
-/// byte. It is what `merge_texts` gives of the start and their join text; and, where no value of the rewriting is more than
+/// byte. It is what `merge_texts` gives of the start and their join text; and, if no value of the rewriting is more than
 /// 124 deep, what `patch_text` gives of the start and of what `rewrite_text` gives of the start and that join text.
 pub fn replays_agree()
     ensures one { OneReplayText }
@@ -51,17 +51,18 @@ pub fn replays_agree()
     replay_laws();
 }
 
-/// An answer exists: each of the six calls, whatever bytes its arguments are, has an answer that its contract admits and that
-/// is not out of memory. Texts that are not UTF-8 or not JSON have one too, an error.
+/// An answer exists: each of the six calls, whatever bytes its arguments are, has an answer that its contract admits
+/// and that is not out of memory. Texts that are not UTF-8 or not JSON have one too, an error.
 pub fn answer_exists()
     ensures { CallHasAnswer }
 {
     existence_laws();
 }
 
-/// One answer: unless memory runs out, what a call answers is a function of its arguments. Two answers to the same call with
-/// the same arguments are both texts and equal byte for byte, or both errors of the same kind, with the same numbers and, of
-/// a conflict, the same places. `IsCallAnswer` says of each of the six calls which answers its contract admits.
+/// One answer: unless memory runs out, what a call answers is a function of its arguments. Two answers to the same call
+/// with the same arguments are both texts and equal byte for byte, or both errors of the same kind, with the same
+/// numbers and, of a conflict, the same places. `IsCallAnswer` says of each of the six calls which answers its contract
+/// admits.
 pub fn one_answer()
     ensures one { CallHasOneAnswer }
     ensures faults { FaultsShowTheAnswer }
@@ -110,7 +111,7 @@ fn answer_laws()
     patch::one_refusal();
     merge::one_outcome();
     merge::outcome_exists();
-    merge::told_pair();
+    merge::reported_pair();
     merge::empty_has_no_join();
     merge::one_join();
     merge::join_exists();
@@ -131,7 +132,7 @@ fn existence_laws()
     patch::runs_or_is_refused();
     patch::runs_are_not_refused();
     patch::runs_stay_shallow();
-    merge::told_pair();
+    merge::reported_pair();
     merge::applied_in_turn();
     merge::merged_is_readable();
     merge::rewriting_exists();

@@ -17,8 +17,8 @@ use std::alloc::{AllocError, Global};
 /// It is compact, without a newline, and can be given in the place of the patches' texts: to this call again, or as the one
 /// patch of `replay_texts` and `merge_texts`. There is no limit on the number of texts or on their length.
 ///
-/// In this order: `Patch` with the first text that is no document; `List` where the texts are none, or where two patches
-/// clash, as `mp_merge::join_all` tells it. `OutOfMemory` may come at any point.
+/// In this order: `Patch` with the first text that is not a document; `List` if there are no texts, or if two patches
+/// conflict, as `mp_merge::join_all` reports it. `OutOfMemory` may come at any point.
 ///
 /// ```text
 /// join_texts(alloc, &[b"{\"a\":1}", b" {\"b\":null} "])  // {"a":1,"b":null}
@@ -33,11 +33,11 @@ pub fn join_texts(alloc: Global, patches: &[&[u8]]) -> Result<String, TextsFault
     Ok(write_doc(alloc, &joined)?)
 }
 
-/// The text of the document that merge patches, no two of which clash, make of the start's, in whatever order and with
+/// The text of the document that merge patches, no two of which conflict, make of the start's, in whatever order and with
 /// whatever repeats they come. Of no patches it is the start's compact text.
 ///
-/// In this order: `Document` where the start's text is none; `Patch` with the first text that is no document; `List` where
-/// two patches clash, as `mp_merge::replay` tells it. `OutOfMemory` may come at any point.
+/// In this order: `Document` if the start's text is not a document; `Patch` with the first text that is not a document;
+/// `List` if two patches conflict, as `mp_merge::replay` reports it. `OutOfMemory` may come at any point.
 ///
 /// ```text
 /// replay_texts(alloc, b"{\"k\":0}", &[b"{\"a\":1}", b"{\"k\":null}"])  // {"a":1}
@@ -54,10 +54,10 @@ pub fn replay_texts(alloc: Global, start: &[u8], patches: &[&[u8]]) -> Result<St
 }
 
 /// The text of the document after the merge patches (RFC 7396 section 2), each applied to what those before it left. That
-/// they are compatible is not checked: where two clash, their order decides. Of no patches it is the document's compact
+/// they are compatible is not checked: if two conflict, their order decides. Of no patches it is the document's compact
 /// text.
 ///
-/// In this order: `Document` where the document's text is none; `Patch` with the first text that is no document.
+/// In this order: `Document` if the document's text is not a document; `Patch` with the first text that is not a document.
 /// `OutOfMemory` may come at any point.
 ///
 /// ```text

@@ -37,7 +37,7 @@ pub(crate) fn read_patch(alloc: Global, text: &[u8], number: usize) -> Result<Do
     }
 }
 
-// All are read before any work is done: a text that is no document is told first.
+// All are read before any work is done: a text that is not a document is reported first.
 pub(crate) fn read_patches(alloc: Global, patches: &[&[u8]]) -> Result<Vec<Doc>, TextsFault>
     ensures read { MatchResult result
         (λ docs. AreRead (given patches.now) (map document docs.items))

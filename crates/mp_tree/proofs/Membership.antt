@@ -29,7 +29,7 @@ module _ {X : Type 0} where
   no_member [] none = refl
   no_member (x ∷ xs) none = absurd (none x (Contains-head x xs))
 
-  -- where each element has one of two properties, some has the first or all have the second
+  -- if each element has one of two properties, some has the first or all have the second
   pub some_or_all : (P Q : X → Type 0) → ((x : X) → P x ⊎ Q x) → (xs : List X) → ((x : X) × Contains xs x × P x) ⊎ ((x : X) → Contains xs x → Q x)
   some_or_all P Q either [] = inr (λ x at. absurd (Contains-nil x at))
   some_or_all P Q either (x ∷ xs) = by (either x) (some_or_all P Q either xs)

@@ -12,7 +12,7 @@ same_some o x y here there = cc
 pub some_none : {X P : Type 0} (o : Option X) (x : X) → o ≡ Some x → o ≡ None → P
 some_none o x here none = cc
 
--- ---- what holds where there is one
+-- ---- what holds if there is one
 
 pub if_mapped : {X Y : Type 0} (f : X → Y) (P : X → Type 0) (Q : Y → Type 0) (o : Option X) → ((x : X) → P x → Q (f x)) → IfSome o P → IfSome (option_map f o) Q
 if_mapped f P Q None keeps good = tt

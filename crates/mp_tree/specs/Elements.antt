@@ -17,7 +17,7 @@ abbrev pub count_of : Items → ℕ
 count_of no_items = 0
 count_of (item d ds) = suc (count_of ds)
 
--- the element at an index, where the first is 0
+-- the element at an index, if the first is 0
 abbrev pub nth : ℕ → Items → Option Document
 nth i no_items = None
 nth zero (item d ds) = Some d

@@ -28,7 +28,7 @@ ReadsReadable = (bytes : List ℕ) (d : Document) → document_in bytes ≡ Ok d
 abbrev pub ReadsReadables : Type 0
 ReadsReadables = (bytes : List ℕ) (ds : Items) → documents_in bytes ≡ Ok ds → All IsReadable (list_of ds)
 
--- want of memory is no fault of the bytes
+-- out of memory is no error of the bytes
 abbrev pub FaultsAreOfBytes : Type 0
 FaultsAreOfBytes = (bytes : List ℕ) → document_in bytes ≢ Err fault.OutOfMemory
 

@@ -1,4 +1,4 @@
--- What stands at a path: the way in which a merge patch (RFC 7396) sees a document. An array is seen whole.
+-- What is at a path: the way in which a merge patch (RFC 7396) sees a document. An array is seen whole.
 use Rattle.std.specs.Prelude.{ℕ, List, [], ◌∷◌, Option, None, Some}
 use Rattle.mp_tree.specs.Document.{Document, object, find}
 
@@ -6,18 +6,18 @@ use Rattle.mp_tree.specs.Document.{Document, object, find}
 abbrev pub Path : Type 0
 Path = List (List ℕ)
 
--- what stands at a path: nothing, an object, or a value that is no object
+-- what is at a path: nothing, an object, or a value that is not an object
 pub data Look : Type 0 where
   nothing : Look
   an_object : Look
   plain : Document → Look
 
--- the look at the empty path: the document itself, where it is no object
+-- the look at the empty path: the document itself, if it is not an object
 abbrev pub look_here : Document → Look
 look_here (object ms) = an_object
 look_here d = plain d
 
--- d[n], where d is an object that has n
+-- d[n], if d is an object that has n
 abbrev pub at_name : List ℕ → Document → Option Document
 at_name n (object ms) = find n ms
 at_name n d = None
@@ -28,6 +28,6 @@ look_of None w = nothing
 look_of (Some d) [] = look_here d
 look_of (Some d) (n ∷ w) = look_of (at_name n d) w
 
--- what stands in d at the path w
+-- what is in d at the path w
 abbrev pub look : Document → Path → Look
 look d w = look_of (Some d) w

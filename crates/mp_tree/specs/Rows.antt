@@ -1,4 +1,4 @@
--- The types that a `Doc` holds, as the logic holds them, for the clauses on what a `&mut` lends.
+-- The types that a `Doc` holds, as the logic holds them, for the clauses on what a `&mut` borrows.
 use denote.RattleType.{RattleType}
 use Rattle.std.specs.contracts.alloc.Global as global
 use Rattle.std.specs.contracts.vec.Vec as vec

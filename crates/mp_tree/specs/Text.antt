@@ -17,11 +17,11 @@ use Rattle.mp_tree.specs.declared.fault.ReadFault.TheVariants as fault
 
 -- ---- reading
 
--- The number rule: a number is whole where `serde_json` answers it as a `u64` or as an `i64`.
+-- The number rule: a number is whole if `serde_json` answers it as a `u64` or as an `i64`.
 abbrev pub whole_number : Num → Option ℤ
 whole_number n = option_or (option_map pos (as_u64 n)) (as_i64 n)
 
--- the document of JSON data, none where a number is not whole
+-- the document of JSON data, none if a number is not whole
 abbrev mutual
   pub from_data : Data → Option Document
   from_data json.null = Some null
@@ -39,52 +39,52 @@ abbrev mutual
   members_from_data json.no_members = Some no_members
   members_from_data (json.member n d ms) = option_and_then (λ e. option_map (put n e) (members_from_data ms)) (from_data d)
 
--- the data that `serde_json` reads in the bytes: none where they are not UTF-8 or no JSON text of nesting at most 127
+-- the data that `serde_json` reads in the bytes: none if they are not UTF-8 or no JSON text of nesting at most 127
 abbrev pub data_in : List ℕ → Option Data
 data_in bytes = if is_utf8 bytes then serde_json.read bytes else None
 
--- the document that the bytes are, however deep: none where they have no data, or a number that is not whole
+-- the document that the bytes are, however deep: none if they have no data, or a number that is not whole
 abbrev pub read : List ℕ → Option Document
 read bytes = option_and_then from_data (data_in bytes)
 
--- ---- the elements of the array that the bytes are, or the first fault: not JSON, a number that is not whole, no array
+-- ---- the elements of the array that the bytes are, or the first error: not JSON, a number that is not whole, no array
 
--- the elements of an array, and a fault for any other document
+-- the elements of an array, and an error for any other document
 abbrev pub elements : Document → Result Items DocsFault
 elements (list ds) = Ok ds
 elements _ = Err NotAnArray
 
--- of a document, where all numbers were whole
+-- of a document, if all numbers were whole
 abbrev pub whole_or_fault : Option Document → Result Items DocsFault
 whole_or_fault None = Err NotWhole
 whole_or_fault (Some d) = elements d
 
--- of data, where there was some
+-- of data, if there was some
 abbrev pub json_or_fault : Option Data → Result Items DocsFault
 json_or_fault None = Err NotJson
 json_or_fault (Some d) = whole_or_fault (from_data d)
 
--- the elements that the bytes give, or their first fault
+-- the elements that the bytes give, or their first error
 abbrev pub documents_in : List ℕ → Result Items DocsFault
 documents_in bytes = json_or_fault (data_in bytes)
 
--- ---- the document that the bytes are, or the first fault: not JSON, a number that is not whole, too deep
+-- ---- the document that the bytes are, or the first error: not JSON, a number that is not whole, too deep
 
 -- a document within the depth rule
 abbrev pub shallow_document : Document → Result Document ReadFault
 shallow_document d = if nat_le (depth d) depth_limit then Ok d else Err fault.TooDeep
 
--- of a document, where all numbers were whole
+-- of a document, if all numbers were whole
 abbrev pub whole_document : Option Document → Result Document ReadFault
 whole_document None = Err fault.NotWhole
 whole_document (Some d) = shallow_document d
 
--- of data, where there was some
+-- of data, if there was some
 abbrev pub json_document : Option Data → Result Document ReadFault
 json_document None = Err fault.NotJson
 json_document (Some d) = whole_document (from_data d)
 
--- the document that the bytes give, or their first fault
+-- the document that the bytes give, or their first error
 abbrev pub document_in : List ℕ → Result Document ReadFault
 document_in bytes = json_document (data_in bytes)
 

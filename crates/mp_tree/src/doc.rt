@@ -31,7 +31,7 @@ impl Doc {
     ghost use Rattle.mp_tree.specs.Document.{depth};
     ghost use Rattle.mp_tree.specs.View.{document};
 
-    /// An equal document, which shares nothing with this one. `AllocError` where memory ran out.
+    /// An equal document, which shares nothing with this one. `AllocError` if memory ran out.
     ///
     /// ```text
     /// doc.copy(alloc)?.same(&doc)  // true
@@ -57,8 +57,8 @@ impl Doc {
         is_same(self, other)
     }
 
-    /// Whether the depth is at most `limit`. A scalar has depth 0; an array or an object is one deeper than its deepest part,
-    /// and 1 where it is empty.
+    /// Whether the depth is at most `limit`. A scalar has depth 0; an array or an object is one deeper than its deepest
+    /// part, and 1 if it is empty.
     ///
     /// It takes no memory, looks at each part once at most, and stops at the first part that is too deep.
     ///

@@ -44,7 +44,7 @@ pub enum DocsFault {
     /// a number with a fraction or an exponent, or outside -2^63 to 2^64 - 1
     #[error("number not whole")]
     NotWhole,
-    /// the value is no array
+    /// the value is not an array
     #[error("not an array")]
     NotAnArray,
     /// memory ran out

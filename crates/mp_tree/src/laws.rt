@@ -15,15 +15,15 @@ pub fn readings_are_documents()
     ensures elements { ReadsReadables }
 {}
 
-/// Bytes have a document or a fault of their own, whatever memory there is: the definitions of what is read never give
-/// want of memory. So where `read_doc` or `read_docs` answers it, it is the machine's, and a line for the input's faults
+/// Bytes have a document or an error of their own, whatever memory there is: the definitions of what is read never give
+/// out of memory. So where `read_doc` or `read_docs` answers it, it is the machine's, and a line for the input's errors
 /// needs no words for it.
 pub fn bytes_have_faults()
     ensures document { FaultsAreOfBytes }
     ensures elements { FaultsAreOfArrays }
 {}
 
-/// What is written for a document is read back as that document, where its objects are finite maps, its texts and names
+/// What is written for a document is read back as that document, if its objects are finite maps, its texts and names
 /// are UTF-8, its numbers are whole and from -2^63 to 2^64 - 1, and it is at most 126 deep. Of the texts it is enough
 /// that what is written is UTF-8, as every `String` is.
 pub fn texts_read_back()

@@ -8,16 +8,16 @@ mod doc;
 mod fault;
 pub mod laws;
 // Public, since a proof by hand in mp_pointer names the contracts of its functions.
-pub mod lending;
+pub mod borrowing;
 mod measuring;
 mod reading;
 mod serializing;
 mod whole;
 mod writing;
 
+pub use borrowing::{items_mut, members_mut};
 pub use doc::Doc;
 pub use fault::{DocsFault, ReadFault};
-pub use lending::{items_mut, members_mut};
 pub use reading::{DEPTH_LIMIT, read_doc, read_docs};
 pub use whole::Whole;
 pub use writing::{write_doc, write_text};

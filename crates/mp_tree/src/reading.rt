@@ -17,9 +17,9 @@ pub const DEPTH_LIMIT: u32 = 126;
 
 /// The document that a JSON text (RFC 8259) is.
 ///
-/// The first fault that holds is answered: `NotJson` where `serde_json` has no reading (the bytes are not UTF-8,
-/// nest deeper than 127, or go on after the value), `NotWhole` where a number is not whole or is outside
-/// -2^63 to 2^64 - 1, `TooDeep` where the depth is 127; `OutOfMemory` may come at any point.
+/// The first error that holds is answered: `NotJson` if `serde_json` has no reading (the bytes are not UTF-8,
+/// nest deeper than 127, or go on after the value), `NotWhole` if a number is not whole or is outside
+/// -2^63 to 2^64 - 1, `TooDeep` if the depth is 127; `OutOfMemory` may come at any point.
 ///
 /// ```text
 /// read_doc(alloc, b"{\"a\":1}")  // an object with one name
@@ -41,9 +41,9 @@ pub fn read_doc(alloc: Global, bytes: &[u8]) -> Result<Doc, ReadFault>
 
 /// The documents that stand in one JSON array (RFC 8259), as `jq -s .` makes it from several texts.
 ///
-/// The first fault that holds is answered: `NotJson` where `serde_json` has no reading (the bytes are not UTF-8,
-/// nest deeper than 127, or go on after the value), `NotWhole` where a number is not whole or is outside
-/// -2^63 to 2^64 - 1, `NotAnArray` where the value is something else; `OutOfMemory` may come at any point.
+/// The first error that holds is answered: `NotJson` if `serde_json` has no reading (the bytes are not UTF-8,
+/// nest deeper than 127, or go on after the value), `NotWhole` if a number is not whole or is outside
+/// -2^63 to 2^64 - 1, `NotAnArray` if the value is something else; `OutOfMemory` may come at any point.
 ///
 /// ```text
 /// read_docs(alloc, b"[1,{}]")   // two documents

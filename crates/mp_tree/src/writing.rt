@@ -9,7 +9,7 @@ use serde_json::{Value, to_string};
 use std::alloc::{AllocError, Global};
 
 /// The compact text of a document: no white space, the names of each object in the order of their UTF-8 bytes.
-/// `AllocError` where memory ran out.
+/// `AllocError` if memory ran out.
 ///
 /// ```text
 /// write_doc(alloc, &doc)  // {"a":null,"b":1}
@@ -26,7 +26,7 @@ pub fn write_doc(alloc: Global, doc: &Doc) -> Result<String, AllocError>
 }
 
 /// The text as a JSON string (RFC 8259 section 7), as it stands in what [`write_doc`] writes: in quotes, with a quote,
-/// a backslash and each control character escaped. `AllocError` where memory ran out.
+/// a backslash and each control character escaped. `AllocError` if memory ran out.
 ///
 /// ```text
 /// write_text(alloc, "a\"b")  // "a\"b", with its backslash

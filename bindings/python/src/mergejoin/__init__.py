@@ -1,7 +1,7 @@
 """JSON Merge Patches (RFC 7396), JSON Patches (RFC 6902) and JSON Pointers (RFC 6901) over texts.
 
 Replicas of one JSON document that exchange merge patches end with the same document, in whatever order each of them receives
-the patches and with any repeats, as long as no two patches clash:
+the patches and with any repeats, as long as no two patches conflict:
 
 >>> import mergejoin
 >>> patches = ['{"author": "Ada"}', '{"title": null}']
@@ -10,15 +10,15 @@ the patches and with any repeats, as long as no two patches clash:
 >>> mergejoin.replay('{"title": "Notes"}', patches[::-1] + patches)
 '{"author":"Ada"}'
 
-Two patches clash where both say something of one place and say different things. The join of patches that do not is one
+Two patches conflict if both say something of one place and say different things. The join of patches that do not is one
 merge patch with the effect of all:
 
 >>> mergejoin.join(patches)
 '{"author":"Ada","title":null}'
 >>> try:
 ...     mergejoin.join(patches + ['{"author": "Bob"}'])
-... except mergejoin.Conflict as clash:
-...     print(clash.first, clash.second, clash.places)
+... except mergejoin.Conflict as conflict:
+...     print(conflict.first, conflict.second, conflict.places)
 0 2 ['/author']
 
 Each document and each patch is a JSON text of its own, a str or bytes of UTF-8. Results are compact, with names in the order
@@ -28,7 +28,7 @@ of their UTF-8 bytes. Numbers are whole, from -2**63 to 2**64 - 1; a text with a
 join(), replay(), merge(), rewrite(), patch() and get() are those of the shared library in this package, whose answers are
 proved; the package itself is tested alone. A call gives up the interpreter's lock while it runs, can't be cancelled, and needs
 256 KiB of stack, which threading.stack_size() should leave. It takes mostly 10 to 100 bytes of memory for each byte that it
-reads, and never more than 360 beside what the answer takes. A JSON Patch may double a document with each copy: bound the texts
+reads, and never more than 360 in addition to what the answer takes. A JSON Patch may double a document with each copy: bound the texts
 of strangers.
 """
 
@@ -43,7 +43,7 @@ __all__ = [
     "MergejoinError", "Conflict", "NoPatches", "Refused", "Malformed", "Missing", "InputError",
 ]
 
-# They are told, and pickled, by the name that users know.
+# They are shown, and pickled, by the name that users know.
 for _it in (Patches, MergejoinError, Conflict, NoPatches, Refused, Malformed, Missing, InputError):
     _it.__module__ = __name__
 del _it

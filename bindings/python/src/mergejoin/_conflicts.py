@@ -1,4 +1,4 @@
-"""All pairs of texts that clash."""
+"""All pairs of texts that conflict."""
 
 from typing import Iterable, List, Optional, Tuple
 
@@ -10,7 +10,7 @@ Pair = Tuple[int, int, List[str]]
 
 
 class _Span:
-    """Some texts that follow one another: their first number, how many, their halves, and their join where there is one."""
+    """Some texts that follow one another: their first number, how many, their halves, and their join if there is one."""
 
     def __init__(self, given: List[bytes], first: int, count: int) -> None:
         self.first, self.count = first, count
@@ -28,15 +28,15 @@ class _Span:
 
 
 def conflicts(texts: Iterable[Given]) -> List[Pair]:
-    """Return all pairs of texts that clash: the numbers of the two, and all places at which they do.
+    """Return all pairs of texts that conflict: the numbers of the two, and all places at which they do.
 
-    The pairs are in order, and the places of each in the order of paths. Where none clash the list is empty.
+    The pairs are in order, and the places of each in the order of paths. If none conflict, the list is empty.
 
     >>> conflicts(['{"a": 1, "b": {"c": 2}}', '{"d": 3}', '{"a": 4, "b": 5}'])
     [(0, 2, ['/a', '/b'])]
 
-    Texts that can be joined are not looked at pair by pair: where few of n texts clash, each is read some log n times.
-    InputError is raised where a text is no document.
+    Texts that can be joined are not looked at pair by pair: if few of n texts conflict, each is read some log n
+    times. InputError is raised if a text is not a document.
     """
     given = all_encoded(texts)
     pairs: List[Pair] = []
@@ -63,9 +63,9 @@ def _across(one: _Span, other: _Span, pairs: List[Pair]) -> None:
         try:
             join([one.joined, other.joined])
             return
-        except Conflict as clash:
+        except Conflict as conflict:
             if one.halves is None and other.halves is None:
-                pairs.append((one.first, other.first, clash.places))
+                pairs.append((one.first, other.first, conflict.places))
                 return
     if one.halves is not None and one.count >= other.count:
         for half in one.halves:

@@ -12,10 +12,10 @@ class MergejoinError(Exception):
 
 
 class Conflict(MergejoinError):
-    """Two patches clash: both say something of one place, and say different things.
+    """Two patches conflict: both say something of one place, and say different things.
 
-    first and second are the numbers of the two: second is the least number of a patch that clashes with an earlier one, and
-    first the least of those. places are all places at which these two clash, as JSON Pointers, in the order of paths.
+    first and second are the numbers of the two: second is the least number of a patch that conflicts with an earlier one,
+    and first the least of those. places are all places at which these two conflict, as JSON Pointers, in the order of paths.
 
     Patches.text() keeps no numbers, so there they are None.
     """
@@ -29,8 +29,8 @@ class Conflict(MergejoinError):
         self.first, self.second, self.places = first, second, places
 
     def __str__(self) -> str:
-        which = "patches" if self.first is None else f"patches {self.first} and {self.second}"
-        return f"{which} clash at {json.dumps(self.places, ensure_ascii=False)}"
+        which = "two patches" if self.first is None else f"patches {self.first} and {self.second}"
+        return f"conflict: {which} at " + ", ".join(json.dumps(place, ensure_ascii=False) for place in self.places)
 
 
 class NoPatches(MergejoinError):
@@ -58,9 +58,9 @@ class Refused(MergejoinError):
 
 
 class Malformed(MergejoinError):
-    """What is given as a JSON Patch is a document, but no JSON Patch.
+    """What is given as a JSON Patch is a document, but not a JSON Patch.
 
-    cause is "not an array", and operation 0; or operation is the number of what is no operation, and cause "not an object",
+    cause is "not an array", and operation 0; or operation is the number of what is not an operation, and cause "not an object",
     "no op", "unknown op", "no path", "no from", "bad pointer" or "no value".
     """
 
@@ -72,7 +72,7 @@ class Malformed(MergejoinError):
         self.operation, self.cause = operation, cause
 
     def __str__(self) -> str:
-        return f"form of operation {self.operation}: {self.cause}"
+        return self.cause if self.cause == "not an array" else f"operation {self.operation}: {self.cause}"
 
 
 class Missing(MergejoinError, LookupError):
@@ -83,7 +83,7 @@ class Missing(MergejoinError, LookupError):
 
 
 class InputError(MergejoinError, ValueError):
-    """What is given is no document, no patch or no pointer.
+    """What is given is not a document, not a patch or not a pointer.
 
     what is "document", "patch" or "pointer". number is that of the patch, and of a pointer the offset in bytes at which it
     goes wrong; of a document it is 0.
@@ -91,10 +91,10 @@ class InputError(MergejoinError, ValueError):
     why is "not JSON", "number not whole" (whole numbers from -2**63 to 2**64 - 1 are) or "too deep" (126 levels are not); of
     a pointer it is "no slash", "bad tilde" or "not UTF-8".
 
-    place is the JSON Pointer of the value at fault, where mergejoin.objects found it before the call, and else None. There
+    place is the JSON Pointer of the value that is wrong, if mergejoin.objects found it before the call, and else None. Then
     why may be "name not text" too, of the object at that place.
 
-    key is that of the patch, where mergejoin.dask met it, and else None.
+    key is that of the patch, if mergejoin.dask met it, and else None.
     """
 
     what: str
@@ -109,8 +109,8 @@ class InputError(MergejoinError, ValueError):
 
     def __str__(self) -> str:
         if self.what == "pointer":
-            return f"pointer: {self.why} at {self.number}"
+            return f"pointer: {self.why}" + ("" if self.why == "no slash" else f" at {self.number}")
         if self.key is not None:
-            return f"a patch of {self.key!r}: {self.why}"
+            return f"patch of {self.key!r}: {self.why}"
         which = f"patch {self.number}" if self.what == "patch" else self.what
         return f"{which}: {self.why}" + ("" if self.place is None else f" at {json.dumps(self.place, ensure_ascii=False)}")

@@ -1,4 +1,4 @@
-"""The shared library: its types and functions as mergejoin.h declares them, and calls with a room for the answer."""
+"""The shared library: its types and functions as mergejoin.h declares them, and calls with a buffer for the answer."""
 
 import ctypes
 import enum
@@ -10,7 +10,7 @@ from ._errors import Conflict, InputError, Malformed, Missing, NoPatches, Refuse
 
 
 class Status(enum.IntEnum):
-    """What a text in the room is."""
+    """What a text in the buffer is."""
 
     RESULT = 0
     CONFLICT = 1
@@ -25,23 +25,23 @@ class Status(enum.IntEnum):
 
 
 class Text(ctypes.Structure):
-    """A text that is lent to a call."""
+    """A text that a call borrows."""
 
     _fields_ = [("bytes", ctypes.c_char_p), ("length", ctypes.c_size_t)]
 
 
 class Reply(ctypes.Structure):
-    """What a call answers beside the text in the room."""
+    """What a call returns in addition to the text in the buffer."""
 
     _fields_ = [("length", ctypes.c_size_t), ("first", ctypes.c_size_t), ("second", ctypes.c_size_t),
                 ("status", ctypes.c_uint32)]
 
 
-# What a function reads, in the header's order: a text with its length, or an array of texts with their number. Behind them
-# come the room and its size.
+# What a function reads, in the header's order: a text with its length, or an array of texts with their number. After them
+# come the buffer and its capacity.
 _TEXT = [ctypes.c_char_p, ctypes.c_size_t]
 _TEXTS = [ctypes.POINTER(Text), ctypes.c_size_t]
-_ROOM = [ctypes.c_void_p, ctypes.c_size_t]
+_BUFFER = [ctypes.c_void_p, ctypes.c_size_t]
 
 # Of a CDLL a call gives up the interpreter's lock while it runs.
 _LIBRARY = ctypes.CDLL(os.path.join(os.path.dirname(os.path.abspath(__file__)), "libmergejoin.so.0"))
@@ -52,7 +52,7 @@ _Call = Callable[..., Reply]
 
 def _declared(name: str, reads: Sequence[object]) -> _Call:
     function = getattr(_LIBRARY, f"mergejoin_{name}")
-    function.argtypes, function.restype = [*reads, *_ROOM], Reply
+    function.argtypes, function.restype = [*reads, *_BUFFER], Reply
     return function  # type: ignore[no-any-return]
 
 
@@ -65,7 +65,7 @@ GET = _declared("get", [*_TEXT, *_TEXT])
 
 
 def encoded(text: Given) -> bytes:
-    """Gives a text as the library reads it. Half of a surrogate pair becomes bytes that the library refuses as no text."""
+    """Gives a text as the library reads it. Half of a surrogate pair becomes bytes that the library refuses: they are not UTF-8."""
     if isinstance(text, str):
         return text.encode("utf-8", "surrogatepass")
     if isinstance(text, bytes):
@@ -73,7 +73,7 @@ def encoded(text: Given) -> bytes:
     raise TypeError(f"a text is a str or bytes, not {type(text).__name__}")
 
 
-def lent(texts: Sequence[bytes]) -> "ctypes.Array[Text]":
+def borrowed(texts: Sequence[bytes]) -> "ctypes.Array[Text]":
     """Gives texts as an array, which keeps them."""
     return (Text * len(texts))(*[(text, len(text)) for text in texts])  # type: ignore[misc]  # ctypes makes a Text of each
 
@@ -81,42 +81,42 @@ def lent(texts: Sequence[bytes]) -> "ctypes.Array[Text]":
 def called(call: _Call, *given: Union[bytes, Sequence[bytes]]) -> str:
     """Calls with texts, and with lists of them, and gives the text of the result, or raises why there is none.
 
-    The room is as long as all that is read; where that is too short it is made anew, and the call is made again.
+    The buffer is as long as all that is read. If that is too short, a longer one is made, and the call is made again.
     """
-    words: List[Any] = []
+    arguments: List[Any] = []
     size = 64
     for it in given:
         if isinstance(it, bytes):
-            words += [it, len(it)]
+            arguments += [it, len(it)]
             size += len(it)
         else:
-            words += [lent(it), len(it)]
+            arguments += [borrowed(it), len(it)]
             size += sum(map(len, it))
     while True:
-        room = bytearray(size)  # stays where it is, since nothing else sees it
-        reply = call(*words, ctypes.addressof(ctypes.c_char.from_buffer(room)), size)
+        buffer = bytearray(size)  # stays where it is, since nothing else sees it
+        reply = call(*arguments, ctypes.addressof(ctypes.c_char.from_buffer(buffer)), size)
         if reply.length <= size:
             break
         size = reply.length
-    text = str(memoryview(room)[:reply.length], "utf-8")
+    text = str(memoryview(buffer)[:reply.length], "utf-8")
     if reply.status != Status.RESULT:
         raise_for(reply, text)
     return text
 
 
-_ONE = Text * 1  # kept, since ctypes makes the type of an array anew where none is
-_NO_ROOM = bytearray(1)
+_ONE = Text * 1  # kept, since ctypes makes the type of an array anew if none is
+_NO_BUFFER = bytearray(1)
 
 
 def read(text: bytes) -> None:
-    """Raises what is wrong with a text that is no patch, and writes no answer of one that is."""
-    nowhere = ctypes.addressof(ctypes.c_char.from_buffer(_NO_ROOM))
-    if JOIN(lent([text]), 1, nowhere, 0).status != Status.RESULT:
+    """Raises what is wrong with a text that is not a patch, and writes no answer of one that is."""
+    nowhere = ctypes.addressof(ctypes.c_char.from_buffer(_NO_BUFFER))
+    if JOIN(borrowed([text]), 1, nowhere, 0).status != Status.RESULT:
         called(JOIN, [text])
 
 
 def raise_for(reply: Reply, text: str) -> NoReturn:
-    """Raises what a reply without a result tells."""
+    """Raises the error that a reply without a result reports."""
     if reply.status == Status.CONFLICT:
         raise Conflict(reply.first, reply.second, json.loads(text))
     if reply.status == Status.NO_PATCHES:

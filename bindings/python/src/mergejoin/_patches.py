@@ -25,8 +25,8 @@ class Patches:
     >>> one.text()
     '{"author":"Ada","title":null}'
 
-    That two patches clash is no end of it: such a Patches still takes patches, and reads them, so that a text which is none
-    raises InputError in every order. It is text() that raises Conflict, in each order too:
+    If two patches conflict, a Patches still takes patches, and reads them, so that a text which is not a patch raises
+    InputError in every order. It is text() that raises Conflict, in each order too:
 
     >>> one.add('{"author": "Bob"}')
     >>> one.add('{"author": ')
@@ -34,7 +34,7 @@ class Patches:
     mergejoin.InputError: patch 0: not JSON
     >>> one.text()
     Traceback (most recent call last):
-    mergejoin.Conflict: patches clash at ["/author"]
+    mergejoin.Conflict: conflict: two patches at "/author"
 
     It pickles as one text, and copies: give it to a process or keep it in a file. The texts since are joined with the join
     so far once they are as long as it, and have 1 kB: each patch costs about the same, however many there are. A Patches is
@@ -47,12 +47,12 @@ class Patches:
         self._joined: Optional[bytes] = None
         self._since: List[bytes] = []
         self._length = 0  # of the texts since
-        self._places: Optional[List[str]] = None  # where two clash, of which nothing else is kept
+        self._places: Optional[List[str]] = None  # where two conflict, of which nothing else is kept
 
     def add(self, text: Given) -> None:
         """Take one more merge patch.
 
-        Where it is no document InputError is raised, and this stays as it was. Where memory runs out, it may be taken or
+        If it is not a document, InputError is raised, and this stays as it was. If memory runs out, it may be taken or
         not: add it again, since a repeat changes nothing.
         """
         given = encoded(text)
@@ -62,7 +62,7 @@ class Patches:
     def add_all(self, other: "Patches") -> None:
         """Take all that another Patches was given, which stays as it is."""
         if self._places is None and other._places is not None:
-            self._clash(other._places)
+            self._conflict(other._places)
         if other._joined is not None:
             self._take(other._joined)
         for text in list(other._since):
@@ -71,9 +71,9 @@ class Patches:
     def text(self) -> str:
         """Return the join of all patches that were given, as join() does.
 
-        Where there are none NoPatches is raised, and where two clash Conflict: with the places at which this was seen
+        If there are none, NoPatches is raised, and if two conflict, Conflict: with the places at which this was seen
         first, which may be others in another order, and without the numbers of the two, which no join knows. Give the
-        texts themselves to conflicts(), which tells all pairs and their places.
+        texts themselves to conflicts(), which returns all pairs and their places.
         """
         self._join()
         if self._places is not None:
@@ -96,10 +96,10 @@ class Patches:
         try:
             self._joined = called(_library.JOIN, texts).encode("utf-8")
             self._since, self._length = [], 0
-        except Conflict as clash:
-            self._clash(clash.places)
+        except Conflict as conflict:
+            self._conflict(conflict.places)
 
-    def _clash(self, places: List[str]) -> None:
+    def _conflict(self, places: List[str]) -> None:
         self._joined, self._since, self._length, self._places = None, [], 0, places
 
     def __reduce__(self) -> Tuple[type, Tuple[()], str]:
@@ -109,8 +109,8 @@ class Patches:
         return type(self), (), (self._joined or b"").decode("utf-8")
 
     def __setstate__(self, state: str) -> None:
-        """Takes the text that it was pickled as: the join; nothing of no patches; or the places of a clash behind a "!"."""
+        """Takes the text that it was pickled as: the join; nothing of no patches; or the places of a conflict after a "!"."""
         if state.startswith("!"):
-            self._clash(json.loads(state[1:]))
+            self._conflict(json.loads(state[1:]))
         elif state:
             self._joined = state.encode("utf-8")

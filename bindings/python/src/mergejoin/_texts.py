@@ -22,7 +22,7 @@ def join(texts: Iterable[Given]) -> str:
     '{"author":"Ada","title":null}'
     >>> join(['{"author": "Ada"}', '{"title": null}', '{"author": "Bob"}'])
     Traceback (most recent call last):
-    mergejoin.Conflict: patches 0 and 2 clash at ["/author"]
+    mergejoin.Conflict: conflict: patches 0 and 2 at "/author"
 
     InputError is looked for first, then NoPatches and Conflict.
     """
@@ -32,7 +32,7 @@ def join(texts: Iterable[Given]) -> str:
 def replay(start: Given, texts: Iterable[Given]) -> str:
     """Return the document that merge patches make of start, in any order and with any repeats.
 
-    Of no patches it is the start. Unlike merge() it refuses patches that clash.
+    Of no patches it is the start. Unlike merge() it refuses patches that conflict.
 
     >>> replay('{"title": "Notes"}', ['{"author": "Ada"}', '{"title": null}'])
     '{"author":"Ada"}'
@@ -43,9 +43,9 @@ def replay(start: Given, texts: Iterable[Given]) -> str:
 
 
 def merge(document: Given, texts: Iterable[Given]) -> str:
-    """Return the document after merge patches, each applied to what those before it left.
+    """Return the document after merge patches, each applied to what the earlier ones left.
 
-    Where two clash, their order decides.
+    If two conflict, their order decides.
 
     >>> merge('{"title": "Notes"}', ['{"title": "Draft"}', '{"title": "Book"}'])
     '{"title":"Book"}'

@@ -4,9 +4,9 @@
 >>> objects.replay({"title": "Notes"}, [{"author": "Ada"}, {"title": None}])
 {'author': 'Ada'}
 
-A tuple is an array too. What is no document is refused before the call, by an InputError that has its place: a float, also
-a whole one, and an int out of -2**63 to 2**64 - 1 as "number not whole"; a dict with a key that is no str as "name not
-text"; 127 levels and more, as of what holds itself, as "too deep"; and all else, as bytes or half of a surrogate pair, as
+A tuple is an array too. What is not a document is refused before the call, by an InputError that has its place: a float,
+also a whole one, and an int out of -2**63 to 2**64 - 1 as "number not whole"; a dict with a key that is not a str as "name
+not text"; 127 levels and more, as of what contains itself, as "too deep"; and all else, as bytes or half of a surrogate pair, as
 "not JSON".
 
 >>> objects.join([{"price": 5}, {"items": [{"price": 9.5}]}])
@@ -101,7 +101,7 @@ def _written(value: object, what: str, number: int = 0) -> str:
 
 
 def _fault(value: object, level: int) -> Optional[Tuple[str, List[str]]]:
-    """Gives what is wrong with a value that stands at a level, and the steps to there, the last first, or nothing."""
+    """Gives what is wrong with a value at a level, and the steps to there, the last first, or nothing."""
     if value is None or isinstance(value, bool):
         return None
     if isinstance(value, str):

@@ -4,19 +4,19 @@ use Rattle.std.specs.declared.alloc.AllocError.{AllocError}
 use Rattle.mp_merge.specs.declared.fault.ListFault.{ListFault}
 use Rattle.mp_merge.specs.declared.fault.ListFault.TheVariants.{NoPatches, ConflictOf}
 use Rattle.mp_cli.specs.Answered.{answered_by}
-use Rattle.mp_cli.specs.Lines.{Answered, conflict_line, no_patches}
+use Rattle.mp_cli.specs.Lines.{Output, conflict_line, no_patches}
 use Rattle.mp_cli.specs.declared.answers.Answer.{Answer}
 
 -- why a list has no join, or can't be replayed
-abbrev pub list_fault : ListFault → Option Answered
+abbrev pub list_fault : ListFault → Option Output
 list_fault NoPatches = Some no_patches
 list_fault (ConflictOf first second places) = Some (conflict_line first second places.items)
 list_fault ListFault.OutOfMemory = None
 
 -- the call gives that answer
-abbrev pub Gives : Result Answer AllocError → Answered → Type 0
+abbrev pub Gives : Result Answer AllocError → Output → Type 0
 Gives result expected = IfOk result (λ a. answered_by a ≡ expected)
 
--- it gives the line of a fault, where that has one
-abbrev pub GivesLine : Result Answer AllocError → Option Answered → Type 0
+-- it gives the line of an error, if that has one
+abbrev pub GivesLine : Result Answer AllocError → Option Output → Type 0
 GivesLine result expected = IfOk result (λ a. expected ≡ Some (answered_by a))

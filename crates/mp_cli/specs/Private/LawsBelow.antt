@@ -15,7 +15,7 @@ pub record PointerLaws : Type 0 where
   pub one_spelling : pointer.HasOneSpelling
   pub spells_or_is_faulty : pointer.SpellsOrIsFaulty
   pub spelling_unfaulty : pointer.SpellingsHaveNoFault
-  pub one_fault : pointer.HasOneFault
+  pub one_fault : pointer.HasOnePointerFault
 
 -- of JSON Patches
 pub record PatchLaws : Type 0 where
@@ -23,7 +23,7 @@ pub record PatchLaws : Type 0 where
   pub form_or_faulty : patch.IsFormOrFaulty
   pub form_documents : patch.FormsHaveDocuments
   pub form_unfaulty : patch.FormsHaveNoFault
-  pub one_fault : patch.HasOneFault
+  pub one_fault : patch.HasOneFormFault
   pub shapes : patch.ShapesAreForms
   pub readable_shapes : patch.ShapesAreReadable
   pub one_end : patch.HasOneEnd
@@ -38,9 +38,9 @@ pub record MergeLaws : Type 0 where
   pub one_outcome : merge.HasOneOutcome
   pub outcome_exists : merge.OutcomeExists
   pub replicas_agree : merge.ReplicasAgree
-  pub compatible_or_told : merge.CompatibleOrTold
-  pub told_is_incompatible : merge.CompatibleHaveNone
-  pub one_told_pair : merge.HasOneToldPair
+  pub compatible_or_reported : merge.CompatibleOrReported
+  pub reported_is_incompatible : merge.CompatibleHaveNone
+  pub one_reported_pair : merge.HasOneReportedPair
   pub none_has_no_join : merge.EmptyHasNoJoin
   pub one_join : merge.HasOneJoin
   pub join_exists : merge.JoinExists

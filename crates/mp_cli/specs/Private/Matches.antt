@@ -1,4 +1,4 @@
--- What is known of the matches of a line that took its words. Only private clauses cite it.
+-- What is known of the matches of a line that took its arguments. Only private clauses cite it.
 use Rattle.std.specs.Prelude.{◌≡◌, ◌⊎◌, List, [], ◌∷◌, Option, None, Some, IfSome, true, codes, is_some, map}
 use Rattle.clap.specs.Words.{Row, Text, first_of}
 use Rattle.mp_cli.specs.CommandLine.{subcommands}
@@ -13,7 +13,7 @@ abbrev pub IsSubcommand : Option Text → Type 0
 IsSubcommand None = ⊥
 IsSubcommand (Some name) = IsOneOf (map (λ s. s.name) subcommands) name
 
--- where the subcommand is `get`, its word was given
+-- if the subcommand is `get`, its argument was given
 abbrev pub HasPointer : Option (Text × List Row) → Type 0
 HasPointer entered =
     IfSome entered (λ e. e.0 ≡ codes "get" → is_some (first_of (codes "POINTER") e.1) ≡ true)

@@ -52,7 +52,7 @@ impl<T: Read> Counted<T> {
 }
 
 impl<T: Write> Counted<T> {
-    /// One write of the device. Where it takes none of at least one byte, it failed.
+    /// One write of the device. If it takes none of at least one byte, it failed.
     pub(crate) fn write(&mut self, text: &[u8]) -> io::Result<usize>
         requires calls_fit { calls_of self.old + 1 < 2 ^ 64 }
         requires bytes_fit { bytes_of self.old + length text.now < 2 ^ 64 }

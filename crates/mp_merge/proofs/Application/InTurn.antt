@@ -15,9 +15,9 @@ use Rattle.mp_merge.proofs.Clashes.Exchange.{Agree, quiet_first, quiet_second, s
 use Rattle.mp_merge.proofs.Outcome.{follows_from_outcome, outcome_from_follows}
 use Rattle.mp_merge.proofs.Application.Looks.{says, or_else, look-merge_patch}
 
--- what a patch told before stays where a compatible one comes after it
-still_told : (q p e : Document) (w : Path) (l : Look) → Compatible q p → says q w ≡ Some l → look e w ≡ l → or_else (says p w) (look e w) ≡ l
-still_told q p e w l free is here = by (says-agree q p free w)
+-- what a patch said before stays if a compatible one comes after it
+still_said : (q p e : Document) (w : Path) (l : Look) → Compatible q p → says q w ≡ Some l → look e w ≡ l → or_else (says p w) (look e w) ≡ l
+still_said q p e w l free is here = by (says-agree q p free w)
   where
     by : Agree (says q w) (says p w) → or_else (says p w) (look e w) ≡ l
     by (quiet_first quiet) = absurd (let differ = sym quiet ∙ is in cc)
@@ -30,8 +30,8 @@ one_more : (d : Document) (patches : List Document) (e p : Document) → IsDocum
 one_more d patches e p good patch free outcome =
     let before = follows_from_outcome d patches e outcome in
     outcome_from_follows d (patches ++ p ∷ []) (merge_patch (Some e) p) (record {
-      told = λ q at w l is. look-merge_patch (Some e) p w good patch ∙ elim (Contains-append_cases patches (p ∷ []) q at) [
-        | inl early ↦ still_told q p e w l (free q early) is (before.told q early w l is)
+      reported = λ q at w l is. look-merge_patch (Some e) p w good patch ∙ elim (Contains-append_cases patches (p ∷ []) q at) [
+        | inl early ↦ still_said q p e w l (free q early) is (before.reported q early w l is)
         | inr last ↦ ap (λ s. or_else s (look e w)) (ap (λ x. says x w) (Contains-one p q last) ∙ is)
       ];
       kept = λ w quiet. look-merge_patch (Some e) p w good patch ∙ ap (λ s. or_else s (look e w)) (quiet p (Contains-append_right patches (p ∷ []) p (Contains-head p [])))

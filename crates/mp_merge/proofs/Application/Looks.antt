@@ -31,7 +31,7 @@ part_says None w = None
 part_says (Some p) [] = Some (said_here p)
 part_says (Some p) (n ∷ w) = part_says (carried n p) w
 
--- the look that the result has at the path, or none where the patch leaves the path alone
+-- the look that the result has at the path, or none if the patch leaves the path alone
 abbrev pub says : Document → Path → Option Look
 says p [] = Some (look_here p)
 says p (n ∷ w) = part_says (carried n p) w
@@ -76,7 +76,7 @@ look-merge_patch t (object ps) (n ∷ w) target good = look-merge_patch_members 
 look-merge_patch t p [] target good = refl
 look-merge_patch t p (n ∷ w) target good = sym (ap (λ s. or_else s (look_of t (n ∷ w))) (clears w))
 
--- ---- what a patch says where it has something
+-- ---- what a patch says if it has something
 
 -- what the look of a patch leaves in the result
 abbrev pub left_of : Look → Path → Look
@@ -110,7 +110,7 @@ pub says-below : (p : Document) (u : Path) (n : List ℕ) (rest : Path) (v : Doc
 says-below p [] n rest v is = part_says-below [] n rest (Some p) v is
 says-below p (m ∷ u) n rest v is = part_says-below (m ∷ u) n rest (Some p) v is
 
--- ---- where a patch speaks
+-- ---- if a patch speaks
 
 -- a value of the patch that is no map stands above the path
 pub record IsBelowPlain (p : Option Document) (w : Path) : Type 0 where

@@ -62,7 +62,7 @@ changed_resumes n p ts map good = record {
   here = ap (λ t. merge_patch t p) (find-set_or_remove n n p (merge_patch (find n ts) p) ts map ∙ ap (λ b. cond b (unless_null p (merge_patch (find n ts) p)) (find n ts)) (is_name-self n)) ∙ changed_once (find n ts) p (IsDocument-find n ts map) good;
 }
 
--- so it is where the value at the name is another one from which the patch's value gives the same
+-- so it is if the value at the name is another one from which the patch's value gives the same
 pub set_resumes : (n : List ℕ) (p d : Document) (ts us : Members) → us ≡ put n d ts → merge_patch (Some d) p ≡ merge_patch (find n ts) p → ResumesAt n p ts us
 set_resumes n p d ts us is same = record {
   others = λ m other. ap (find m) is ∙ find-put m n d ts ∙ ap (λ b. cond b (Some d) (find m ts)) other;
@@ -94,7 +94,7 @@ IsAmong left all = (q : List ℕ) (x : Document) → find q left ≡ Some x → 
 abbrev IsUntouched : Members → Members → Members → Type 0
 IsUntouched left before now = (q : List ℕ) (x : Document) → find q left ≡ Some x → find q now ≡ find q before
 
--- a name that is left behind the first is another one
+-- a name that is left after the first is another one
 left_is_other : (n q : List ℕ) (p x : Document) (left : Members) → IsBelow n left → find q left ≡ Some x → (is_name q n ≡ false) × (find q (member n p left) ≡ Some x)
 left_is_other n q p x left below found =
     cases_same q n
@@ -126,7 +126,7 @@ module _ {before all now left : Members} {n : List ℕ} {p : Document} (map : Is
         untouched = λ q x found. resumes.others q (other q x found).0 ∙ on.untouched q x (other q x found).1;
       }
 
-  -- where no value of the patch takes memory, the next one takes none
+  -- if no value of the patch takes memory, the next one takes none
   pub needs_none_next : NeedsNoneIn all before → NeedsNoneAt p (find n now)
   needs_none_next needs = subst (NeedsNoneAt p) (sym (on.untouched n p (find-here n p left))) (needs n p carried)
 

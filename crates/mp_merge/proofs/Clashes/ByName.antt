@@ -14,7 +14,7 @@ use Rattle.mp_merge.specs.Private.Edits.{NotBothMaps}
 abbrev IsNoMap : Document → Type 0
 IsNoMap d = look_here d ≡ plain d
 
--- a `Doc` that is no object
+-- a `Doc` that is not an object
 abbrev NoMapUnless : Doc → Type 0
 NoMapUnless d = ((m : BTreeMap (String Global) Doc) → d ≡ Map m → ⊥) → IsNoMap (document d)
 
@@ -70,7 +70,7 @@ clash_of ps qs n w clash = (clash.first, clash.second, clash.differ)
 pub clash_from : (ps qs : Members) (n : List ℕ) (w : Path) → ClashOf (find n ps) (find n qs) w → Clash (object ps) (object qs) (n ∷ w)
 clash_from ps qs n w clash = record { first = clash.0; second = clash.1; differ = clash.2 }
 
--- the first name may be passed where nothing clashes under it
+-- the first name may be passed if nothing clashes under it
 pass_first : (n : List ℕ) (p : Document) (ps qs : Members) → IsMap (member n p ps) → ((w : Path) → ClashOf (Some p) (find n qs) w → ⊥) → SameClashes (member n p ps) qs ps qs
 pass_first n p ps qs map none [] = (λ clash. absurd (clash.differ refl), λ clash. absurd (clash.differ refl))
 pass_first n p ps qs map none (m ∷ w) = cases_same m n
@@ -102,13 +102,13 @@ clash_under n p q ps qs w is clash =
     let there : ClashOf (Some p) (Some q) w = (clash.first, clash.second, clash.differ) in
     clash_from (member n p ps) qs n w (subst (λ o. ClashOf o (find n qs) w) (sym (find-here n p ps)) (subst (λ o. ClashOf (Some p) o w) (sym is) there))
 
--- where nothing clashes under the first name, the clashes with all the members are those with the members behind it
+-- if nothing clashes under the first name, the clashes with all the members are those with the members after it
 pub same_behind : {n : List ℕ} {p : Document} {ps qs left now : Members} → NoClashUnder p (find n now) → IsMap (member n p left) → SameClashes ps qs (member n p left) now → SameClashes ps qs left now
 same_behind {n = n} {p = p} {left = left} {now = now} none map same w =
     let later = pass_first n p left now map none w in
     (λ clash. later.0 ((same w).0 clash), λ clash. (same w).1 (later.1 clash))
 
--- ---- where the other is set at a name that is not left
+-- ---- if the other is set at a name that is not left
 
 set_aside : (n : List ℕ) (d : Document) (left now : Members) → find n left ≡ None → SameClashes left now left (put n d now)
 set_aside n d left now absent [] = (λ clash. absurd (clash.differ refl), λ clash. absurd (clash.differ refl))
@@ -133,7 +133,7 @@ same_set {n = n} {p = p} {left = left} {now = now} d free map same w =
     let aside = set_aside n d left now (find-below n left map.1) w in
     (λ clash. aside.0 (behind.0 clash), λ clash. behind.1 (aside.1 clash))
 
--- where all are compatible, so is what stands at the first name
+-- if all are compatible, so is what is at the first name
 pub compatible_first : {n : List ℕ} {p : Document} {ps qs left now : Members} → SameClashes ps qs (member n p left) now → Compatible (object ps) (object qs) → IfSome (find n now) (Compatible p)
 compatible_first {n = n} {p = p} {left = left} {now = now} same free = at (find n now) refl
   where
@@ -141,7 +141,7 @@ compatible_first {n = n} {p = p} {left = left} {now = now} same free = at (find 
     at None is = tt
     at (Some q) is = λ w clash. free (n ∷ w) ((same (n ∷ w)).1 (clash_under n p q left now w is clash))
 
--- where none are left, all are compatible
+-- if none are left, all are compatible
 pub compatible_all : {ps qs now : Members} → SameClashes ps qs no_members now → Compatible (object ps) (object qs)
 compatible_all same [] clash = clash.differ refl
 compatible_all same (n ∷ w) clash = ((same (n ∷ w)).0 clash).first refl

@@ -43,7 +43,7 @@ at_root_alone : (p q : Document) → NotBothMaps p (Some q) → (w : Path) → C
 at_root_alone p q never [] clash = refl
 at_root_alone p q never (n ∷ w) clash = absurd (never (object_above [] n w (Some p) clash.0) (object_above [] n w (Some q) clash.1))
 
--- the paths that the walk has found, each behind the path at which it began
+-- the paths that the walk has found, each after the path at which it began
 record Found (s : Path) (p : Document) (q : Option Document) (places : List Path) : Type 0 where
   paths : List Path
   lists : Lists (ClashOf (Some p) q) paths

@@ -72,7 +72,7 @@ same_if_compatible d p q good first second free =
     (equal_looks (mp_both d p q) (mp_both d q p) (IsDocument-mp_both d p q good first second) (IsDocument-mp_both d q p good second first)).1 (λ w.
     look-mp_both d p q good first second w ∙ swap (says p w) (says q w) (look d w) (says-agree p q free w) ∙ sym (look-mp_both d q p good second first w))
 
--- ---- where both have something, the second wins
+-- ---- if both have something, the second wins
 
 second_wins : (d p q : Document) → IsDocument d → IsDocument p → IsDocument q → (w : Path) → look q w ≢ nothing → look (mp_both d p q) w ≡ left_of (look q w) w
 second_wins d p q good first second w here =

@@ -17,6 +17,6 @@ module _ {S X : Type 0} (add : S → List X → S) (add_none : (s : S) → add s
       let added = whole_rest (grew.0 ++ rest) (both grew.0 rest grew.2 others) in
       (added.0, ap (λ s. add s rest) grew.1 ∙ add_both now grew.0 rest ∙ added.1, added.2)
 
-  -- where nothing is still to be added
+  -- if nothing is still to be added
   pub grew_by_all : (before now : S) (Whole : List X → Type 0) → IsRestOf before now (λ rest. rest ≡ []) Whole → GrewBy add before now Whole
   grew_by_all before now Whole rest = let added = rest [] refl in (added.0, sym (add_none now) ∙ added.1, added.2)

@@ -27,7 +27,7 @@ module _ {es left : List (String Global × Doc)} {name : String Global} {change 
       let first : members es ≡ member (string_bytes name) (document change) (members left) = ap members steps ∙ members-cons (name, change) left whole in
       record { ascends = whole.1; map = subst IsMap first (IsMap-members es); holds = subst Holds first there.holds }
 
-  -- where what holds of it and those behind it gives what is to hold of those alone
+  -- if what holds of it and those after it gives what is to hold of those alone
   pub pass_change : {Later : Members → Type 0} → ChangesLeft es Holds → es ≡ (name, change) ∷ left
       → (IsMap (member (string_bytes name) (document change) (members left)) → Holds (member (string_bytes name) (document change) (members left)) → Later (members left)) → ChangesLeft left Later
   pass_change there steps gives = let next = next_change there steps in record { ascends = next.ascends; holds = gives next.map next.holds }

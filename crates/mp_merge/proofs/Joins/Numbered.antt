@@ -9,7 +9,7 @@ use Rattle.mp_tree.specs.View.{document}
 use Rattle.mp_tree.specs.declared.doc.Doc.{Doc}
 use Rattle.mp_merge.specs.Clash.{Compatible}
 use Rattle.mp_merge.specs.Join.{IsJoin}
-use Rattle.mp_merge.specs.Lists.{CompatibleBelow, IsClashBelow, IsToldPair}
+use Rattle.mp_merge.specs.Lists.{CompatibleBelow, IsClashBelow, IsReportedPair}
 use Rattle.mp_merge.specs.Private.Clashes.{IsFreeBelow}
 use Rattle.mp_merge.specs.Private.Unions.{union}
 use Rattle.mp_merge.proofs.Clashes.ByName.{compatible-sym}
@@ -54,9 +54,9 @@ below_contains patches k p within at =
     let is : p ≡ get_or patches at.0 p = sym at.2 ∙ get_or-take k patches at.0 p less in
     (at.0, less, slice_get_read patches (length patches) at.0 p refl (omega (arith, less)) is)
 
--- where those below have a join, the first that clashes is told
-pub told_pair : (patches : List Document) (first second : ℕ) (places : List Path) (j : Document) → second < length patches → IsJoin (take second patches) j → IsClashBelow patches first second places → IsToldPair patches first second places
-told_pair patches first second places j within joined clash = record {
+-- if those below have a join, the first that clashes is reported
+pub reported_pair : (patches : List Document) (first second : ℕ) (places : List Path) (j : Document) → second < length patches → IsJoin (take second patches) j → IsClashBelow patches first second places → IsReportedPair patches first second places
+reported_pair patches first second places j within joined clash = record {
   clash = clash;
   least_second = λ k q below at_k i p less at_i. compatible_from_join (take second patches) j joined p q (contains_below patches second i p (omega arith) (omega arith) at_i) (contains_below patches second k q below (omega arith) at_k);
 }

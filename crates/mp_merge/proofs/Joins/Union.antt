@@ -48,12 +48,12 @@ pub union_with-absent : (p : Document) → union_with p None ≡ p
 union_with-absent (object ps) = refl
 union_with-absent p = refl
 
--- a patch that is no object has no effect on what was joined before
+-- a patch that is not an object has no effect on what was joined before
 union_with-plain : (p j : Document) → look_here p ≡ plain p → union_with p (Some j) ≡ j
 union_with-plain (object ps) j is = absurd (cc)
 union_with-plain p j is = refl
 
--- what was joined before stays where the patch does not carry the name
+-- what was joined before stays if the patch does not carry the name
 abbrev union_at : Option Document → Option Document → Option Document
 union_at None j = j
 union_at (Some p) j = Some (union_with p j)
@@ -86,7 +86,7 @@ union_members-step n p ps js joined good =
 
 -- ---- at each path
 
--- what was joined before, where it has something
+-- what was joined before, if it has something
 abbrev over : Look → Look → Look
 over nothing m = m
 over an_object m = an_object
@@ -134,7 +134,7 @@ over-right nothing m here same = refl
 over-right an_object m here same = sym (same (λ e. cc))
 over-right (plain v) m here same = sym (same (λ e. cc))
 
--- compatible patches have one look where both have something
+-- compatible patches have one look if both have something
 pub same_where_both : (p q : Document) → Compatible p q → (w : Path) → look p w ≢ nothing → look q w ≢ nothing → look p w ≡ look q w
 same_where_both p q free w first second = same_look (look p w) (look q w) (λ differ. free w (record { first = first; second = second; differ = differ }))
 
@@ -196,7 +196,7 @@ mutual
 pub depth-union : (p j : Document) → depth (union p j) ≤ max (depth p) (depth j)
 depth-union p j = depth-union_with p (Some j)
 
--- ---- what the walk tells where one of the two is no object
+-- ---- what the walk reports if one of the two is not an object
 
 pub unites_plain : (united : Bool) (p j : Document) → look_here p ≡ plain p → (united ≡ true) ↔ (p ≡ j) → UnitesTo united p (Some j) j
 unites_plain true p j plain_p same = (compatible-self p j (same.0 refl), sym (union_with-plain p j plain_p))

@@ -1,4 +1,4 @@
--- Paths through maps, and what stands at their ends.
+-- Paths through maps, and what is at their ends.
 use Rattle.std.proofs.Common.{◌≡◌, ◌≢◌, ◌⊎◌, inl, inr, ℕ, List, [], ◌∷◌, ◌++◌, Option, Some, None, IfSome, option_and_then, refl, sym, ap, ◌∙◌}
 use Rattle.std.specs.Prelude.{⊤}
 use Rattle.mp_tree.specs.Document.{Document, null, flag, whole, string, list, object, find, IsDocument}
@@ -16,7 +16,7 @@ abbrev pub MapsAbove : Option Document → Path → Type 0
 MapsAbove t [] = ⊤
 MapsAbove t (n ∷ w) = (look_of t [] ≡ an_object) × MapsAbove (find n (target_members t)) w
 
--- what stands at the end of the path
+-- what is at the end of the path
 abbrev pub at_path : Option Document → Path → Option Document
 at_path t [] = t
 at_path t (n ∷ w) = at_path (find n (target_members t)) w

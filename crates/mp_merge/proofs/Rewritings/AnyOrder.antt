@@ -57,7 +57,7 @@ module _ (d p : Document) (good : IsDocument d) (patch : IsDocument p) where
   result_good : IsDocument result
   result_good = IsDocument-merge_patch (Some d) p good patch
 
-  -- where the patch has a map the document has none
+  -- if the patch has a map the document has none
   fresh_at : (w : Path) → Differs d p w → (q : Document) → at_path (Some p) w ≡ Some q → NoMapUnder (at_path (Some d) w) q
   fresh_at w place q is map here =
       let patch_map : look p w ≡ an_object = look-end w (Some p) ∙ ap (λ o. look_of o []) is ∙ map in

@@ -1,4 +1,4 @@
--- A document in which what stands at the end of a path was set or taken out: what it looks like, and that an operation leads to it.
+-- A document in which what is at the end of a path was set or taken out: what it looks like, and that an operation leads to it.
 use Rattle.std.proofs.Common.{◌≡◌, ◌≢◌, ℕ, List, [], ◌∷◌, ◌++◌, false, cond, Option, Some, None, IfSome, refl, sym, ap, ◌∙◌, subst}
 use Rattle.mp_tree.specs.Document.{Document, null, flag, whole, string, list, object, Members, is_name, find, put, without, IsDocument, IsMap}
 use Rattle.mp_tree.specs.Look.{Path, look_of}
@@ -30,7 +30,7 @@ IsMap-with_name : (n : List ℕ) (v : Option Document) (ms : Members) → IfSome
 IsMap-with_name n None ms good map = IsMap-without n ms map
 IsMap-with_name n (Some v) ms good map = IsMap-put n v ms good map
 
--- what stands at the end of a path is set, or taken out
+-- what is at the end of a path is set, or taken out
 abbrev pub with_at : Path → Option Document → Option Document → Option Document
 with_at [] v t = v
 with_at (n ∷ w) v t = Some (object (with_name n (with_at w v (find n (target_members t))) (target_members t)))

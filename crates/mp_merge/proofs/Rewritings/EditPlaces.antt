@@ -98,7 +98,7 @@ NoEditTo d p w = (u rest : Path) → w ≡ u ++ rest → ¬ IsEditPlace d p u
 maps_to_speech : (p : Document) (w : Path) → look p w ≢ nothing → MapsAbove (Some p) w
 maps_to_speech p w speaks = to_maps_above w (Some p) (λ u n rest is. object_above u n rest (Some p) (λ none. speaks (ap (look p) is ∙ none)))
 
--- where the patch has something and the document has no map above it, the document's first gap is an edit place
+-- if the patch has something and the document has no map above it, the document's first gap is an edit place
 no_gap : (d p : Document) (w : Path) → look p w ≢ nothing → (gap : Gap (Some d) w) → IsEditPlace d p gap.front
 no_gap d p w speaks gap =
     let patch : look p gap.front ≡ an_object = from_maps_above w (Some p) (maps_to_speech p w speaks) gap.front gap.name gap.rest gap.is in
@@ -109,7 +109,7 @@ no_gap d p w speaks gap =
       differs = λ same. gap.no_map (same ∙ ap (λ l. left_of l gap.front) patch);
     })
 
--- where no prefix is an edit place the document looks as the patch leaves it
+-- if no prefix is an edit place the document looks as the patch leaves it
 looks_as_left : (d p : Document) (w : Path) → look p w ≢ nothing → NoEditTo d p w → look d w ≡ left_of (look p w) w
 looks_as_left d p w speaks none = by (maps_or_gap w (Some d))
   where

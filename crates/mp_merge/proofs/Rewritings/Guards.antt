@@ -1,4 +1,4 @@
--- The tests of a rewriting: they pass on its document, and where they pass elsewhere, the same stands there.
+-- The tests of a rewriting: they pass on its document, and if they pass elsewhere, the same is there.
 use Rattle.std.proofs.Common.{◌≡◌, ◌≢◌, ◌⊎◌, inl, inr, ℕ, zero, suc, List, [], ◌∷◌, ◌++◌, map, take, Option, None, Some, slice_get, refl, sym, ap, ◌∙◌, subst}
 use Rattle.std.specs.List.{Contains}
 use Rattle.mp_tree.specs.Document.{Document}
@@ -8,7 +8,7 @@ use Rattle.mp_patch.specs.Operation.{Operation, test}
 use Rattle.mp_patch.specs.Refusal.{RefusedBy}
 use Rattle.mp_patch.specs.Run.{Runs}
 use Rattle.mp_patch.specs.Laws.{OperationsAreTaken}
-use Rattle.mp_merge.specs.Laws.{GuardedList, RefusedGuardTells}
+use Rattle.mp_merge.specs.Laws.{GuardedList, RefusedGuardShows}
 use Rattle.mp_merge.specs.Rewriting.{edit, guard_of, guards, edit_to, part_left}
 use Rattle.mp_tree.proofs.Facts.{Contains-nil, Contains-cases}
 
@@ -75,8 +75,8 @@ guard_at d p x m v u places (w ∷ left) k at runs = by (guard_at d p x m v u pl
         record { stood = ap (part d) (sym place) ∙ here ∙ ap Some value; same = runs }
     by later_guard (Some z) here (suc k) at (free, y, (stands, stays), later) = later_guard k at (subst (λ (t : Document). Runs t (take k (guards d left ++ map (edit d p) places)) m) stays later)
 
-pub refused_guard_tells : OperationsAreTaken → RefusedGuardTells
-refused_guard_tells taken d p x operations k cause u v is (m, runs, o, at, refused) here =
+pub refused_guard_shows : OperationsAreTaken → RefusedGuardShows
+refused_guard_shows taken d p x operations k cause u v is (m, runs, o, at, refused) here =
     let test_is : o ≡ test u v = (let both : Some o ≡ Some (test u v) = sym at ∙ here in cc) in
     let guard = guard_at d p x m v u is.places is.places k (subst (λ os. slice_get os k ≡ Some (test u v)) is.guarded here) (subst (λ os. Runs x (take k os) m) is.guarded runs) in
     (guard.stood, subst (λ (y : Document). part y u ≢ Some v) guard.same (λ there. (taken m).tests u v there (cause, subst (λ (q : Operation). RefusedBy m q cause) test_is refused)), guard.same)

@@ -26,7 +26,7 @@ is_map (Some (list ds)) is = absurd (cc)
 is_map (Some (object ms)) is = refl
 
 module _ (x : Document) (good : IsDocument x) where
-  -- what stands at the end of a path under maps
+  -- what is at the end of a path under maps
   part_there : (w : Path) → MapsAbove (Some x) w → look x w ≢ nothing → (z : Document) × (part x w ≡ Some z) × (at_path (Some x) w ≡ Some z)
   part_there w maps here =
       let z = some_part (at_path (Some x) w) (λ none. here (look-end w (Some x) ∙ none)) in

@@ -1,4 +1,4 @@
--- A document and a patch have one rewriting, which is empty exactly where the patch changes nothing.
+-- A document and a patch have one rewriting, which is empty exactly if the patch changes nothing.
 use Rattle.std.proofs.Common.{◌≡◌, List, [], ◌∷◌, ◌++◌, map, Some, refl, sym, ap, ◌∙◌, subst}
 use Rattle.std.specs.List.{Contains}
 use Rattle.std.specs.List.Sorted.{IsStrictlySortedBy}

@@ -4,18 +4,18 @@ use Rattle.mp_tree.specs.Document.{Document, object, Members, no_members, member
 use Rattle.mp_tree.specs.Look.{Path}
 use Rattle.mp_merge.specs.Lists.{CompatibleBelow}
 
--- at the path s: no clash where the two are equal, else that one alone
+-- at the path s: no clash if the two are equal, else that one alone
 abbrev pub IsOneClash : Path → Document → Document → List Path → Type 0
 IsOneClash s p q places = ((p ≡ q) × (places ≡ [])) ⊎ ((p ≢ q) × (places ≡ s ∷ []))
 
--- the clashes at s and below, where the one patch has p and the other q, which may be absent
+-- the clashes at s and below, if the one patch has p and the other q, which may be absent
 abbrev mutual
   pub WalksClashes : Path → Document → Option Document → List Path → Type 0
   WalksClashes s p None places = places ≡ []
   WalksClashes s (object ps) (Some (object qs)) places = WalksMembers s ps qs places
   WalksClashes s p (Some q) places = IsOneClash s p q places
 
-  -- name by name, where both have objects
+  -- name by name, if both have objects
   pub WalksMembers : Path → Members → Members → List Path → Type 0
   WalksMembers s no_members qs places = places ≡ []
   WalksMembers s (member n p ps) qs places =

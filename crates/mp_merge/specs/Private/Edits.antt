@@ -28,7 +28,7 @@ followed_by lists more = (lists.0 ++ flat_map (λ g. g.0) more, lists.1 ++ map (
 abbrev pub Gathered : Edits → Edits → (List GuardedEdit → Type 0) → Type 0
 Gathered old new Holds = GrewBy followed_by (lists_of old) (lists_of new) Holds
 
--- at the path s: nothing where what the patch leaves stands there, else the edit that leaves it, with its guard
+-- at the path s: nothing if what the patch leaves is there, else the edit that leaves it, with its guard
 abbrev pub IsOneEdit : Path → Document → Option Document → List GuardedEdit → Type 0
 IsOneEdit s p t found =
     ((t ≡ part_left s (Some p)) × (found ≡ []))
@@ -38,13 +38,13 @@ IsOneEdit s p t found =
 abbrev pub NotBothMaps : Document → Option Document → Type 0
 NotBothMaps p t = look p [] ≡ an_object → look_of t [] ≢ an_object
 
--- the edits at s and below, where the patch has p and the document t, which may be absent
+-- the edits at s and below, if the patch has p and the document t, which may be absent
 abbrev mutual
   pub AreEdits : Path → Document → Option Document → List GuardedEdit → Type 0
   AreEdits s (object ps) (Some (object ds)) found = AreMemberEdits s ps ds found
   AreEdits s p t found = IsOneEdit s p t found
 
-  -- name by name, where both have objects
+  -- name by name, if both have objects
   pub AreMemberEdits : Path → Members → Members → List GuardedEdit → Type 0
   AreMemberEdits s no_members ds found = found ≡ []
   AreMemberEdits s (member n p ps) ds found =

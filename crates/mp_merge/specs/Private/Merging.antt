@@ -9,7 +9,7 @@ pub record ResumesAt (n : List ℕ) (p : Document) (before now : Members) : Type
   pub others : (m : List ℕ) → is_name m n ≡ false → find m now ≡ find m before
   pub here : merge_patch (find n now) p ≡ merge_patch (find n before) p
 
--- the value p of the patch at a name takes no memory where the target has t there
+-- the value p of the patch at a name takes no memory if the target has t there
 abbrev pub NeedsNoneAt : Document → Option Document → Type 0
 NeedsNoneAt p t = (p ≡ null) ⊎ ((d : Document) × (t ≡ Some d) × NeedsNoMemory d p)
 

@@ -1,11 +1,11 @@
--- What the walk that unites two patches computes, and what it tells. Only private clauses cite it.
+-- What the walk that unites two patches computes, and what it reports. Only private clauses cite it.
 use Rattle.std.specs.Prelude.{◌≡◌, ℕ, Bool, true, false, List, Option, None, Some, IfSome}
 use Rattle.mp_tree.specs.Document.{Document, null, flag, whole, string, list, object, Members, no_members, member, find}
 use Rattle.mp_tree.specs.Document.{put}
 use Rattle.mp_merge.specs.Application.{target_members}
 use Rattle.mp_merge.specs.Clash.{Compatible}
 
--- what was joined before stays, where there is something
+-- what was joined before stays, if there is something
 abbrev pub earlier_or : Option Document → Document → Document
 earlier_or None p = p
 earlier_or (Some j) p = j
@@ -20,7 +20,7 @@ union_over (Some (whole z)) ps both = whole z
 union_over (Some (string s)) ps both = string s
 union_over (Some (list ds)) ps both = list ds
 
--- the patch set beside what was joined before, which may be absent: the names of both, and what both carry stays
+-- the patch set next to what was joined before, which may be absent: the names of both, and what both carry stays
 abbrev mutual
   pub union_with : Document → Option Document → Document
   union_with null j = earlier_or j null
@@ -38,7 +38,7 @@ abbrev mutual
 abbrev pub union : Document → Document → Document
 union p j = union_with p (Some j)
 
--- whether the patch is compatible with what was joined before, which may be absent; where it is, that is their join now
+-- whether the patch is compatible with what was joined before, which may be absent; if it is, that is their join now
 abbrev pub UnitesTo : Bool → Document → Option Document → Document → Type 0
 UnitesTo true p j now = IfSome j (Compatible p) × (now ≡ union_with p j)
 UnitesTo false p j now = ¬ IfSome j (Compatible p)

@@ -1,4 +1,4 @@
--- The laws of faults in form: a form has none, and no document has two.
+-- The laws of errors in form: a form has none, and no document has two.
 use Rattle.std.proofs.Common.{◌≡◌, ◌⊎◌, inl, inr, List, [], ◌∷◌, None, refl, sym, ap, ◌∙◌, subst, codes, suc}
 use Rattle.mp_tree.specs.Document.{Document, object, Items, no_items, item, Members}
 use Rattle.mp_tree.specs.Elements.{count_of, append}
@@ -6,14 +6,14 @@ use Rattle.mp_tree.specs.Look.{at_name}
 use Rattle.mp_pointer.specs.Spelling.{spell}
 use Rattle.mp_tree.proofs.Facts.{same_some, some_none, same_elements, same_item}
 use Rattle.mp_patch.specs.Form.{Carries, EachForm, IsForm, IsFaulty, HasNoPointer, HasOp, a_value, an_origin, form_causes, needed_members, text_at}
-use Rattle.mp_patch.specs.Laws.{FormsHaveNoFault, HasOneFault}
+use Rattle.mp_patch.specs.Laws.{FormsHaveNoFault, HasOneFormFault}
 use Rattle.mp_patch.specs.Operation.{Operation}
 use Rattle.mp_patch.specs.declared.fault.FormCause.{FormCause}
 use Rattle.mp_patch.specs.declared.fault.FormFault.TheVariants.{NotAnArray, Form, OutOfMemory}
 use Rattle.mp_patch.proofs.FirstCause.{NoneHolds, none_first, one_first}
 use Rattle.mp_patch.proofs.Forms.Needs.{need_of, place_of, has_op, path_text, from_text, value_there}
 
--- ---- a form has no fault
+-- ---- a form has no error
 
 module _ (ms : Members) (o : Operation) (a : Carries ms (needed_members o)) where
   origin_spelled : ¬ (HasOp an_origin (object ms) × (text_at (codes "from") (object ms) ≡ None))
@@ -50,7 +50,7 @@ forms_have_no_fault d operations (Form op cause) (ds, is, forms) f =
     let form = form_at f.front f.element f.back operations (subst (λ xs. EachForm xs operations) same forms) in
     absurd (faultless cause f.element form.0 form.1 f.faulty)
 
--- ---- a document has one fault
+-- ---- a document has one error
 
 abbrev OneElement : Items → Items → FormCause → FormCause → Type 0
 OneElement front other_front cause other = (count_of front ≡ count_of other_front) × (cause ≡ other)
@@ -71,7 +71,7 @@ one_element cause other (item d ds) (item e es) x y back other_back (o ∷ os) (
     let rest = one_element cause other ds es x y back other_back os ps (same_item d e (append ds (item x back)) (append es (item y other_back)) same).1 forms.1 others.1 faulty also in
     (ap suc rest.0, rest.1)
 
-pub has_one_fault : HasOneFault
+pub has_one_fault : HasOneFormFault
 has_one_fault d OutOfMemory other one two is also = absurd (one refl)
 has_one_fault d NotAnArray OutOfMemory one two is also = absurd (two refl)
 has_one_fault d (Form op cause) OutOfMemory one two is also = absurd (two refl)

@@ -8,7 +8,7 @@ use Rattle.mp_patch.specs.Form.{Carries, EachForm, IsForm, needed_members, shape
 use Rattle.mp_patch.specs.Laws.{HasOneReading, ShapesAreForms}
 use Rattle.mp_patch.specs.Operation.{Operation, add, remove, replace, move, copy, test}
 use Rattle.mp_tree.proofs.Facts.{members_of_object, same_elements, same_some, same_text_at}
-use Rattle.mp_patch.proofs.Forms.Needs.{letters}
+use Rattle.mp_patch.proofs.Forms.Needs.{two_bytes}
 
 -- ---- shapes
 
@@ -33,8 +33,8 @@ same_place : (n : List ℕ) (ms : Members) (s t : Tokens) → find n ms ≡ Some
 same_place n ms s t a b = has_one_spelling s t (same_text_at n ms (spell s) (spell t) a b)
 
 -- the members give the name of one operation
-one_name : (ms : Members) (s t : List ℕ) → find (codes "op") ms ≡ Some (string s) → find (codes "op") ms ≡ Some (string t) → letters s ≡ letters t
-one_name ms s t a b = ap letters (same_text_at (codes "op") ms s t a b)
+one_name : (ms : Members) (s t : List ℕ) → find (codes "op") ms ≡ Some (string s) → find (codes "op") ms ≡ Some (string t) → two_bytes s ≡ two_bytes t
+one_name ms s t a b = ap two_bytes (same_text_at (codes "op") ms s t a b)
 
 one_form : (ms : Members) (o p : Operation) → Carries ms (needed_members o) → Carries ms (needed_members p) → o ≡ p
 one_form ms (add t v) (add s w) a b = ap₂ add (same_place (codes "path") ms t s a.1.0 b.1.0) (same_some (find (codes "value") ms) v w a.1.1.0 b.1.1.0)

@@ -1,4 +1,4 @@
--- What an operation needs is told by its name, and what it needs stands in its form.
+-- What an operation needs depends on its name, and what it needs stands in its form.
 use Rattle.std.proofs.Common.{◌≡◌, ◌==◌, ◌+◌, inl, inr, ℕ, cond, List, get_or, Some, option_and_then, refl, sym, ap, ◌∙◌, codes}
 use Rattle.mp_tree.specs.Document.{Document, object, Members}
 use Rattle.mp_tree.specs.Look.{at_name}
@@ -7,28 +7,28 @@ use Rattle.mp_tree.proofs.Facts.{same_some}
 use Rattle.mp_patch.specs.Form.{Carries, HasOp, Need, path_alone, a_value, an_origin, NamesOp, needed_members, text_at, text_of}
 use Rattle.mp_patch.specs.Operation.{Operation, add, remove, replace, move, copy, test}
 
--- ---- a name tells one need, by two of its letters
+-- ---- a name has one need, by two of its bytes
 
-abbrev pub letters : List ℕ → ℕ
-letters name = get_or name 0 0 + get_or name 2 0
+abbrev pub two_bytes : List ℕ → ℕ
+two_bytes name = get_or name 0 0 + get_or name 2 0
 
 abbrev need_by : ℕ → Need
 need_by k = cond (k == 223) path_alone (cond (k == 227) an_origin (cond (k == 211) an_origin a_value))
 
-abbrev need_told : List ℕ → Need
-need_told name = need_by (letters name)
+abbrev need_named : List ℕ → Need
+need_named name = need_by (two_bytes name)
 
-told : (need : Need) (name : List ℕ) → NamesOp need name → need ≡ need_told name
-told path_alone name e = ap need_told (sym e)
-told a_value name (inl e) = ap need_told (sym e)
-told a_value name (inr (inl e)) = ap need_told (sym e)
-told a_value name (inr (inr e)) = ap need_told (sym e)
-told an_origin name (inl e) = ap need_told (sym e)
-told an_origin name (inr e) = ap need_told (sym e)
+need_is : (need : Need) (name : List ℕ) → NamesOp need name → need ≡ need_named name
+need_is path_alone name e = ap need_named (sym e)
+need_is a_value name (inl e) = ap need_named (sym e)
+need_is a_value name (inr (inl e)) = ap need_named (sym e)
+need_is a_value name (inr (inr e)) = ap need_named (sym e)
+need_is an_origin name (inl e) = ap need_named (sym e)
+need_is an_origin name (inr e) = ap need_named (sym e)
 
 pub one_need : (need other : Need) (d : Document) → HasOp need d → HasOp other d → need ≡ other
 one_need need other d (name, at, names) (also, there, too) =
-    told need name names ∙ ap need_told (same_some (text_at (codes "op") d) name also at there) ∙ sym (told other also too)
+    need_is need name names ∙ ap need_named (same_some (text_at (codes "op") d) name also at there) ∙ sym (need_is other also too)
 
 pub value_or_origin : {P : Type 0} (d : Document) → HasOp a_value d → HasOp an_origin d → P
 value_or_origin d one two = let same : a_value ≡ an_origin = one_need a_value an_origin d one two in cc
@@ -76,7 +76,7 @@ from_needed ms o is a = absurd (let other = is in cc)
 pub from_text : (ms : Members) (o : Operation) → Carries ms (needed_members o) → HasOp an_origin (object ms) → (f : Tokens) × (text_at (codes "from") (object ms) ≡ Some (spell f))
 from_text ms o a has = from_needed ms o (one_need (need_of o) an_origin (object ms) (has_op ms o a) has) a
 
--- where a value is needed, it is there
+-- if a value is needed, it is there
 value_needed : (ms : Members) (o : Operation) → need_of o ≡ a_value → Carries ms (needed_members o) → (v : Document) × (at_name (codes "value") (object ms) ≡ Some v)
 value_needed ms (add t v) is a = (v, a.1.1.0)
 value_needed ms (replace t v) is a = (v, a.1.1.0)

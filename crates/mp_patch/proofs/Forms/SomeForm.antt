@@ -1,4 +1,4 @@
--- Each document is a form of operations, or has a fault.
+-- Each document is a form of operations, or has an error.
 use Rattle.std.proofs.Common.{◌≡◌, ◌⊎◌, inl, inr, ℕ, suc, List, [], ◌∷◌, Option, None, Some, refl, sym, ap, ◌∙◌, subst, option_and_then, codes}
 use Rattle.mp_tree.specs.Document.{Document, string, list, object, Items, no_items, item, Members, find}
 use Rattle.mp_pointer.specs.Spelling.{Tokens, spell}
@@ -15,7 +15,7 @@ use Rattle.mp_patch.specs.declared.fault.Refusal.TheVariants.{By}
 use Rattle.mp_tree.proofs.Facts.{decide_name, either, same_elements}
 use Rattle.mp_patch.proofs.Forms.Reading.{map_fault, no_pointer}
 
--- the tokens that a text spells, where it spells some
+-- the tokens that a text spells, if it spells some
 spelled : (text : List ℕ) → ((t : Tokens) × (text ≡ spell t)) ⊎ IsNoPointer text
 spelled text = elim (spells_or_is_faulty text) [ inl p ↦ inl p | inr bad ↦ inr (no_pointer text bad.0 bad.1 bad.2) ]
 

@@ -41,7 +41,7 @@ module _ (f t : Tokens) (x d left : Document) (good : IsDocument d) (apart : ¬ 
   moved (Err (By cause)) e refused = not_added cause refused
   moved (Err OutOfMemory) e answers = tt
 
--- where nothing was removed
+-- if nothing was removed
 pub not_moved : (fault : Refusal Cause) (f t : Tokens) (d e e' : Document) → ¬ IsProperPrefix f t → f ≢ t → Answers (Err fault) d (remove f) e → Answers (Err fault) d (move f t) e'
 not_moved (By cause) f t d e e' apart other (inl (is, root)) = absurd (apart (root_is_prefix f t root other))
 not_moved (By cause) f t d e e' apart other (inr (deeper, inl (is, missing))) = inr (apart, inl (is, missing))

@@ -112,7 +112,7 @@ replaces_freely d x t v stood fits = unrefused d (replace t v) (some_missing d x
 pub removes_freely : (d x : Document) (t : Tokens) → part d t ≡ Some x → t ≢ [] → ¬ IsRefused d (remove t)
 removes_freely d x t stood deeper = unrefused d (remove t) (deeper, (some_missing d x t stood, tt))
 
--- a test of what stands there passes
+-- a test of what is there passes
 pub tests_freely : (d x : Document) (t : Tokens) → part d t ≡ Some x → ¬ IsRefused d (test t x)
 tests_freely d x t stood = unrefused d (test t x) (some_missing d x t stood, ((λ failed. failed stood), tt))
 

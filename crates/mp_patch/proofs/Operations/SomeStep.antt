@@ -1,4 +1,4 @@
--- What an operation asks for can be done: a part can be changed, a value added where there is a place, and a part removed.
+-- What an operation asks for can be done: a part can be changed, a value added if there is a place, and a part removed.
 use Rattle.std.proofs.Common.{◌≡◌, ◌≢◌, ◌+◌, ◌<◌, ◌⊎◌, inl, inr, ℕ, zero, suc, List, [], ◌∷◌, ◌++◌, Option, None, Some, option_and_then, refl, sym, ap, ◌∙◌, subst, arith}
 use Rattle.mp_tree.specs.Document.{Document, null, flag, whole, string, list, object, Items, no_items, item, put, without, IsDocument}
 use Rattle.mp_pointer.specs.Part.{part, child, numeral}
@@ -10,7 +10,7 @@ use Rattle.mp_patch.specs.Refusal.{LacksPlace, HasNoPlace}
 use Rattle.mp_tree.proofs.Facts.{decide_name, all_before, count_of-append, nth_split}
 use Rattle.mp_patch.proofs.Operations.SingleSteps.{has_place, root_place}
 
--- ---- a value is added where there is a place
+-- ---- a value is added if there is a place
 
 -- the elements before the index that the token spells, counted from k, and those from there on; or the token spells none up to the length
 abbrev Split : List ℕ → Items → ℕ → Type 0

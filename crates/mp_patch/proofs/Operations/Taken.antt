@@ -1,4 +1,4 @@
--- An operation is not refused where none of its causes holds: where what it names is there, and what it adds fits.
+-- An operation is not refused if none of its causes holds: if what it names is there, and what it adds fits.
 use Rattle.std.proofs.Common.{◌≡◌, ◌≤◌, ◌+◌, length, Some, subst, arith}
 use Rattle.mp_tree.specs.Document.{Document, depth, depth_limit}
 use Rattle.mp_pointer.specs.Part.{part}

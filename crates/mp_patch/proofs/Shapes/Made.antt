@@ -9,7 +9,7 @@ use Rattle.mp_patch.specs.Form.{deepest, op_member, path_member, shape, shapes, 
 use Rattle.mp_patch.specs.Operation.{Operation, add, remove, replace, move, copy, test}
 use Rattle.mp_patch.specs.Private.Shapes.{origin_shown, value_shown}
 
--- a map with the origin of a shape, and with its value, where it has them
+-- a map with the origin of a shape, and with its value, if it has them
 abbrev pub with_origin : Option (Bor Tokens) → Members → Members
 with_origin None ms = ms
 with_origin (Some origin) ms = put (codes "from") (string (spell origin.now)) ms

@@ -1,4 +1,4 @@
--- The document of operations whose values can be read can be read, where they are not too deep for it.
+-- The document of operations whose values can be read can be read, if they are not too deep for it.
 use Rattle.std.proofs.Common.{◌≡◌, ◌≤◌, ◌+◌, ℕ, List, [], ◌∷◌, Some, codes, IsUtf8, refl, arith}
 use Rattle.std.proofs.lemmas.List.Elements.{All-cons, All-head, All-nil, All-tail, All-weaker}
 use Rattle.std.proofs.lemmas.Str.{IsUtf8-from_is_utf8}
@@ -22,7 +22,7 @@ use Rattle.mp_patch.specs.declared.op.Op.{Op}
 use Rattle.mp_patch.specs.declared.op.Op.TheVariants as op
 use Rattle.mp_patch.proofs.Shapes.Made.{shapes-depth}
 
--- of the value of an operation, where it has one
+-- of the value of an operation, if it has one
 abbrev pub ValueIs : (Document → Type 0) → Operation → Type 0
 ValueIs P (add t v) = P v
 ValueIs P (remove t) = ⊤

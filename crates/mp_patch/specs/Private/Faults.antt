@@ -1,4 +1,4 @@
--- A refusal as the fault of a patch. Only private clauses cite it.
+-- A refusal as the error of a patch. Only private clauses cite it.
 use Rattle.std.specs.Prelude.{ℕ}
 use Rattle.mp_patch.specs.declared.fault.ApplyFault.{ApplyFault}
 use Rattle.mp_patch.specs.declared.fault.ApplyFault.TheVariants as apply_fault

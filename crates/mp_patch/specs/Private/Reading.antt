@@ -14,14 +14,14 @@ use Rattle.mp_patch.specs.declared.reading.Draft.TheVariants.{Whole, Add, Replac
 use Rattle.mp_patch.specs.declared.fault.Refusal.{Refusal}
 use Rattle.mp_patch.specs.declared.fault.Refusal.TheVariants.{By, OutOfMemory}
 
--- want of memory says nothing
+-- out of memory says nothing
 abbrev pub IsElementFault : Refusal FormCause → Document → Type 0
 IsElementFault (By cause) d = IsFaulty cause d
 IsElementFault OutOfMemory d = ⊤
 
--- ---- what the reading of an object has found where it gives the object up
+-- ---- what the reading of an object has found if it gives the object up
 
--- the path is no pointer, or the origin, where there is one
+-- the path is not a pointer, or the origin, if there is one
 abbrev pub FindsNoPointer : Need → List ℕ → Document → Type 0
 FindsNoPointer path_alone path d = IsNoPointer path
 FindsNoPointer a_value path d = IsNoPointer path

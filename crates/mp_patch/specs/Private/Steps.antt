@@ -12,7 +12,7 @@ use Rattle.mp_patch.specs.declared.fault.Cause.TheVariants.{NoPlace, TooDeep}
 use Rattle.mp_patch.specs.declared.fault.Refusal.{Refusal}
 use Rattle.mp_patch.specs.declared.fault.Refusal.TheVariants.{By, OutOfMemory}
 
--- the operation was taken from d to e, or is refused; want of memory says nothing
+-- the operation was taken from d to e, or is refused; out of memory says nothing
 abbrev pub Answers : Result (Unit {0}) (Refusal Cause) → Document → Operation → Document → Type 0
 Answers (Ok done) d o e = ¬ IsRefused d o × Step d o e
 Answers (Err (By cause)) d o e = RefusedBy d o cause

@@ -4,7 +4,7 @@ use Rattle.std.specs.Ordering.{match_ordering}
 use Rattle.std.specs.Str.{bytes_eq}
 use Rattle.mp_tree.specs.Document.{Document, list, object, Items, no_items, item, Members, member, no_members, name_cmp, is_name, find, put, IsMap}
 use Rattle.mp_tree.proofs.Facts.{same_from_cmp, find-below, IsBelow-trans, set_item, count_of-set, nth-set, find-put_same, find-put_other}
-use Rattle.mp_pointer.specs.Difference.{kind_of, names, elements, names_of}
+use Rattle.mp_pointer.specs.Difference.{kind_of, names, array_of, names_of}
 use Rattle.mp_pointer.specs.Part.{child, element_from, numeral}
 use Rattle.mp_tree.specs.Elements.{nth}
 use Rattle.mp_pointer.proofs.Tokens.Indices.{elsewhere, child-numeral}
@@ -29,7 +29,7 @@ element_from-set m j (suc i) k (item d ds) y is other =
 
 pub element_changes : (token : List ℕ) (i : ℕ) (ds : Items) (x y : Document) → token ≡ numeral i → nth i ds ≡ Some x → ChildChanges token (list ds) (list (set_item i y ds)) x y
 element_changes token i ds x y names_it stood = record {
-  alike = ap elements (sym (count_of-set i y ds));
+  alike = ap array_of (sym (count_of-set i y ds));
   others = λ m other. child-list m ds ∙ element_from-set m 0 i i ds y (omega arith) (λ same. other (same ∙ sym names_it)) ∙ sym (child-list m (set_item i y ds));
   here = child-numeral token i ds names_it ∙ stood;
   there = child-numeral token i (set_item i y ds) names_it ∙ nth-set i x y ds stood;

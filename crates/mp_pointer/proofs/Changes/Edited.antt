@@ -5,7 +5,7 @@ use Rattle.mp_tree.specs.Document.{Document}
 use Rattle.mp_tree.specs.View.{document}
 use Rattle.mp_tree.specs.declared.doc.Doc.{Doc}
 use Rattle.mp_pointer.specs.Editing.{EditsAt}
-use Rattle.mp_pointer.specs.Lending.{PartBecomes}
+use Rattle.mp_pointer.specs.Borrowing.{PartBecomes}
 use Rattle.mp_pointer.specs.Difference.{DifferOnlyAt}
 use Rattle.mp_pointer.specs.Part.{part, child}
 use Rattle.mp_pointer.specs.Spelling.{Tokens}

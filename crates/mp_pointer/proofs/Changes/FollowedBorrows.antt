@@ -1,9 +1,9 @@
 -- What the proofs by hand of borrows that leave a function cite. Assumes `Logic`.
 --     then_so       a whole follows a part, and the part follows a part of its own by a relation: so does the whole
---     follows_self, so_opened, so_made, none_so      a reference follows itself;  a relation is taken apart, and made;  nothing is lent
+--     follows_self, so_opened, so_made, none_so      a reference follows itself;  a relation is taken apart, and made;  nothing is borrowed
 --     spelled, spelled_typed, cases, option_spelled      the machine's value of an `Option` of a `&mut`, its type, its two cases, and that it is the one that is owned
 --     some_apart, none_apart      such an `Option` is taken apart
---     shares_again, shared_back   a `&κ mut T` is lent as `&` for a shorter time, and comes back as it was.        Kept      what is kept of it meanwhile
+--     shares_again, shared_back   a `&κ mut T` is borrowed as `&` for a shorter time, and comes back as it was.        Kept      what is kept of it meanwhile
 --     when_true, when_false       what a branch learns.        arm_of      an arm of a switch
 use Rattle.std.proofs.Common.{◌≡◌, ℕ, zero, suc, List, [], ◌∷◌, ◌++◌, refl, sym, ap, subst, ◌∙◌, ◌⊎◌, inl, inr, Option, Bool, true, false, true≢false, lit<, MutBor}
 use mathlib.Core.Bool.{not}
@@ -87,7 +87,7 @@ module _ {M : Type 1} {𝓤 : Ura M} (𝓛 : Logic 𝓤) (R : RattleType) (share
       qed 𝓛 (‵ ((MutRef ℓ κ R).own_val x (vptr b o ∷ [])) ∷ ‵ (flft κ q) ∷ ‵ (flft (α ∷ []) full_share) ∷ []) ∵ updating ! $ fsplit3 ! $ feq_l ! (λ _. open_ref ! tt (mem R) $ move ! (0 ∷ 4 ∷ []) $
       use2 𝓛 (later ((‵ ((ShrRef ℓ (α ∷ []) R).own_val (as_bor x) (vptr b o ∷ [])) ⊛ ‵ (flent (α ∷ []) (part_at R full_share x.now b o))) ⊛ ‵ (flft (α ∷ []) full_share)))
       (lends_shr 𝓛 R ℓ (α ∷ []) full_share x.now b o R.lives (shared x.now) (((α ∷ []), full_share) ∷ []) (alive (α ∷ [])) (Incl-refl (α ∷ []))) $ await ! tt $ split ! $ split ! $
-      -- [the reference; what is lent; the token of α; the open borrow; both parts of its name]
+      -- [the reference; what is borrowed; the token of α; the open borrow; both parts of its name]
       now ! $ frame ! $ move ! (1 ∷ []) $ frame ! $ move ! (2 ∷ 3 ∷ []) $ fjoin ! $ move ! (2 ∷ 0 ∷ []) $ fjoin ! $ move ! (1 ∷ 0 ∷ []) $ fjoin ! $ done !)
 
   pub shared_back : ent 𝓤 (sep 𝓤 (A.dead (α ∷ [])) (sem 𝓛 Kept)) (H.⇛ (sep 𝓤 (sem 𝓛 ((MutRef ℓ κ R).own_val x (vptr b o ∷ []))) (A.lft κ q)))
@@ -104,7 +104,7 @@ follows_self {𝓤 = 𝓤} 𝓛 R γ =
     feq_i ! R.Denot z z refl $ fjoin ! $ fpack ! R.Denot (From z) z $ done !) in
     record { apply = λ a p. (said.apply a p, back.apply a p) }
 
--- a part that is lent, and how the whole follows it
+-- a part that is borrowed, and how the whole follows it
 module _ {M : Type 1} {𝓤 : Ura M} (𝓛 : Logic 𝓤) (R U : RattleType) (γ γ' : GName) (P : U.Denot → R.Denot → Type 0) (P₀ : R.Denot → Type 0) where
   pub so_opened : ent 𝓤 (sem 𝓛 (follows_so R U γ (maybe.some γ') P P₀)) (ex 𝓤 (λ (f : (F : U.Denot → R.Denot) × ((w : U.Denot) → P w (F w))). sem 𝓛 (follows R U γ γ' f.0)))
   unfolding such_by follows_by
@@ -117,7 +117,7 @@ module _ {M : Type 1} {𝓤 : Ura M} (𝓛 : Logic 𝓤) (R U : RattleType) (γ 
       qed 𝓛 (‵ (follows R U γ γ' F) ∷ []) ∵
       fpack ! ((t : (U.Denot → R.Denot) × R.Denot) × ((w : U.Denot) → P w (t.0 w)) × P₀ t.1) (λ t. follows_if R U γ (maybe.some γ') t.0.0 t.0.1) ((F, n), holds, none) $ done !
 
--- nothing is lent, and the whole's last value is said
+-- nothing is borrowed, and the whole's last value is said
 pub none_so : {M : Type 1} {𝓤 : Ura M} (𝓛 : Logic 𝓤) (R U : RattleType) (γ : GName) (P : U.Denot → R.Denot → Type 0) (P₀ : R.Denot → Type 0) (n : R.Denot)
     → ((w : U.Denot) → P w n) → P₀ n → ent 𝓤 (sem 𝓛 (fres γ (R.coded.code n))) (sem 𝓛 (follows_so R U γ maybe.none P P₀))
 unfolding such_by follows_by

@@ -5,7 +5,7 @@ use Rattle.mp_tree.specs.Document.{Document}
 use Rattle.mp_tree.specs.View.{document}
 use Rattle.mp_tree.specs.declared.doc.Doc.{Doc}
 use Rattle.mp_tree.proofs.Facts.{IsDocument-document}
-use Rattle.mp_pointer.specs.Lending.{PartBecomes}
+use Rattle.mp_pointer.specs.Borrowing.{PartBecomes}
 use Rattle.mp_pointer.specs.Private.Child.{one_token}
 use Rattle.mp_pointer.specs.Difference.{kind}
 use Rattle.mp_pointer.specs.Part.{part}
@@ -59,7 +59,7 @@ next_made t i v w a b c stood outer inner = subst (λ s. PartBecomes s v a c) (s
 pub nothing_further : (t : Tokens) (i : ℕ) (d : Document) → part d (take i t) ≡ None → part d t ≡ None
 nothing_further t i d none = ap (part d) (sym (take-append-drop i t)) ∙ part-append d (take i t) (drop i t) ∙ ap (option_and_then (λ e. part e (drop i t))) none
 
--- what was lent came back as it was
+-- what was borrowed came back as it was
 pub nothing_changed : (s : Tokens) (d e b n : Doc) → part (document d) s ≡ Some (document b) → PartBecomes s (document n) (document d) (document e) → document n ≡ document b → document e ≡ document d
 nothing_changed s d e b n stood made same =
     sym (equals_by_part s (document d) (document e) (document b) (IsDocument-document d) (IsDocument-document e) made.only stood (made.stands ∙ ap Some same))

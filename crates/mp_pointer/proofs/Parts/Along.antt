@@ -50,7 +50,7 @@ DifferOnlyAt-trans t d e f first second u apart = first u apart ∙ second u apa
 pub DifferOnlyAt-root : (d e : Document) → DifferOnlyAt [] d e
 DifferOnlyAt-root d e u apart = absurd (apart (u, refl))
 
--- where two documents of one kind have the same children but for that of one token, and those differ at t alone
+-- if two documents of one kind have the same children but for that of one token, and those differ at t alone
 pub DifferOnlyAt-child : (token : List ℕ) (t : Tokens) (d e x y : Document) → kind_of (Some d) ≡ kind_of (Some e) → ((m : List ℕ) → m ≢ token → child m d ≡ child m e) → child token d ≡ Some x → child token e ≡ Some y → DifferOnlyAt t x y
     → DifferOnlyAt (token ∷ t) d e
 DifferOnlyAt-child token t d e x y alike others here there only [] apart = alike

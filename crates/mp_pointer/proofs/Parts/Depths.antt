@@ -1,11 +1,11 @@
--- A part is less deep than what holds it, and how deep a document is, is told by where its maps and lists stand.
+-- A part is less deep than what holds it, and how deep a document is, is given by where its maps and lists are.
 use Rattle.std.proofs.Common.{◌≡◌, ◌<◌, ◌≤◌, ◌+◌, ℕ, zero, suc, max, List, [], ◌∷◌, length, Bool, true, false, cond, Option, None, Some, option_and_then, refl, sym, ap, ◌∙◌, subst, arith, length-append}
 use Rattle.std.specs.Prelude.{⊤}
 use Rattle.std.specs.Str.{bytes_eq}
 use Rattle.mp_tree.specs.Document.{Document, null, flag, whole, string, list, object, Items, no_items, item, Members, no_members, member, find, IsDocument, AreDocuments, IsMap, depth, items_depth, members_depth}
 use Rattle.mp_tree.specs.Elements.{nth}
 use Rattle.mp_tree.proofs.Facts.{cases_same, is_name-self, find-below, value-depth}
-use Rattle.mp_pointer.specs.Difference.{DifferOnlyAt, Kind, absent, scalar, names, elements, kind, kind_of}
+use Rattle.mp_pointer.specs.Difference.{DifferOnlyAt, Kind, absent, scalar, names, array_of, kind, kind_of}
 use Rattle.mp_pointer.specs.Part.{part, child, element_from, numeral}
 use Rattle.mp_pointer.specs.Laws.{PartsAreShallower}
 use Rattle.mp_pointer.specs.Spelling.{Tokens}
@@ -40,13 +40,13 @@ part-depth (token ∷ u) d x is = through (child token d) refl (λ e. part-depth
     through None here later is = cc
     through (Some e) here later is = omega (arith, child-depth token d e here, later e is)
 
--- ---- the depth is told by where maps and lists stand
+-- ---- the depth is given by where maps and lists are
 
 abbrev Nests : Kind → Type 0
 Nests absent = ⊥
 Nests (scalar v) = ⊥
 Nests (names ns) = ⊤
-Nests (elements n) = ⊤
+Nests (array_of n) = ⊤
 
 abbrev IsWithin : ℕ → Document → Type 0
 IsWithin n d = (u : Tokens) → Nests (kind d u) → length u < n

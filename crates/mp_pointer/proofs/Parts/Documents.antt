@@ -1,11 +1,11 @@
--- A part of a document is one, and that something is a document is told by the names of its maps.
+-- A part of a document is one, and that something is a document depends on the names of its maps.
 use Rattle.std.proofs.Common.{◌≡◌, ℕ, suc, List, [], ◌∷◌, Bool, true, false, cond, Less, Option, None, Some, IfSome, option_and_then, refl, sym, ap, ◌∙◌, subst}
 use Rattle.std.specs.Prelude.{⊤}
 use Rattle.std.specs.Str.{bytes_eq}
 use Rattle.mp_tree.specs.Document.{Document, null, flag, whole, string, list, object, Items, no_items, item, Members, no_members, member, name_cmp, find, IsBelow, IsDocument, AreDocuments, IsMap}
 use Rattle.mp_tree.specs.Elements.{nth}
 use Rattle.mp_tree.proofs.Facts.{cases_same, is_name-self, find-below, IsDocument-find}
-use Rattle.mp_pointer.specs.Difference.{DifferOnlyAt, Kind, absent, scalar, names, elements, kind, kind_of, names_of}
+use Rattle.mp_pointer.specs.Difference.{DifferOnlyAt, Kind, absent, scalar, names, array_of, kind, kind_of, names_of}
 use Rattle.mp_pointer.specs.Part.{part, child, element_from, numeral}
 use Rattle.mp_pointer.specs.Laws.{PartsAreDocuments}
 use Rattle.mp_pointer.specs.Spelling.{Tokens}
@@ -40,7 +40,7 @@ part-document (token ∷ u) d x good is = through (child token d) refl (λ e. pa
     through None here later is = cc
     through (Some e) here later is = later e (child-document token d e good here) is
 
--- ---- a document is told by the names of its maps
+-- ---- a document depends on the names of its maps
 
 abbrev AllAbove : List ℕ → List (List ℕ) → Type 0
 AllAbove n [] = ⊤
@@ -54,7 +54,7 @@ abbrev IsOrdered : Kind → Type 0
 IsOrdered absent = ⊤
 IsOrdered (scalar v) = ⊤
 IsOrdered (names ns) = Ascends ns
-IsOrdered (elements n) = ⊤
+IsOrdered (array_of n) = ⊤
 
 all_above : (n : List ℕ) (ms : Members) → IsBelow n ms → AllAbove n (names_of ms)
 all_above n no_members below = tt

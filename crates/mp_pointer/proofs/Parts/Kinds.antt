@@ -1,4 +1,4 @@
--- The kinds at all lists of tokens tell a document.
+-- The kinds at all lists of tokens determine a document.
 use Rattle.std.proofs.Common.{◌≡◌, ℕ, suc, List, [], ◌∷◌, ◌++◌, Option, Some, option_and_then, refl, sym, ap, ap₂, ◌∙◌, subst, arith, false, true≢false}
 use Rattle.mp_tree.specs.Document.{Document, null, flag, whole, string, list, object, Items, no_items, item, Members, no_members, member, find, is_name, IsBelow, IsDocument, AreDocuments, IsMap}
 use Rattle.mp_tree.proofs.Facts.{find-below, cases_same, is_name-self}

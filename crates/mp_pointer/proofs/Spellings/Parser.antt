@@ -25,7 +25,7 @@ abbrev pub unless_bad : Option ℕ → Tokens → Result Tokens PointerFault
 unless_bad None tokens = Ok tokens
 unless_bad (Some offset) tokens = Err (BadTilde offset)
 
--- the tokens that the text spells, or the first fault: no slash, or a bad tilde at its offset
+-- the tokens that the text spells, or the first error: no slash, or a bad tilde at its offset
 unfoldable pub tokens_in : List ℕ → Result Tokens PointerFault
 tokens_in [] = Ok []
 tokens_in (c ∷ rest) = if c == slash then unless_bad (first_bad_tilde (c ∷ rest)) (map unescape (parts_of rest)) else Err NoSlash

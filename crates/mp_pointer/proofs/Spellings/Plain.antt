@@ -91,7 +91,7 @@ cuts_in bytes is_text no_tilde (c ∷ rest) start next long left rise is between
         at k true same above below = λ k_is. (let last : k ≡ next = eqb-true k next same in let other : c ≢ slash = grind (arith, nat_tests) in other (sym here ∙ ap (λ i. get_or bytes i 0) (sym last) ∙ k_is))
         at k false other above below = between k above (grind (arith, nat_tests))
 
--- the text after the first slash, where its tokens end, and the slash itself
+-- the text after the first slash, if its tokens end, and the slash itself
 pub kept_plain : (rest : List ℕ) → IsUtf8 rest → Lacks tilde rest → IsKept true (ends_in 1 rest) (slash ∷ rest)
 kept_plain rest is_text no_tilde =
     let bytes = slash ∷ rest in

@@ -3,7 +3,7 @@ use Rattle.std.proofs.Common.{◌≡◌, ◌≢◌, ◌⊎◌, inl, inr, ℕ, ze
 use Rattle.std.proofs.lemmas.List.Concat.{flat_map-append}
 use Rattle.std.proofs.lemmas.Bool.Decides.{nat_tests}
 use Rattle.mp_pointer.specs.Bytes.{slash, tilde, digit_zero, digit_one}
-use Rattle.mp_pointer.specs.Laws.{HasOneFault, HasOneSpelling, SpellingsHaveNoFault, SpellsOrIsFaulty}
+use Rattle.mp_pointer.specs.Laws.{HasOnePointerFault, HasOneSpelling, SpellingsHaveNoFault, SpellsOrIsFaulty}
 use Rattle.mp_pointer.specs.Private.BadTilde.{starts_badly, first_bad_tilde}
 use Rattle.mp_pointer.specs.Spelling.{Tokens, escaped_byte, escape, spell, LacksSlash, IsBadTilde, IsFirstBadTilde, IsPointerFault}
 use Rattle.mp_pointer.proofs.Spellings.Parser.{unescape, on_first, parts_of, unless_bad, tokens_in}
@@ -137,7 +137,7 @@ first_bad-some (c ∷ rest) (suc n) first =
     rw (good_from c rest (first.before 0 (omega arith)))
     (ap (option_map suc) (first_bad-some rest n (record { here = bad-tail c rest n first.here; before = λ k below bad. first.before (suc k) (omega arith) (bad-cons c rest k bad) })))
 
--- a first bad tilde after a byte that is none
+-- a first bad tilde after a byte that is not one
 first_bad-later : (c : ℕ) (rest : List ℕ) (n : ℕ) → starts_badly c rest ≡ false → IsFirstBadTilde rest n → IsFirstBadTilde (c ∷ rest) (suc n)
 first_bad-later c rest n good first = record { here = bad-cons c rest n first.here; before = before }
   where
@@ -212,7 +212,7 @@ unfolding tokens_in
 tokens_in-spell [] = refl
 tokens_in-spell (token ∷ t) = ap₂ unless_bad (first_bad-spell (token ∷ t)) (ap (map unescape) (parts_of-spell token t) ∙ unescape_all (token ∷ t))
 
--- ---- the faults
+-- ---- the errors
 
 pub lacks_slash : (text : List ℕ) → text ≢ [] → ((rest : List ℕ) → text ≢ slash ∷ rest) → LacksSlash text
 lacks_slash [] some no_slash = absurd (some refl)
@@ -335,7 +335,7 @@ spellings_have_no_fault t OutOfMemory holds = refl
 spellings_have_no_fault t NoSlash holds = absurd (read_and_refused (tokens_in (spell t)) t NoSlash (tokens_in-spell t) (refused_from_fault (spell t) NoSlash (λ same. cc) holds))
 spellings_have_no_fault t (BadTilde offset) holds = absurd (read_and_refused (tokens_in (spell t)) t (BadTilde offset) (tokens_in-spell t) (refused_from_fault (spell t) (BadTilde offset) (λ same. cc) holds))
 
-pub has_one_fault : HasOneFault
+pub has_one_fault : HasOnePointerFault
 has_one_fault text fault other known known_too holds holds_too = same_refusal fault other (sym (refused_from_fault text fault known holds) ∙ refused_from_fault text other known_too holds_too)
   where
     same_refusal : (fault other : PointerFault) → ◌≡◌ {A = Result Tokens PointerFault} (Err fault) (Err other) → fault ≡ other

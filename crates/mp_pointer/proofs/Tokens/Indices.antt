@@ -142,9 +142,9 @@ pub child-no_index : (token : List ℕ) (ds : Items) → ((i : ℕ) → token �
 unfolding child
 child-no_index token ds none = element_from-none 0 token ds (λ j below e. omega (arith, none j (e ∙ ap numeral (omega arith))))
 
-pub lent_part : (r : Option (Bor Doc)) → option_map (λ (d : Bor Doc). document d.now) r ≡ option_map document (option_copied r)
-lent_part None = refl
-lent_part (Some d) = refl
+pub borrowed_part : (r : Option (Bor Doc)) → option_map (λ (d : Bor Doc). document d.now) r ≡ option_map document (option_copied r)
+borrowed_part None = refl
+borrowed_part (Some d) = refl
 
 -- what `get` of a list answers
 pub item_at : {X : Type 0} (xs : List X) (i : ℕ) (r : Option (Bor X)) → IsItemAt xs i r → option_copied r ≡ slice_get xs i
@@ -157,7 +157,7 @@ names_elements i ds = (child-numeral (numeral i) i ds refl, λ past. child-numer
 pub names_nothing_else : NamesNothingElse
 names_nothing_else token ds other = child-no_index token ds (λ i is. absurd (other i is))
 
--- the index that a token spells, where it names an element
+-- the index that a token spells, if it names an element
 pub element_found : (i : ℕ) (token : List ℕ) (ds : Items) (x : Document) → element_from i token ds ≡ Some x → (j : ℕ) × (token ≡ numeral (i + j)) × (nth j ds ≡ Some x)
 element_found i token no_items x is = cc
 element_found i token (item d ds) x is = by (bytes_eq token (numeral i)) refl (element_found (suc i) token ds x) is

@@ -1,4 +1,4 @@
--- What is asked where one child is lent. Only private clauses cite it.
+-- What is asked where one child is borrowed. Only private clauses cite it.
 use Rattle.std.specs.Prelude.{◌+◌, ℕ, ⊤}
 use Rattle.std.specs.List.{slice_range}
 use Rattle.mp_tree.specs.Document.{Document, null, flag, whole, string, list, object}

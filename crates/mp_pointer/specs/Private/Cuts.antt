@@ -27,7 +27,7 @@ abbrev pub EachPlain : List (List ℕ) → Type 0
 EachPlain [] = ⊤
 EachPlain (text ∷ texts) = IsPlain text × EachPlain texts
 
--- the fields of a pointer: where its flag is set, each token is spelled as it is
+-- the fields of a pointer: if its flag is set, each token is spelled as it is
 pub record IsKept (is_plain : Bool) (ends bytes : List ℕ) : Type 0 where
   pub cuts : AreCuts 0 ends bytes
   pub plain : IsTrue is_plain → EachPlain (cut 0 ends bytes)

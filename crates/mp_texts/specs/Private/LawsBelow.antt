@@ -30,18 +30,18 @@ pub record AnswerLaws : Type 0 where
   pub readable : ReadsReadable
   pub one_spelling : pointer.HasOneSpelling
   pub spelling_unfaulty : pointer.SpellingsHaveNoFault
-  pub one_pointer_fault : pointer.HasOneFault
+  pub one_pointer_fault : pointer.HasOnePointerFault
   pub one_reading : patch.HasOneReading
   pub form_documents : patch.FormsHaveDocuments
   pub form_unfaulty : patch.FormsHaveNoFault
-  pub one_form_fault : patch.HasOneFault
+  pub one_form_fault : patch.HasOneFormFault
   pub one_end : patch.HasOneEnd
   pub unrefused : patch.RunsUnrefused
   pub one_refusal : patch.HasOneRefusal
   pub one_outcome : merge.HasOneOutcome
   pub outcome_exists : merge.OutcomeExists
-  pub told_is_incompatible : merge.CompatibleHaveNone
-  pub one_told_pair : merge.HasOneToldPair
+  pub reported_is_incompatible : merge.CompatibleHaveNone
+  pub one_reported_pair : merge.HasOneReportedPair
   pub none_has_no_join : merge.EmptyHasNoJoin
   pub one_join : merge.HasOneJoin
   pub join_exists : merge.JoinExists
@@ -64,7 +64,7 @@ pub record ExistenceLaws : Type 0 where
   pub readable_parts : pointer.PartsAreReadable
   pub form_or_faulty : patch.IsFormOrFaulty
   pub readable_shapes : patch.ShapesAreReadable
-  pub compatible_or_told : merge.CompatibleOrTold
+  pub compatible_or_reported : merge.CompatibleOrReported
   pub applied_in_turn : merge.AppliedInTurn
   pub readable_merge : merge.MergedIsReadable
   pub rewriting_exists : merge.RewritingExists

@@ -1,4 +1,4 @@
--- What is told of a text that is no document. Only private clauses cite it.
+-- What is reported of a text that is not a document. Only private clauses cite it.
 use Rattle.std.specs.Prelude.{◌≡◌, ℕ, List, Err, ⊤}
 use Rattle.mp_tree.specs.Text.{document_in}
 use Rattle.mp_texts.specs.Texts.{IsFirstUnread}

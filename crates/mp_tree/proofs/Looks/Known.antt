@@ -1,4 +1,4 @@
--- Whether two looks are the same, and what follows where a look is not nothing.
+-- Whether two looks are the same, and what follows if a look is not nothing.
 use Rattle.std.proofs.Common.{◌≡◌, ◌≢◌, ◌⊎◌, inl, inr, ℕ, List, Less, cond, Option, Some, None, refl, ap, ◌∙◌, []}
 use Rattle.std.proofs.Math.Decide.{map_dec}
 use Rattle.std.specs.List.{Contains}

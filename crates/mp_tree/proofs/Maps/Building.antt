@@ -125,7 +125,7 @@ unfolding IsStrictlySortedBy
 ascend_up_to [] k v left ascending = (tt, tt)
 ascend_up_to (e ∷ es) k v left ascending = (all_up_to e.0 k es v left ascending.0, ascend_up_to es k v left ascending.1)
 
--- the same where they are seen as those that it has passed
+-- the same if they are seen as those that it has passed
 pub insert-last-seen : {V W C : Type 0} (f : V → C) (g : W → C) {es left more : List (String Global × W)} (fs new : List (String Global × V)) (k l : String Global) (v : V) (w : W)
     → Passed es left (λ passed. map (seen f) fs ≡ map (seen g) passed) → left ≡ (l, w) ∷ more → seen f (k, v) ≡ seen g (l, w) → IsStrictlySortedBy string_cmp (keys_of es) → new ≡ insert_entry string_cmp fs k v
     → new ≡ fs ++ (k, v) ∷ []

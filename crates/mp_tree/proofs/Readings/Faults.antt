@@ -1,4 +1,4 @@
--- What is read gives no fault that is the machine's.
+-- What is read gives no error that is the machine's.
 use Rattle.std.proofs.Common.{◌≢◌, Bool, true, false, if◌then◌else◌, nat_le, Option, None, Some, Ok, Err}
 use Rattle.serde_json.specs.Data.{Data}
 use Rattle.mp_tree.specs.Document.{Document, null, flag, whole, string, list, object, depth, depth_limit}

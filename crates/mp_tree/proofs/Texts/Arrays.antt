@@ -20,7 +20,7 @@ use Rattle.mp_tree.specs.Text.{text, data_of, items_data, members_data, data_in}
 use Rattle.mp_tree.proofs.Texts.RoundTrip.{IsUtf8-text, has_number, reads_same_tokens}
 use Rattle.mp_tree.proofs.Texts.Written.{from_data-data_of}
 
--- ---- the lexemes after a text are those of what follows it, where that begins no word
+-- ---- the lexemes after a text are those of what follows it, if that begins no word
 
 -- two texts that begin no word have the same lexemes
 pub record AreAlike (r s : List ℕ) : Type 0 where
@@ -149,7 +149,7 @@ lex-nothing : (r : List ℕ) → All IsSpace r → lex between r ≡ []
 unfolding lex
 lex-nothing r spaces = ap (lex between) (sym (append-nil r)) ∙ lex-spaces r [] spaces
 
--- an element with what follows it, where both have the lexemes of the compact text
+-- an element with what follows it, if both have the lexemes of the compact text
 lex-spaced : (d : Document) (s rest compact : List ℕ) → IsInRange d → IsSpaced (text d) s → ends_word rest ≡ true → ends_word compact ≡ true → lex between rest ≡ lex between compact
     → lex between (s ++ rest) ≡ lex between (text d ++ compact)
 lex-spaced d s rest compact range spaced ends ended same =

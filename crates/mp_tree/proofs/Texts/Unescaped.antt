@@ -49,7 +49,7 @@ begins xs utf8 = by utf8.0 utf8.1.0 utf8.1.1
           high (encode c) (encodes cs) (sym is) (some_bytes c) (all_high (encode c) each) utf8 (cs, ((and_parts _ _ ok).1, refl))
     ]
 
--- ---- what stands in a string
+-- ---- what is in a string
 
 if_prepended : (bytes : List ℕ) (o : Option (List ℕ)) → IsUtf8 bytes → IfSome o IsUtf8 → IfSome (prepend bytes o) IsUtf8
 if_prepended bytes None utf8 rest = tt

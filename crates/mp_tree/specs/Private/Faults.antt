@@ -1,4 +1,4 @@
--- The fault that is answered where a reading fails. Only private clauses cite it.
+-- The error that is answered if a reading fails. Only private clauses cite it.
 use Rattle.mp_tree.specs.declared.converting.Unread.{Unread}
 use Rattle.mp_tree.specs.declared.converting.Unread.TheVariants as unread
 use Rattle.mp_tree.specs.declared.fault.DocsFault.{DocsFault}

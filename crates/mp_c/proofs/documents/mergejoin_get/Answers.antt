@@ -13,9 +13,9 @@ returns-in-Ok c =
     let pointer = c.args.pointer.now in
     let (same, utf8) = c.in-Ok.ensures.cases in
     let is = part_of_text c.part_text.result document pointer c.in-Ok.pointer.now same utf8 c.part_text.ensures in
-    replied (IsPart document pointer) c.part_text.result c.tell.result c.args.out.now c.tell.new.out is tt c.tell.ensures
+    replied (IsPart document pointer) c.part_text.result c.report.result c.args.out.now c.report.new.out is tt c.report.ensures
 
--- a document that is none is told first
+-- a document that is not one is reported first
 pub returns-after-read_doc : goal.returns-after-read_doc
 returns-after-read_doc c =
     let document = c.args.document.now in
@@ -26,12 +26,12 @@ returns-after-read_doc c =
     elim c.match-read_doc.branch [
       | in-Ok-read_doc w ↦
           let read : IsRead document = (document_of w.in-Ok-read_doc.field-0, w.in-Ok-read_doc.ensures.document) in
-          let told = w.tell_not_utf8 in
-          renamed (IsPart document pointer) reply told.result before after told.new.out w.result-is w.out-is
-          (not_utf8 w.valid_up_to.result, (read, subst (λ (n : ℕ). IsValidUpTo pointer n) (sym w.valid_up_to.ensures) c.in-Err.ensures.cases.1), told.ensures)
+          let report = w.report_not_utf8 in
+          renamed (IsPart document pointer) reply report.result before after report.new.out w.result-is w.out-is
+          (not_utf8 w.valid_up_to.result, (read, subst (λ (n : ℕ). IsValidUpTo pointer n) (sym w.valid_up_to.ensures) c.in-Err.ensures.cases.1), report.ensures)
       | in-Err-read_doc w ↦
           let arm = w.in-Err-read_doc in
-          let told = w.tell-in-Err-read_doc in
-          renamed (IsPart document pointer) reply told.result before after told.new.out w.result-is w.out-is
-          (no_document arm.why document pointer told.result before told.new.out arm.ensures.faults told.ensures)
+          let report = w.report-in-Err-read_doc in
+          renamed (IsPart document pointer) reply report.result before after report.new.out w.result-is w.out-is
+          (no_document arm.why document pointer report.result before report.new.out arm.ensures.faults report.ensures)
     ]

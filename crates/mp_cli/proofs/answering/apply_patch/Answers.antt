@@ -3,14 +3,14 @@ use Rattle.std.proofs.lemmas.Result.{IfOk-weaker}
 use Rattle.mp_tree.specs.View.{document}
 use Rattle.mp_tree.proofs.Facts.{IsDocument-document}
 use Rattle.mp_cli.specs.Answered.{ran, halted}
-use Rattle.mp_cli.specs.Lines.{line, status_result}
+use Rattle.mp_cli.specs.Lines.{line, exit_result}
 use Rattle.mp_cli.proofs.answering.apply_patch.Goals as goal
 
 pub returns-in_ok-write_doc-in-Ok : goal.returns-in_ok-write_doc-in-Ok
 returns-in_ok-write_doc-in-Ok c =
     let e = c.in-Ok.result in
     let text = c.in_ok-write_doc-in-Ok.ensures.text in
-    IfOk-weaker c.result_line.result _ _ (λ a is. ran (document e) (IsDocument-document e) c.in-Ok.ensures.runs (is ∙ ap (λ t. line t status_result) text)) c.result_line.ensures
+    IfOk-weaker c.result_line.result _ _ (λ a is. ran (document e) (IsDocument-document e) c.in-Ok.ensures.runs (is ∙ ap (λ t. line t exit_result) text)) c.result_line.ensures
 
 pub returns-in-Err : goal.returns-in-Err
 returns-in-Err c =

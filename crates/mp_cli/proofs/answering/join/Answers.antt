@@ -3,7 +3,7 @@ use Rattle.std.proofs.lemmas.Result.{IfOk-weaker}
 use Rattle.mp_tree.specs.View.{document}
 use Rattle.mp_tree.proofs.Facts.{IsDocument-document}
 use Rattle.mp_cli.specs.Answered.{joined}
-use Rattle.mp_cli.specs.Lines.{line, status_result}
+use Rattle.mp_cli.specs.Lines.{line, exit_result}
 use Rattle.mp_cli.proofs.AnswerCases.{no_join}
 use Rattle.mp_cli.proofs.answering.join.Goals as goal
 
@@ -11,7 +11,7 @@ pub returns-in_ok-write_doc-in-Ok : goal.returns-in_ok-write_doc-in-Ok
 returns-in_ok-write_doc-in-Ok c =
     let j = c.in-Ok.joined in
     let text = c.in_ok-write_doc-in-Ok.ensures.text in
-    IfOk-weaker c.result_line.result _ _ (λ a is. joined (document j) (IsDocument-document j) c.in-Ok.ensures.joined (is ∙ ap (λ t. line t status_result) text)) c.result_line.ensures
+    IfOk-weaker c.result_line.result _ _ (λ a is. joined (document j) (IsDocument-document j) c.in-Ok.ensures.joined (is ∙ ap (λ t. line t exit_result) text)) c.result_line.ensures
 
 pub returns-in-Err : goal.returns-in-Err
 returns-in-Err c =

@@ -3,7 +3,7 @@ use Rattle.std.proofs.lemmas.Result.{IfOk-weaker}
 use Rattle.mp_tree.specs.View.{document}
 use Rattle.mp_tree.proofs.Facts.{IsDocument-document}
 use Rattle.mp_cli.specs.Answered.{replayed}
-use Rattle.mp_cli.specs.Lines.{line, status_result}
+use Rattle.mp_cli.specs.Lines.{line, exit_result}
 use Rattle.mp_cli.proofs.AnswerCases.{no_replay, replay_answer}
 use Rattle.mp_cli.proofs.answering.replay.Goals as goal
 
@@ -15,7 +15,7 @@ returns-in-Ok c =
     let e = c.in-Ok.doc in
     let split : docs ≡ d ∷ ps = c.in-Some.ensures ∙ ap (λ rest. d ∷ rest) (sym c.as_slice.ensures.value) in
     let text = c.in_ok-write_doc-in-Ok.ensures.text in
-    IfOk-weaker c.result_line.result _ _ (λ a is. replay_answer docs ps d _ split (replayed (document e) (IsDocument-document e) c.in-Ok.ensures.outcome (is ∙ ap (λ t. line t status_result) text))) c.result_line.ensures
+    IfOk-weaker c.result_line.result _ _ (λ a is. replay_answer docs ps d _ split (replayed (document e) (IsDocument-document e) c.in-Ok.ensures.outcome (is ∙ ap (λ t. line t exit_result) text))) c.result_line.ensures
 
 pub returns : goal.returns
 returns c =

@@ -1,8 +1,8 @@
 use Rattle.std.proofs.Common.{ℕ, List, ap}
-use Rattle.mp_cli.specs.Lines.{Answered}
+use Rattle.mp_cli.specs.Lines.{Output}
 use Rattle.mp_cli.proofs.lines.ended.Goals as goal
 
-abbrev answered : ℕ → List ℕ → Answered
+abbrev answered : ℕ → List ℕ → Output
 answered status text = record { text = text; status = status }
 
 pub returns : goal.returns

@@ -8,7 +8,7 @@ use Rattle.mp_cli.specs.Lines.{pointer_text, pointers_text}
 use Rattle.mp_cli.proofs.lines.push_pointers.Goals as goal
 use Rattle.mp_cli.proofs.lines.push_pointers.Goals.{in-Some+in_ok-pointer_text+in_ok-push_str, in_default}
 
--- pointers that are printed behind others
+-- pointers that are printed after others
 abbrev behind : List Path → List ℕ
 behind ws = flat_map (λ u. codes ", " ++ pointer_text u) ws
 

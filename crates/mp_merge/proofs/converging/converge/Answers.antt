@@ -14,7 +14,7 @@ use Rattle.mp_patch.specs.declared.fault.ApplyFault.TheVariants.{Refused}
 use Rattle.mp_merge.specs.Application.{merge_patch}
 use Rattle.mp_merge.specs.Converged.{IsConvergeFault}
 use Rattle.mp_merge.specs.Convergence.{Converge, LeadsTo, ReachesEnd, ReplicasConverge}
-use Rattle.mp_merge.specs.Faults.{told_of_list, told_of_patch}
+use Rattle.mp_merge.specs.Faults.{converge_fault_of_list, converge_fault_of_patch}
 use Rattle.mp_merge.specs.Join.{IsJoin}
 use Rattle.mp_merge.specs.Laws.{HasOneRewriting, OutcomeExists}
 use Rattle.mp_merge.specs.Lists.{AreWithin, HaveSameMembers, IsJoinAllFault, IsReplayFault, PairwiseCompatible}
@@ -39,17 +39,17 @@ module _ {start joined end : Document} {received : List Document} (reached : Rea
       → MatchResult r (λ j. IsJoin received (document j)) (λ fault. IsJoinAllFault fault received) → document d ≡ joined
   join_is {d = d} docs is says = reached.one_join (document d) (docs d).0 (MatchResult-at_ok _ _ d is says)
 
--- where a JSON Patch leads to an end, the only fault is want of memory
-patch_fault : {start end : Document} {operations : List Operation} → LeadsTo start end operations → (fault : ApplyFault) → IsApplyFault fault start operations → told_of_patch fault ≡ OutOfMemory
+-- if a JSON Patch leads to an end, the only error is out of memory
+patch_fault : {start end : Document} {operations : List Operation} → LeadsTo start end operations → (fault : ApplyFault) → IsApplyFault fault start operations → converge_fault_of_patch fault ≡ OutOfMemory
 patch_fault leads (Refused op cause) refused = absurd (leads.unrefused op cause refused)
 patch_fault leads ApplyFault.OutOfMemory refused = refl
 
 -- what a `?` hands on
-handed_on : {told : ConvergeFault} (P : ConvergeFault → Type 0) (r : Result Converged ConvergeFault) → IsErrAnd r (λ fault. fault ≡ told) → P told → IfErr r P
+handed_on : {reported : ConvergeFault} (P : ConvergeFault → Type 0) (r : Result Converged ConvergeFault) → IsErrAnd r (λ fault. fault ≡ reported) → P reported → IfErr r P
 handed_on P (Ok all) exit holds = tt
 handed_on P (Err fault) exit holds = subst P (sym exit) holds
 
-refused_by : {told : ConvergeFault} (P : ConvergeFault → Type 0) (Q : Converged → Type 0) (r : Result Converged ConvergeFault) → IsErrAnd r (λ fault. fault ≡ told) → P told
+refused_by : {reported : ConvergeFault} (P : ConvergeFault → Type 0) (Q : Converged → Type 0) (r : Result Converged ConvergeFault) → IsErrAnd r (λ fault. fault ≡ reported) → P reported
     → MatchResult r Q P
 refused_by P Q (Ok all) exit holds = absurd exit
 refused_by P Q (Err fault) exit holds = subst P (sym exit) holds
@@ -86,35 +86,35 @@ ends docs law start here there are = record {
 
 -- ---- the calls for any lists
 
--- where there is a replay, no two patches clash
+-- if there is a replay, no two patches clash
 compatible : DocsAreDocuments → OutcomeExists → (start : Doc) (ps : List Doc) {r : Result Doc ListFault} {d : Doc} → r ≡ Ok d
     → MatchResult r (λ e. IsOutcome (document start) (map document ps) (document e)) (λ fault. IsReplayFault fault (map document ps)) → PairwiseCompatible (map document ps)
 compatible docs law start ps {d = d} is says =
     (law (document start) (map document ps) (docs start).0 (all_documents docs ps)).0 (document d, (docs d).0, MatchResult-at_ok _ _ d is says)
 
 module _ (start : Document) (here there : List Document) where
-  here_refused : (fault : ListFault) → IsReplayFault fault here → IsConvergeFault (told_of_list fault) start here there
+  here_refused : (fault : ListFault) → IsReplayFault fault here → IsConvergeFault (converge_fault_of_list fault) start here there
   here_refused NoPatches never = absurd never
-  here_refused (ConflictOf first second places) told = inl told
+  here_refused (ConflictOf first second places) reported = inl reported
   here_refused ListFault.OutOfMemory memory = tt
 
-  there_refused : (fault : ListFault) → PairwiseCompatible here → IsReplayFault fault there → IsConvergeFault (told_of_list fault) start here there
+  there_refused : (fault : ListFault) → PairwiseCompatible here → IsReplayFault fault there → IsConvergeFault (converge_fault_of_list fault) start here there
   there_refused NoPatches fine never = absurd never
-  there_refused (ConflictOf first second places) fine told = inr (fine, told)
+  there_refused (ConflictOf first second places) fine reported = inr (fine, reported)
   there_refused ListFault.OutOfMemory fine memory = tt
 
-  join_refused : (fault : ListFault) → PairwiseCompatible here → PairwiseCompatible there → IsJoinAllFault fault here → IsConvergeFault (told_of_list fault) start here there
+  join_refused : (fault : ListFault) → PairwiseCompatible here → PairwiseCompatible there → IsJoinAllFault fault here → IsConvergeFault (converge_fault_of_list fault) start here there
   join_refused NoPatches fine good none = (fine, good, inl none)
-  join_refused (ConflictOf first second places) fine good told = inl told
+  join_refused (ConflictOf first second places) fine good reported = inl reported
   join_refused ListFault.OutOfMemory fine good memory = tt
 
-  other_refused : (fault : ListFault) → PairwiseCompatible here → PairwiseCompatible there → IsJoinAllFault fault there → IsConvergeFault (told_of_list fault) start here there
+  other_refused : (fault : ListFault) → PairwiseCompatible here → PairwiseCompatible there → IsJoinAllFault fault there → IsConvergeFault (converge_fault_of_list fault) start here there
   other_refused NoPatches fine good none = (fine, good, inr none)
-  other_refused (ConflictOf first second places) fine good told = inr (fine, told)
+  other_refused (ConflictOf first second places) fine good reported = inr (fine, reported)
   other_refused ListFault.OutOfMemory fine good memory = tt
 
   patch_refused : (fault : ApplyFault) (joined other : Document) (operations : List Operation) → IsDocument joined → IsDocument other
-      → IsJoin here joined → IsJoin there other → IsRewriting start joined operations → IsApplyFault fault start operations → IsConvergeFault (told_of_patch fault) start here there
+      → IsJoin here joined → IsJoin there other → IsRewriting start joined operations → IsApplyFault fault start operations → IsConvergeFault (converge_fault_of_patch fault) start here there
   patch_refused (Refused op cause) joined other operations fine good is was edits refused = record {
     joined = joined;
     joined_is_document = fine;
@@ -137,7 +137,7 @@ returns-in_err-replayed_here-clause-calls c =
 pub returns-in_err-replayed_here-clause-refused : goal.returns-in_err-replayed_here-clause-refused
 returns-in_err-replayed_here-clause-refused c are within =
     let all = ends c.docs_are_documents.ensures c.replicas_converge.ensures.replicas c.args.start.now c.args.here.now c.args.there.now are in
-    handed_on _ c.from_residual.result c.from_residual.ensures.1 (ap told_of_list (all.at_here.replays c.in_err-replayed_here.field-0.0 c.in_err-replayed_here.ensures.outcome))
+    handed_on _ c.from_residual.result c.from_residual.ensures.1 (ap converge_fault_of_list (all.at_here.replays c.in_err-replayed_here.field-0.0 c.in_err-replayed_here.ensures.outcome))
 
 pub returns-in_err-replayed_there-clause-calls : goal.returns-in_err-replayed_there-clause-calls
 returns-in_err-replayed_there-clause-calls c =
@@ -149,7 +149,7 @@ pub returns-in_err-replayed_there-clause-refused : goal.returns-in_err-replayed_
 returns-in_err-replayed_there-clause-refused c are within =
     let all = ends c.docs_are_documents.ensures c.replicas_converge.ensures.replicas c.args.start.now c.args.here.now c.args.there.now are in
     handed_on _ c.from_residual-in_err-replayed_there.result c.from_residual-in_err-replayed_there.ensures.1
-    (ap told_of_list (all.at_there.replays c.in_err-replayed_there.field-0.0 c.in_err-replayed_there.ensures.outcome))
+    (ap converge_fault_of_list (all.at_there.replays c.in_err-replayed_there.field-0.0 c.in_err-replayed_there.ensures.outcome))
 
 pub returns-in_err-joined_here-clause-calls : goal.returns-in_err-joined_here-clause-calls
 returns-in_err-joined_here-clause-calls c =
@@ -162,7 +162,7 @@ pub returns-in_err-joined_here-clause-refused : goal.returns-in_err-joined_here-
 returns-in_err-joined_here-clause-refused c are within =
     let all = ends c.docs_are_documents.ensures c.replicas_converge.ensures.replicas c.args.start.now c.args.here.now c.args.there.now are in
     handed_on _ c.from_residual-in_err-joined_here.result c.from_residual-in_err-joined_here.ensures.1
-    (ap told_of_list (all.at_here.joins c.in_err-joined_here.field-0.0 c.in_err-joined_here.ensures.joined))
+    (ap converge_fault_of_list (all.at_here.joins c.in_err-joined_here.field-0.0 c.in_err-joined_here.ensures.joined))
 
 pub returns-in_err-joined_there-clause-calls : goal.returns-in_err-joined_there-clause-calls
 returns-in_err-joined_there-clause-calls c =
@@ -175,7 +175,7 @@ pub returns-in_err-joined_there-clause-refused : goal.returns-in_err-joined_ther
 returns-in_err-joined_there-clause-refused c are within =
     let all = ends c.docs_are_documents.ensures c.replicas_converge.ensures.replicas c.args.start.now c.args.here.now c.args.there.now are in
     handed_on _ c.from_residual-in_err-joined_there.result c.from_residual-in_err-joined_there.ensures.1
-    (ap told_of_list (all.at_there.joins c.in_err-joined_there.field-0.0 c.in_err-joined_there.ensures.joined))
+    (ap converge_fault_of_list (all.at_there.joins c.in_err-joined_there.field-0.0 c.in_err-joined_there.ensures.joined))
 
 pub returns-in_err-patched-clause-calls : goal.returns-in_err-patched-clause-calls
 returns-in_err-patched-clause-calls c =

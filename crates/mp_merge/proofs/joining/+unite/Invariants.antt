@@ -5,7 +5,7 @@ use Rattle.mp_merge.proofs.Clashes.ByName.{SameClashes}
 use Rattle.mp_merge.proofs.Collections.Members.{ChangesLeft}
 use Rattle.mp_merge.proofs.joining.+unite.Given as goal
 
--- the changes that are left clash with the entries as they are where all clash, and joined with them give the result
+-- the changes that are left clash with the entries as they are if all clash, and joined with them give the result
 abbrev pub invariant-unite_members-loop-name : goal.invariant-unite_members-loop-name
 invariant-unite_members-loop-name l =
     let changes = members l.changes.entries in

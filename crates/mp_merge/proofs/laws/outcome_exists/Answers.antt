@@ -1,4 +1,4 @@
-use Rattle.mp_merge.proofs.Clashes.ToldPair.{outcome_exists}
+use Rattle.mp_merge.proofs.Clashes.ReportedPair.{outcome_exists}
 use Rattle.mp_merge.proofs.laws.outcome_exists.Goals as goal
 
 pub returns : goal.returns

@@ -7,7 +7,7 @@ use Rattle.mp_merge.specs.Join.{IsJoin}
 use Rattle.mp_merge.specs.Lists.{IsClashBelow}
 use Rattle.mp_merge.specs.Private.Clashes.{IsFreeBelow}
 use Rattle.mp_merge.specs.Private.Unions.{UnitesTo}
-use Rattle.mp_merge.proofs.Joins.Numbered.{at_number, told_pair, free_of_join, joined_more}
+use Rattle.mp_merge.proofs.Joins.Numbered.{at_number, reported_pair, free_of_join, joined_more}
 use Rattle.mp_merge.proofs.lists.join_next.Goals as goal
 
 pub returns-then-branch : goal.returns-then-branch
@@ -40,4 +40,4 @@ returns c =
     let patches = map document c.args.patches.now in
     let k = c.args.second in
     let clash : IsClashBelow patches c.in-Some.first k c.in-Some.places.items = subst (λ (o : Option (ℕ × Vec Path Global)). MatchOption o (IsFreeBelow patches k) (λ f. IsClashBelow patches f.0 k f.1.items)) c.in-Some.is c.in_ok-first.ensures in
-    told_pair patches c.in-Some.first k c.in-Some.places.items (document c.args.joined) (omega (arith, length-map c.args.patches.now document, c.requires.within)) c.requires.joined clash
+    reported_pair patches c.in-Some.first k c.in-Some.places.items (document c.args.joined) (omega (arith, length-map c.args.patches.now document, c.requires.within)) c.requires.joined clash

@@ -5,7 +5,7 @@ use Rattle.mp_tree.specs.Private.Entries.{members}
 use Rattle.mp_tree.specs.declared.doc.Doc.{Doc}
 use Rattle.mp_tree.proofs.Facts.{document_of_map, looked_up}
 use Rattle.mp_merge.specs.Private.Edits.{lists_of}
-use Rattle.mp_pointer.proofs.Facts.{lent_part}
+use Rattle.mp_pointer.proofs.Facts.{borrowed_part}
 use Rattle.mp_merge.proofs.Rewritings.Walk.{all_edits, both_maps, edits_after_one, renamed}
 use Rattle.mp_merge.proofs.Collections.Members.{pass_change, no_changes}
 use Rattle.mp_merge.proofs.rewriting.+push_edits.Goals as goal
@@ -26,7 +26,7 @@ push_member_edits-loop-name-preserved t c =
     let value = c.get-value.result in
     let found = looked_up entries c.as_str.ensures.value c.get-value.ensures.value in
     let grew = renamed (lists_of l.found) (lists_of c.push_edits.new.found) l.path s c.as_str-in-loop-name.result.now n p (option_map (λ (v : Bor Doc). document v.now) value) (find n (members entries))
-    l.invariant.path c.as_str-in-loop-name.ensures.value (lent_part value ∙ sym found) c.in_ok-push_edits.ensures.edits in
+    l.invariant.path c.as_str-in-loop-name.ensures.value (borrowed_part value ∙ sym found) c.in_ok-push_edits.ensures.edits in
     record {
       path = c.in_ok-push_edits.ensures.path ∙ l.invariant.path;
       changes = pass_change l.invariant.changes c.in-Some.ensures.steps (λ map rest. edits_after_one _ _ _ _ _ (members c.next.new.self) _ _ _ rest grew);

@@ -21,8 +21,8 @@ pub returns-in-Err : goal.returns-in-Err
 returns-in-Err c =
     let l = c.loop-element in
     let docs = c.args.elements.items in
-    let told = read_fault docs (into_iter_items l.element-iterator) l.patch l.invariant.read c.in-Err.refusal c.in-Some.element (into_iter_items c.next.new.self) c.in-Some.ensures.steps.0 c.in-Err.ensures in
-    subst (λ (fault : FormFault). IsFormFault fault (list (items docs))) (ap (λ ops. fault_of_element (length ops) c.in-Err.refusal) (sym c.ops.ensures) ∙ sym c.of_element.ensures) told
+    let need_is = read_fault docs (into_iter_items l.element-iterator) l.patch l.invariant.read c.in-Err.refusal c.in-Some.element (into_iter_items c.next.new.self) c.in-Some.ensures.steps.0 c.in-Err.ensures in
+    subst (λ (fault : FormFault). IsFormFault fault (list (items docs))) (ap (λ ops. fault_of_element (length ops) c.in-Err.refusal) (sym c.ops.ensures) ∙ sym c.of_element.ensures) need_is
 
 pub returns : goal.returns
 returns c =

@@ -4,7 +4,7 @@ use Rattle.std.specs.Vec.{with_item}
 use Rattle.mp_tree.specs.View.{document}
 use Rattle.mp_tree.specs.declared.doc.Doc.TheVariants.{Items, Members}
 use Rattle.mp_pointer.proofs.Changes.Edited.{slice_range-none, slice_range-more, edits_here, edited_child, part-none}
-use Rattle.mp_pointer.proofs.Parts.Lent.{element_lent, element_there, value_lent, value_there, no_child, no_index_here, past_end}
+use Rattle.mp_pointer.proofs.Parts.Borrowed.{element_borrowed, element_there, value_borrowed, value_there, no_child, no_index_here, past_end}
 use Rattle.mp_pointer.proofs.editing.+edit.Goals as goal
 
 pub edit_between-returns-then-number-end : goal.edit_between-returns-then-number-end
@@ -46,7 +46,7 @@ edit_element-returns g t c =
     let within : i < length docs.items = omega (arith, c.in_ok-element.ensures.variant.0 refl, docs.ok.0) in
     edited_child _ c.edit_between.result token _ _ (Items docs) (Items (with_item docs i w)) x.now w tokens
     (sym (element_there (Some x) token i docs c.in_ok-index.ensures (λ _. within) (λ _. refl) c.in_ok-element.ensures.value))
-    (element_lent (Some x) token i docs c.in_ok-index.ensures (λ _. within) c.in_ok-element.ensures.value w) c.edit_between.ensures
+    (element_borrowed (Some x) token i docs c.in_ok-index.ensures (λ _. within) c.in_ok-element.ensures.value w) c.edit_between.ensures
 
 pub edit_value-returns-in_err-value : goal.edit_value-returns-in_err-value
 edit_value-returns-in_err-value g t c =
@@ -66,4 +66,4 @@ edit_value-returns g t c =
     let tokens = slice_range-more c.args.pointer.now c.args.number c.args.end token (sym c.in_ok-token.ensures) c.requires.ordered in
     edited_child _ c.edit_between.result token _ _ (Members old) (Members new) x.now w tokens
     (sym (value_there (Some x) token old c.in_ok-value.ensures.value))
-    (value_lent (Some x) token old new w c.in_ok-value.ensures.value ((c.get_mut.follows.holds w).3)) c.edit_between.ensures
+    (value_borrowed (Some x) token old new w c.in_ok-value.ensures.value ((c.get_mut.follows.holds w).3)) c.edit_between.ensures

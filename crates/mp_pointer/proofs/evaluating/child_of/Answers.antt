@@ -7,7 +7,7 @@ use Rattle.mp_tree.specs.Private.Entries.{members}
 use Rattle.mp_tree.proofs.Facts.{find-members, nth-items, count_of-items}
 use Rattle.mp_tree.proofs.Facts.{document-Null, document-Flag, document-Whole, document-Text, document-Items, document-Members}
 use Rattle.mp_pointer.specs.Part.{child}
-use Rattle.mp_pointer.proofs.Tokens.Indices.{child-numeral, child-no_index, item_at, lent_part}
+use Rattle.mp_pointer.proofs.Tokens.Indices.{child-numeral, child-no_index, item_at, borrowed_part}
 use Rattle.mp_pointer.proofs.evaluating.child_of.Goals as goal
 
 pub returns-in_err-index_of-in-Items : goal.returns-in_err-index_of-in-Items
@@ -24,14 +24,14 @@ returns-in_ok-index_of-in-Items c =
     let i = c.in_ok-index_of-in-Items.field-0 in
     let is : document c.args.doc.now ≡ list (items docs.items) = ap document c.in-Items.is ∙ document-Items docs in
     let read : option_copied c.get.result ≡ slice_get docs.items i = item_at docs.items i c.get.result (rw (← c.deref.ensures.value) c.get.ensures.lookup) in
-    lent_part c.get.result ∙ ap (option_map document) read ∙ sym (ap (child c.args.token.now) is ∙ child-numeral c.args.token.now i (items docs.items) c.in_ok-index_of-in-Items.ensures ∙ nth-items i docs.items)
+    borrowed_part c.get.result ∙ ap (option_map document) read ∙ sym (ap (child c.args.token.now) is ∙ child-numeral c.args.token.now i (items docs.items) c.in_ok-index_of-in-Items.ensures ∙ nth-items i docs.items)
 
 pub returns-in-Members : goal.returns-in-Members
 unfolding child
 returns-in-Members c =
     let entries = c.in-Members.entries in
     let is : document c.args.doc.now ≡ object (members entries.entries) = ap document c.in-Members.is ∙ document-Members entries in
-    lent_part c.get-in-Members.result ∙ ap (option_map document) c.get-in-Members.ensures.value ∙ sym (ap (child c.args.token.now) is ∙ find-members c.args.token.now entries.entries)
+    borrowed_part c.get-in-Members.result ∙ ap (option_map document) c.get-in-Members.ensures.value ∙ sym (ap (child c.args.token.now) is ∙ find-members c.args.token.now entries.entries)
 
 pub returns-in-Null : goal.returns-in-Null
 unfolding child

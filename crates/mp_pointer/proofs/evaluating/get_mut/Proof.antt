@@ -1,8 +1,8 @@
--- By hand, since no proof is generated of what a lender ends as where it has the result's type, nor in a loop: `get_mut` walks
+-- By hand, since no proof is generated of what the owner of a borrow ends as if it has the result's type, nor in a loop: `get_mut` walks
 -- down by `child_mut`, and the document follows the target. Assumes `Logic`.
 -- How it goes: at each turn the target is owned, and it is known where it stands and how the document follows it
--- (`Evaluation.antt`'s `Reached`). A child that is lent takes the target's place, and the document follows it by both steps
--- (`follows_then`). Where none is lent, the target came back as it was, and so did the document (`nothing_changed`). After the
+-- (`Evaluation.antt`'s `Reached`). A child that is borrowed takes the target's place, and the document follows it by both steps
+-- (`follows_then`). If none is borrowed, the target came back as it was, and so did the document (`nothing_changed`). After the
 -- last token the target is what is returned (`so_made`).
 --     ends      from how the document follows what is returned, that, and the two tokens, the function may return
 --     Now       what is owned at the start of a turn.        Turned      what a turn has to leave
@@ -46,7 +46,7 @@ use denote.Triple.Table.{framed}
 use denote.Triple.Walked.{Stays, walk_of, says, stay_dropped, Goes-dropped, Goes-spent_ref, ends_at}
 use Rattle.mp_tree.specs.View.{document}
 use Rattle.mp_tree.specs.declared.doc.Doc.{Doc}
-use Rattle.mp_pointer.specs.Lending.{LendsPart, PartBecomes}
+use Rattle.mp_pointer.specs.Borrowing.{BorrowsPart, PartBecomes}
 use Rattle.mp_pointer.specs.Private.Child.{one_token}
 use Rattle.mp_pointer.specs.Part.{part}
 use Rattle.mp_tree.specs.Rows.{doc_row}
@@ -57,8 +57,8 @@ use Rattle.mp_pointer.proofs.Changes.Written.{Reached, becomes_root, next_stood,
 use Rattle.mp_pointer.specs.contracts.evaluating.get_mut as f
 use Rattle.mp_pointer.proofs.evaluating.get_mut.Statement.{statement}
 use Rattle.mp_pointer.proofs.evaluating.get_mut.Code as code
-use Rattle.mp_pointer.specs.contracts.lending.child_mut as child
-use Rattle.mp_pointer.proofs.lending.child_mut.Met as child_met
+use Rattle.mp_pointer.specs.contracts.borrowing.child_mut as child
+use Rattle.mp_pointer.proofs.borrowing.child_mut.Met as child_met
 use Rattle.mp_pointer.specs.contracts.pointer.Pointer.len as len
 use Rattle.mp_pointer.proofs.pointer.Pointer.len.Met as len_met
 
@@ -80,7 +80,7 @@ get_mut_spec 𝓤 𝓛 𝓜 𝓡 wired =
     let Path = (ShrRef (named 1) κ' pointer.the_row).own_val p (shr_vals p) in
     let Opt = option.the_row (MutRef (named 0) κ doc_row) in
     let ends : (s : Option (MutBor Doc)) (v : Val) → option_map (λ (d : MutBor Doc). document d.now) s ≡ part (document x.now) t
-    → Sq 𝓛 (‵ (LendsPart t x s) ∷ ‵ (Opt.own_val s (v ∷ [])) ∷ ‵ (flft κ q) ∷ ‵ (flft κ' q') ∷ []) (prop (W.post y v)) = λ s v there.
+    → Sq 𝓛 (‵ (BorrowsPart t x s) ∷ ‵ (Opt.own_val s (v ∷ [])) ∷ ‵ (flft κ q) ∷ ‵ (flft κ' q') ∷ []) (prop (W.post y v)) = λ s v there.
     suffices ! _ (ends_at 𝓛 f.ended stayed c y v s (tt, (tt, tt)) (tt, (tt, tt))) $ move ! (1 ∷ []) $
     nothing ! $ nothing ! $ fjoin ! $ nothing ! $ fjoin ! $ join ! $ nothing ! $ move ! (4 ∷ 0 ∷ []) $ join ! $ move ! (3 ∷ 0 ∷ []) $ join ! $ join ! $ frame ! $ says ! there $ done ! in
     qed 𝓛 (((‵ (flft κ q) ⊛ ‵ (flft κ' q') ⊛ ‵ ftrue) ⊛ ‵ (Ref x) ⊛ ‵ Path ⊛ ‵ ftrue) ∷ ‵ ftrue ∷ []) ∵
@@ -118,14 +118,14 @@ get_mut_spec 𝓤 𝓛 𝓜 𝓡 wired =
     let z₂ : G₂.Ghost = (((κ, (κ', tt)), (q, (q', tt)), tt, (s.target, (p, (i, tt))), (mut_vals s.target, (shr_vals p, (uint_vals w64 i, tt)))), tt) in
     owned ! usize _ (uint_Makes 𝓛 w64) i (uint_vals w64 i) (refl, omega (arith, small)) $ nothing ! $ move ! (1 ∷ 0 ∷ []) $ join ! $ move ! (1 ∷ 0 ∷ []) $ join ! $ move ! (2 ∷ 0 ∷ []) $ join ! $
     nothing ! $ move ! (5 ∷ 0 ∷ []) $ join ! $ move ! (4 ∷ 0 ∷ []) $ join ! $ join ! $ use0 𝓛 (raw (fact 𝓤 (i < length t))) (fact_i 𝓤 _ (emp 𝓤) inside) $ move ! (1 ∷ 0 ∷ []) $ use2 𝓛 (raw (G₂.pre z₂)) (id⊢ 𝓤 _) $
-    calls_at ! (framed 𝓤 𝓛.H 𝓜 𝓣) G₂ (child_met.met 𝓤 𝓛 𝓜 𝓡 (code.calls-mp_pointer::lending::child_mut 𝓡.env wired)) z₂ (and_then ! (get ! refl) (and_then ! (get ! refl) (and_then ! (get ! refl) (no_more !)))) (λ v₂.
-    use1 𝓛 (later (some (λ (o : Option (MutBor Doc)). ((‵ (flft κ q) ⊛ ‵ (flft κ' q') ⊛ ‵ ftrue) ⊛ ‵ (Opt.own_val o (v₂ ∷ []))) ⊛ some (λ (ws : Unit {0} × (Unit {0} × (Unit {0} × Unit {0}))). ‵ (lasts child.ended z₂.0.0 z₂.0.3 ws) ⊛ ‵ (LendsPart r s.target o) ⊛ raw (fact 𝓤 (option_map (λ (d : MutBor Doc). document d.now) o ≡ part (document s.target.now) r)))))) (id⊢ 𝓤 _) $
+    calls_at ! (framed 𝓤 𝓛.H 𝓜 𝓣) G₂ (child_met.met 𝓤 𝓛 𝓜 𝓡 (code.calls-mp_pointer::borrowing::child_mut 𝓡.env wired)) z₂ (and_then ! (get ! refl) (and_then ! (get ! refl) (and_then ! (get ! refl) (no_more !)))) (λ v₂.
+    use1 𝓛 (later (some (λ (o : Option (MutBor Doc)). ((‵ (flft κ q) ⊛ ‵ (flft κ' q') ⊛ ‵ ftrue) ⊛ ‵ (Opt.own_val o (v₂ ∷ []))) ⊛ some (λ (ws : Unit {0} × (Unit {0} × (Unit {0} × Unit {0}))). ‵ (lasts child.ended z₂.0.0 z₂.0.3 ws) ⊛ ‵ (BorrowsPart r s.target o) ⊛ raw (fact 𝓤 (option_map (λ (d : MutBor Doc). document d.now) o ≡ part (document s.target.now) r)))))) (id⊢ 𝓤 _) $
     await ! tt $ pick ! (λ o. split ! $ split ! $ split3 ! $ move ! (4 ∷ []) $ pick ! (λ ws₂. split ! $ drop ! $ split ! $ move ! (1 ∷ []) $ heard ! _ (λ there.
     -- [how the target follows its child; the tokens; nothing; the child; the pointer; how doc follows the target]
     elim (cases o) [
       | inl found ↦ let z = found.0 in
           let There = λ (o : Option (MutBor Doc)). option_map (λ (d : MutBor Doc). document d.now) o ≡ part (document s.target.now) r in
-          rewrite ! 0 (λ (o : Option (MutBor Doc)). ‵ (LendsPart r s.target o)) found.1 refl $ rewrite ! 4 (λ (o : Option (MutBor Doc)). ‵ (Opt.own_val o (v₂ ∷ []))) found.1 refl $
+          rewrite ! 0 (λ (o : Option (MutBor Doc)). ‵ (BorrowsPart r s.target o)) found.1 refl $ rewrite ! 4 (λ (o : Option (MutBor Doc)). ‵ (Opt.own_val o (v₂ ∷ []))) found.1 refl $
           use1 𝓛 (some (λ (g : (G : Doc → Doc) × ((w : Doc) → PartBecomes r (document w) (document s.target.now) (document (G w)))). ‵ (follows doc_row doc_row s.target.ghost_name z.ghost_name g.0))) (so_opened 𝓛 doc_row doc_row s.target.ghost_name z.ghost_name _ _) $ pick ! (λ g.
           move ! (6 ∷ 0 ∷ []) $ use2 𝓛 (‵ (follows doc_row doc_row x.ghost_name z.ghost_name (λ w. s.lender (g.0 w)))) (follows_then 𝓛 doc_row doc_row doc_row s.lender g.0 x.ghost_name s.target.ghost_name z.ghost_name) $
           move ! (4 ∷ []) $ use1 𝓛 (‵ (feq Val v₂ (spelled (Some z))) ⊛ ‵ (Ref z)) (some_apart 𝓛 (named 0) κ doc_row z v₂) $ split ! $ feq_l ! (λ e.
@@ -144,8 +144,8 @@ get_mut_spec 𝓤 𝓛 𝓜 𝓡 wired =
           } in
           forget_but ! En (1 ∷ 2 ∷ 3 ∷ 4 ∷ 6 ∷ []) refl $ again ! Nearer Now s further (omega (arith, h))))
       | inr none ↦ let There = λ (o : Option (MutBor Doc)). option_map (λ (d : MutBor Doc). document d.now) o ≡ part (document s.target.now) r in
-          rewrite ! 0 (λ (o : Option (MutBor Doc)). ‵ (LendsPart r s.target o)) none refl $ rewrite ! 4 (λ (o : Option (MutBor Doc)). ‵ (Opt.own_val o (v₂ ∷ []))) none refl $
-          move ! (6 ∷ 0 ∷ []) $ use2 𝓛 (‵ (LendsPart t x None)) (then_so 𝓛 doc_row doc_row doc_row s.lender x.ghost_name s.target.ghost_name maybe.none _ _ _ _
+          rewrite ! 0 (λ (o : Option (MutBor Doc)). ‵ (BorrowsPart r s.target o)) none refl $ rewrite ! 4 (λ (o : Option (MutBor Doc)). ‵ (Opt.own_val o (v₂ ∷ []))) none refl $
+          move ! (6 ∷ 0 ∷ []) $ use2 𝓛 (‵ (BorrowsPart t x None)) (then_so 𝓛 doc_row doc_row doc_row s.lender x.ghost_name s.target.ghost_name maybe.none _ _ _ _
           (λ w d _. tt) (λ d same. nothing_changed (take i t) x.now (s.lender d) s.target.now d s.stood (s.made d) same)) $
           move ! (4 ∷ []) $ use1 𝓛 (‵ (feq Val v₂ (spelled {X = Doc} None))) (none_apart 𝓛 (named 0) κ doc_row v₂) $ feq_l ! (λ e.
           lands_as ! e refl (tt, (record { fits = lit< tt }, tt)) $
@@ -162,5 +162,5 @@ get_mut_spec 𝓤 𝓛 𝓜 𝓡 wired =
     sets ! (agg ! (and_then ! (lit ! tt) (and_then ! (get ! refl) (no_more !)))) refl (tt, (record { fits = lit< tt }, (tt, tt))) $
     -- [the target; how doc follows it; the tokens; the pointer]
     use1 𝓛 (‵ (Opt.own_val (Some s.target) (spelled (Some s.target) ∷ []))) (Some-of 𝓛 (MutRef (named 0) κ doc_row) s.target (place_of s.target)) $ move ! (1 ∷ []) $
-    use1 𝓛 (‵ (LendsPart t x (Some s.target))) (so_made 𝓛 doc_row doc_row x.ghost_name s.target.ghost_name _ _ s.lender x.now (λ w. subst (λ u. PartBecomes u (document w) (document x.now) (document (s.lender w))) is_all (s.made w)) refl) $
+    use1 𝓛 (‵ (BorrowsPart t x (Some s.target))) (so_made 𝓛 doc_row doc_row x.ghost_name s.target.ghost_name _ _ s.lender x.now (λ w. subst (λ u. PartBecomes u (document w) (document x.now) (document (s.lender w))) is_all (s.made w)) refl) $
     returns ! (look_at ! 0 refl) $ free_all ! refl $ keep ! (0 ∷ 1 ∷ 2 ∷ 3 ∷ []) $ ends (Some s.target) (spelled (Some s.target)) (sym s.stood ∙ ap (part (document x.now)) is_all))) start)))))))

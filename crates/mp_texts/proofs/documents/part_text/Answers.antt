@@ -1,7 +1,7 @@
 use Rattle.std.proofs.Common.{◌≤◌, arith, string_bytes, sym}
 use Rattle.mp_tree.specs.Document.{depth, depth_limit}
 use Rattle.mp_tree.specs.View.{document}
-use Rattle.mp_texts.specs.Faults.{IsMissing}
+use Rattle.mp_texts.specs.Faults.{IsMissingPart}
 use Rattle.mp_texts.proofs.Readings.{text_written}
 use Rattle.mp_texts.proofs.documents.part_text.Goals as goal
 
@@ -24,7 +24,7 @@ returns-in-Some c =
 
 pub returns : goal.returns
 returns c =
-    let missing : IsMissing c.args.document.now c.args.pointer.now = record {
+    let missing : IsMissingPart c.args.document.now c.args.pointer.now = record {
       from = document c.in_ok-doc.doc;
       document_read = c.in_ok-doc.ensures.read;
       tokens = c.in_ok-pointer.pointer;

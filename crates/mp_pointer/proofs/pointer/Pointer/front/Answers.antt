@@ -1,4 +1,4 @@
 use Rattle.mp_pointer.proofs.pointer.Pointer.front.Goals as goal
 
 pub returns : goal.returns
-returns c = c.front_with_room.ensures
+returns c = c.front_with_capacity.ensures

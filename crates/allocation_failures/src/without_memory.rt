@@ -1,0 +1,299 @@
+//! The calls that take no memory.
+use crate::patches::{FORM, is_move};
+use crate::preparing::{
+    doc_of, docs_of, patch_of, pointer_of, three_docs_of, two_docs_of, two_pointers_of,
+};
+use crate::seen::{Seen, has_tokens};
+use mp_cli::{Counted, RunFault};
+use mp_patch::JsonPatch;
+use mp_pointer::Pointer;
+use mp_tree::{Doc, Whole};
+use std::alloc::Global;
+use std::mem;
+
+/// Tokens, and the indices that they spell.
+const INDICES: &[(&str, Option<usize>)] = &[
+    ("0", Some(0)),
+    ("10", Some(10)),
+    ("01", None),
+    ("", None),
+    ("-", None),
+    ("+1", None),
+    ("1é", None),
+    ("18446744073709551615", Some(usize::MAX)),
+    ("18446744073709551616", None),
+];
+
+/// The names that `watch` takes.
+pub const CALLS: &[&str] = &[
+    "compatible",
+    "counted_devices",
+    "edit_part",
+    "empty",
+    "fault_line",
+    "fits",
+    "get",
+    "get_mut",
+    "index_of",
+    "items_mut",
+    "members_mut",
+    "merge_into",
+    "new_patch",
+    "ops",
+    "pop",
+    "same",
+    "same_op",
+    "same_patch",
+    "tokens",
+    "whole",
+];
+
+/// Watches the call of this name, if there is one.
+pub fn watch(alloc: Global, name: &str) -> Option<Option<Seen>> {
+    Some(match name {
+        "compatible" => watch_compatible(alloc),
+        "counted_devices" => Some(watch_counted_devices()),
+        "edit_part" => watch_edit_part(alloc),
+        "empty" => Some(watch_empty(alloc)),
+        "fault_line" => Some(watch_fault_line()),
+        "fits" => watch_fits(alloc),
+        "get" => watch_get(alloc),
+        "get_mut" => watch_get_mut(alloc),
+        "index_of" => Some(watch_index_of()),
+        "items_mut" => watch_items_mut(alloc),
+        "members_mut" => watch_members_mut(alloc),
+        "merge_into" => watch_merge_into(alloc),
+        "new_patch" => Some(watch_new_patch(alloc)),
+        "ops" => watch_ops(alloc),
+        "pop" => watch_pop(alloc),
+        "same" => watch_same(alloc),
+        "same_op" => watch_same_op(alloc),
+        "same_patch" => watch_same_patch(alloc),
+        "tokens" => watch_tokens(alloc),
+        "whole" => Some(watch_whole()),
+        _ => return None,
+    })
+}
+
+fn watch_whole() -> Seen {
+    let least = Whole::from_i64(i64::MIN).value() == -9_223_372_036_854_775_808;
+    let greatest = Whole::from_u64(u64::MAX).value() == 18_446_744_073_709_551_615;
+    Seen::answer_if(least && greatest)
+}
+
+fn watch_same(alloc: Global) -> Option<Seen> {
+    let docs = three_docs_of(
+        alloc,
+        [
+            r#"{"b":[1,"t"],"a":null}"#,
+            r#"{"a":null,"b":[1,"t"]}"#,
+            r#"{"a":null,"b":[1,"u"]}"#,
+        ],
+    )?;
+    let [doc, equal, other] = &docs;
+    Some(Seen::answer_if(doc.same(equal) && !doc.same(other)))
+}
+
+fn watch_fits(alloc: Global) -> Option<Seen> {
+    let doc = doc_of(alloc, r#"{"b":1,"a":null}"#)?;
+    Some(Seen::answer_if(doc.fits(1) && !doc.fits(0)))
+}
+
+/// Turns the array round, and returns whether it is one.
+fn reverse(doc: &mut Doc) -> bool {
+    match mp_tree::items_mut(doc) {
+        Some(items) => {
+            items.reverse();
+            true
+        }
+        None => false,
+    }
+}
+
+fn watch_items_mut(alloc: Global) -> Option<Seen> {
+    let mut doc = doc_of(alloc, "[1,2]")?;
+    let wanted = doc_of(alloc, "[2,1]")?;
+    Some(Seen::answer_if(reverse(&mut doc) && doc.same(&wanted)))
+}
+
+/// Takes a member away, and returns whether it was there.
+fn remove(doc: &mut Doc, name: &str) -> bool {
+    match mp_tree::members_mut(doc) {
+        Some(members) => members.remove(name).is_some(),
+        None => false,
+    }
+}
+
+fn watch_members_mut(alloc: Global) -> Option<Seen> {
+    let mut doc = doc_of(alloc, r#"{"a":1,"b":2}"#)?;
+    let wanted = doc_of(alloc, r#"{"b":2}"#)?;
+    Some(Seen::answer_if(remove(&mut doc, "a") && doc.same(&wanted)))
+}
+
+fn watch_empty(alloc: Global) -> Seen {
+    Seen::answer_if(Pointer::empty(alloc).is_empty())
+}
+
+/// `len`, `token`, `is_proper_prefix_of` and `==`.
+fn watch_tokens(alloc: Global) -> Option<Seen> {
+    let short = pointer_of(alloc, "/a")?;
+    let pointers = two_pointers_of(alloc, ["/a/b", "/ab"])?;
+    let [long, beside] = &pointers;
+    let tokens = has_tokens(long, &["a", "b"]) && long.token(2).is_none();
+    Some(Seen::answer_if(
+        tokens && is_prefix_of_one(&short, long, beside) && equals_itself(&short, long, beside),
+    ))
+}
+
+fn is_prefix_of_one(short: &Pointer, long: &Pointer, beside: &Pointer) -> bool {
+    let others = short.is_proper_prefix_of(short) || short.is_proper_prefix_of(beside);
+    short.is_proper_prefix_of(long) && !others
+}
+
+fn equals_itself(pointer: &Pointer, other: &Pointer, another: &Pointer) -> bool {
+    pointer == pointer && pointer != other && pointer != another
+}
+
+fn watch_pop(alloc: Global) -> Option<Seen> {
+    let mut pointer = pointer_of(alloc, "/a/b")?;
+    pointer.pop();
+    Some(Seen::answer_if(has_tokens(&pointer, &["a"])))
+}
+
+fn watch_index_of() -> Seen {
+    let mut holds = true;
+    for (token, index) in INDICES {
+        holds = holds && mp_pointer::index_of(token) == *index;
+    }
+    Seen::answer_if(holds)
+}
+
+fn watch_get(alloc: Global) -> Option<Seen> {
+    let docs = two_docs_of(alloc, [r#"{"a":[1,2]}"#, "2"])?;
+    let pointers = two_pointers_of(alloc, ["/a/1", "/a/2"])?;
+    let [doc, wanted] = &docs;
+    let [within, past] = &pointers;
+    let found = match mp_pointer::get(doc, within) {
+        Some(part) => part.same(wanted),
+        None => false,
+    };
+    Some(Seen::answer_if(found && mp_pointer::get(doc, past).is_none()))
+}
+
+fn watch_get_mut(alloc: Global) -> Option<Seen> {
+    let mut doc = doc_of(alloc, r#"{"a":[1,2]}"#)?;
+    let wanted = doc_of(alloc, r#"{"a":[1,9]}"#)?;
+    let pointers = two_pointers_of(alloc, ["/a/1", "/a/2"])?;
+    let [within, past] = &pointers;
+    let holds = set_to_nine(&mut doc, within) && !set_to_nine(&mut doc, past);
+    Some(Seen::answer_if(holds && doc.same(&wanted)))
+}
+
+/// Puts 9 where the pointer leads, and returns whether it leads anywhere.
+fn set_to_nine(doc: &mut Doc, pointer: &Pointer) -> bool {
+    match mp_pointer::get_mut(doc, pointer) {
+        Some(part) => {
+            *part = Doc::Whole(Whole::from_u64(9));
+            true
+        }
+        None => false,
+    }
+}
+
+fn watch_edit_part(alloc: Global) -> Option<Seen> {
+    let mut doc = doc_of(alloc, r#"{"a":[1,2]}"#)?;
+    let pointer = pointer_of(alloc, "/a/1")?;
+    let wanted = docs_of(alloc, r#"[{"a":[1,null]},2]"#)?;
+    let [left, taken] = wanted.as_slice() else {
+        return None;
+    };
+    let part = mp_pointer::edit_part(&mut doc, &pointer, pointer.len(), |part| {
+        mem::replace(part, Doc::Null)
+    });
+    Some(match part {
+        Some(part) => Seen::answer_if(part.same(taken) && doc.same(left)),
+        None => Seen::Wrong,
+    })
+}
+
+fn watch_new_patch(alloc: Global) -> Seen {
+    Seen::answer_if(JsonPatch::new(alloc).ops().is_empty())
+}
+
+fn watch_ops(alloc: Global) -> Option<Seen> {
+    let form = doc_of(alloc, FORM)?;
+    let patch = patch_of(alloc, &form)?;
+    Some(Seen::answer_if(is_move(&patch)))
+}
+
+/// A patch, one that is equal, and one in which a value is another.
+fn three_patches_of(alloc: Global) -> Option<[JsonPatch; 3]> {
+    let forms = three_docs_of(
+        alloc,
+        [
+            r#"[{"op":"move","path":"/b","from":"/a"},{"op":"test","path":"","value":["t"]}]"#,
+            r#"[{"from":"/a","op":"move","path":"/b"},{"value":["t"],"op":"test","path":""}]"#,
+            r#"[{"op":"move","path":"/b","from":"/a"},{"op":"test","path":"","value":["u"]}]"#,
+        ],
+    )?;
+    let [form, equal, other] = &forms;
+    let first = patch_of(alloc, form)?;
+    let second = patch_of(alloc, equal)?;
+    let third = patch_of(alloc, other)?;
+    Some([first, second, third])
+}
+
+fn watch_same_patch(alloc: Global) -> Option<Seen> {
+    let patches = three_patches_of(alloc)?;
+    let [patch, equal, other] = &patches;
+    Some(Seen::answer_if(patch.same(equal) && !patch.same(other)))
+}
+
+/// The last operation of each, which is a `test`.
+fn watch_same_op(alloc: Global) -> Option<Seen> {
+    let patches = three_patches_of(alloc)?;
+    let [patch, equal, other] = &patches;
+    let op = patch.ops().last()?;
+    let is_found = op.same(equal.ops().last()?) && !op.same(other.ops().last()?);
+    Some(Seen::answer_if(is_found))
+}
+
+fn watch_compatible(alloc: Global) -> Option<Seen> {
+    let docs = docs_of(alloc, r#"[{"a":{"x":1}},{"a":{"y":null}},{"a":{"x":2}}]"#)?;
+    let [p, q, other] = docs.as_slice() else {
+        return None;
+    };
+    let joinable = mp_merge::compatible(p, q) && mp_merge::compatible(p, p);
+    Some(Seen::answer_if(joinable && !mp_merge::compatible(p, other)))
+}
+
+/// An object of nulls and objects alone, into a target that has an object wherever the patch has one.
+fn watch_merge_into(alloc: Global) -> Option<Seen> {
+    let mut target = doc_of(alloc, r#"{"a":{"x":[1],"y":2},"k":0}"#)?;
+    let docs = two_docs_of(alloc, [r#"{"a":{"x":null}}"#, r#"{"a":{"y":2},"k":0}"#])?;
+    let [patch, wanted] = &docs;
+    Some(match mp_merge::merge_into(alloc, &mut target, patch) {
+        Ok(()) => Seen::answer_if(target.same(wanted)),
+        Err(_) => Seen::NoMemory,
+    })
+}
+
+fn watch_fault_line() -> Seen {
+    let mut holds = true;
+    for (fault, line) in [
+        (RunFault::ReadFailed, ("read failed", 3)),
+        (RunFault::WriteFailed, ("write failed", 3)),
+        (RunFault::TooLong, ("input: too long", 2)),
+        (RunFault::OutOfMemory, ("out of memory", 3)),
+    ] {
+        holds = holds && mp_cli::fault_line(&fault) == line;
+    }
+    Seen::answer_if(holds)
+}
+
+/// `Counted::new`, `calls`, `failures`, `bytes` and `into_device`.
+fn watch_counted_devices() -> Seen {
+    let input = Counted::new(5);
+    let counts = input.calls() == 0 && input.failures() == 0 && input.bytes() == 0;
+    Seen::answer_if(counts && input.into_device() == 5)
+}

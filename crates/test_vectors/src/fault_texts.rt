@@ -1,0 +1,179 @@
+//! The texts of the errors, which no contract says.
+use crate::written::says;
+use mp_cli::{CommandFault, RunFault};
+use mp_merge::{ConvergeFault, JoinFault, ListFault};
+use mp_patch::{ApplyFault, Cause, FormCause, FormFault};
+use mp_pointer::PointerFault;
+use mp_texts::TextsFault;
+use mp_tree::{DocsFault, ReadFault};
+use std::fmt::Display;
+use std::process::Abort;
+use std::test::Fail;
+
+const READ_FAULTS: &[(ReadFault, &str)] = &[
+    (ReadFault::NotJson, "not JSON"),
+    (ReadFault::NotWhole, "number not whole"),
+    (ReadFault::TooDeep, "too deep"),
+    (ReadFault::OutOfMemory, "out of memory"),
+];
+
+const DOCS_FAULTS: &[(DocsFault, &str)] = &[
+    (DocsFault::NotJson, "not JSON"),
+    (DocsFault::NotWhole, "number not whole"),
+    (DocsFault::NotAnArray, "not an array"),
+    (DocsFault::OutOfMemory, "out of memory"),
+];
+
+const POINTER_FAULTS: &[(PointerFault, &str)] = &[
+    (PointerFault::NoSlash, "pointer: no slash"),
+    (PointerFault::BadTilde(12), "pointer: bad tilde at 12"),
+    (PointerFault::OutOfMemory, "out of memory"),
+];
+
+const CAUSES: &[(Cause, &str)] = &[
+    (Cause::IntoItself, "into itself"),
+    (Cause::RemoveRoot, "remove of root"),
+    (Cause::Missing, "missing"),
+    (Cause::NoPlace, "no place"),
+    (Cause::TooDeep, "too deep"),
+    (Cause::TestFailed, "test failed"),
+];
+
+const FORM_CAUSES: &[(FormCause, &str)] = &[
+    (FormCause::NotAnObject, "not an object"),
+    (FormCause::NoOp, "no op"),
+    (FormCause::UnknownOp, "unknown op"),
+    (FormCause::NoPath, "no path"),
+    (FormCause::NoFrom, "no from"),
+    (FormCause::BadPointer, "bad pointer"),
+    (FormCause::NoValue, "no value"),
+];
+
+const FORM_FAULTS: &[(FormFault, &str)] = &[
+    (FormFault::NotAnArray, "not an array"),
+    (
+        FormFault::Form {
+            op: 7,
+            cause: FormCause::NoOp,
+        },
+        "operation 7: no op",
+    ),
+    (FormFault::OutOfMemory, "out of memory"),
+];
+
+const APPLY_FAULTS: &[(ApplyFault, &str)] = &[
+    (
+        ApplyFault::Refused {
+            op: 7,
+            cause: Cause::Missing,
+        },
+        "operation 7: missing",
+    ),
+    (ApplyFault::OutOfMemory, "out of memory"),
+];
+
+const RUN_FAULTS: &[(RunFault, &str)] = &[
+    (RunFault::ReadFailed, "read failed"),
+    (RunFault::WriteFailed, "write failed"),
+    (RunFault::TooLong, "input: too long"),
+    (RunFault::OutOfMemory, "out of memory"),
+];
+
+/// Each error is displayed as the text next to it.
+fn say<R: Abort + AllocGlobal, D: Display>(rt: &R, faults: &[(D, &str)]) -> Result<(), Fail> {
+    for (fault, text) in faults {
+        says(rt, fault, text)?;
+    }
+    Ok(())
+}
+
+#[test]
+fn of_reading(rt: HostRuntime) -> Result<(), Fail> {
+    say(&rt, READ_FAULTS)?;
+    say(&rt, DOCS_FAULTS)
+}
+
+#[test]
+fn of_pointers(rt: HostRuntime) -> Result<(), Fail> {
+    say(&rt, POINTER_FAULTS)
+}
+
+#[test]
+fn of_json_patches(rt: HostRuntime) -> Result<(), Fail> {
+    say(&rt, CAUSES)?;
+    say(&rt, FORM_CAUSES)?;
+    say(&rt, FORM_FAULTS)?;
+    say(&rt, APPLY_FAULTS)
+}
+
+#[test]
+fn of_merging(rt: HostRuntime) -> Result<(), Fail> {
+    says(&rt, &JoinFault::Conflict(Vec::new(rt.alloc())), "conflict")?;
+    says(&rt, &JoinFault::OutOfMemory, "out of memory")?;
+    says(&rt, &ListFault::NoPatches, "no patches")?;
+    says(&rt, &ListFault::OutOfMemory, "out of memory")?;
+    let clash = ListFault::ConflictOf {
+        first: 1,
+        second: 3,
+        places: Vec::new(rt.alloc()),
+    };
+    says(&rt, &clash, "conflict: patches 1 and 3")
+}
+
+#[test]
+fn of_converging(rt: HostRuntime) -> Result<(), Fail> {
+    let none = ConvergeFault::Lists(ListFault::NoPatches);
+    says(&rt, &none, "no patches")?;
+    let refused = ConvergeFault::Patch {
+        op: 1,
+        cause: Cause::Missing,
+    };
+    says(&rt, &refused, "operation 1: missing")?;
+    says(&rt, &ConvergeFault::OutOfMemory, "out of memory")
+}
+
+#[test]
+fn of_running(rt: HostRuntime) -> Result<(), Fail> {
+    say(&rt, RUN_FAULTS)
+}
+
+#[test]
+fn of_the_command_line(rt: HostRuntime) -> Result<(), Fail> {
+    let help = CommandFault::Help(String::from_str(rt.alloc(), "how to")?);
+    says(&rt, &help, "how to")?;
+    let usage = CommandFault::Usage(String::from_str(rt.alloc(), "not so")?);
+    says(&rt, &usage, "not so")?;
+    says(&rt, &CommandFault::OutOfMemory, "out of memory")
+}
+
+fn is_reported<R: Abort + AllocGlobal>(
+    rt: &R,
+    fault: TextsFault,
+    wanted: &str,
+) -> Result<(), Fail> {
+    says(rt, &fault, wanted)
+}
+
+#[test]
+fn of_texts(rt: HostRuntime) -> Result<(), Fail> {
+    let unread = TextsFault::Document(ReadFault::NotJson);
+    is_reported(&rt, unread, "document: not JSON")?;
+    let unread = TextsFault::Patch {
+        number: 1,
+        fault: ReadFault::TooDeep,
+    };
+    is_reported(&rt, unread, "patch 1: too deep")?;
+    let none = TextsFault::List(ListFault::NoPatches);
+    is_reported(&rt, none, "no patches")?;
+    let no_array = TextsFault::Form(FormFault::NotAnArray);
+    is_reported(&rt, no_array, "not an array")?;
+    let refused = TextsFault::Refused(ApplyFault::Refused {
+        op: 1,
+        cause: Cause::TestFailed,
+    });
+    is_reported(&rt, refused, "operation 1: test failed")?;
+    let no_pointer = TextsFault::Pointer(PointerFault::BadTilde(2));
+    is_reported(&rt, no_pointer, "pointer: bad tilde at 2")?;
+    is_reported(&rt, TextsFault::Missing, "missing")?;
+    is_reported(&rt, TextsFault::OutOfMemory, "out of memory")
+}
