@@ -1,9 +1,11 @@
 //! The answer to an input: the checks in their order, and then the command's work.
 ghost use Rattle.std.specs.Prelude.{map, IfOk};
+ghost use Rattle.mp_tree.specs.Values.{value_items};
 ghost use Rattle.mp_tree.specs.View.{document, items};
 ghost use Rattle.mp_patch.specs.View.{operations_of};
 ghost use Rattle.mp_cli.specs.Answered.{IsAnswered, IsGetAnswerTo, IsJoinAnswer, IsPatchAnswer, IsPatchAnswerTo, IsReplayAnswerTo, IsRewriteAnswer, IsRewriteAnswerTo, IsRunAnswer, answered_by, merge_answer};
 ghost use Rattle.mp_cli.specs.Private.Answers.{Gives};
+ghost use Rattle.mp_cli.specs.declared.command.Command.TheVariants.{Get, Patch, Merge, Join, Replay, Rewrite};
 
 use crate::answers::Answer;
 use crate::command::Command;
@@ -12,10 +14,11 @@ use crate::lines::{
     apply_fault, form_fault, input_fault, list_fault, part_line, result_line, spelling_fault,
     wrong_shape,
 };
-use mp_merge::{join_all, merge_owned, replay_owned, rewrite as rewriting};
+use mp_merge::{join_all, join_values, laws, merge_value, replay_owned, rewrite as rewriting};
 use mp_patch::{JsonPatch, apply_once, write_patch};
 use mp_pointer::{Pointer, get as part_at};
-use mp_tree::{Doc, read_docs, write_doc};
+use mp_tree::{Doc, read_docs, read_values, write_doc, write_value};
+use serde_json::Value;
 use std::alloc::{AllocError, Global};
 
 /// The answer of the program to these input bytes.
@@ -32,19 +35,118 @@ use std::alloc::{AllocError, Global};
 /// answer(alloc, &Command::Join, b"[1,2]")                     // "conflict: patches 0 and 1 at \"\"\n", status 1
 /// answer(alloc, &Command::Get(pointer), b"[{\"a\":1}]")       // for the text "/a": "1\n", status 0
 /// ```
-#[tactic(auto, unfolding(crate::specs::Answered::IsAnswered))]
 pub fn answer(alloc: Global, command: &Command, input: &[u8]) -> Result<Answer, AllocError>
     ensures { IfOk result (λ a. IsAnswered command.now input.now (answered_by a)) }
 {
+    match command {
+        Command::Get(pointer) => answer_get(alloc, pointer, input),
+        Command::Patch => answer_patch(alloc, input),
+        Command::Merge => answer_merge(alloc, input),
+        Command::Join => answer_join(alloc, input),
+        Command::Replay => answer_replay(alloc, input),
+        Command::Rewrite => answer_rewrite(alloc, input),
+    }
+}
+
+#[tactic(auto, unfolding(crate::specs::Answered::IsAnswered))]
+fn answer_get(alloc: Global, pointer: &String, input: &[u8]) -> Result<Answer, AllocError>
+    ensures { IfOk result (λ a. IsAnswered (Get pointer.now) input.now (answered_by a)) }
+{
     match read_docs(alloc, input) {
-        Ok(docs) => match command {
-            Command::Get(pointer) => get(alloc, pointer.as_str(), docs),
-            Command::Patch => patch(alloc, docs),
-            Command::Merge => merge(alloc, docs),
-            Command::Join => join(alloc, docs.as_slice()),
-            Command::Replay => replay(alloc, docs),
-            Command::Rewrite => rewrite(alloc, docs),
-        },
+        Ok(docs) => get(alloc, pointer.as_str(), docs),
+        Err(fault) => input_fault(alloc, fault),
+    }
+}
+
+#[tactic(auto, unfolding(crate::specs::Answered::IsAnswered))]
+fn answer_patch(alloc: Global, input: &[u8]) -> Result<Answer, AllocError>
+    ensures { IfOk result (λ a. IsAnswered Patch input.now (answered_by a)) }
+{
+    match read_docs(alloc, input) {
+        Ok(docs) => patch(alloc, docs),
+        Err(fault) => input_fault(alloc, fault),
+    }
+}
+
+#[tactic(auto, unfolding(crate::specs::Answered::IsAnswered))]
+fn answer_rewrite(alloc: Global, input: &[u8]) -> Result<Answer, AllocError>
+    ensures { IfOk result (λ a. IsAnswered Rewrite input.now (answered_by a)) }
+{
+    match read_docs(alloc, input) {
+        Ok(docs) => rewrite(alloc, docs),
+        Err(fault) => input_fault(alloc, fault),
+    }
+}
+
+// What is read, changed and written needs no tree of its own: these three keep the values that are read.
+#[tactic(auto, unfolding(crate::specs::Answered::IsAnswered))]
+fn answer_merge(alloc: Global, input: &[u8]) -> Result<Answer, AllocError>
+    ensures { IfOk result (λ a. IsAnswered Merge input.now (answered_by a)) }
+{
+    match read_values(alloc, input) {
+        Ok(values) => merge(alloc, values),
+        Err(fault) => input_fault(alloc, fault),
+    }
+}
+
+// If there is no join, the patches are gone: they are read again, so that what conflicts can be reported.
+#[tactic(auto, unfolding(crate::specs::Answered::IsAnswered))]
+fn answer_join(alloc: Global, input: &[u8]) -> Result<Answer, AllocError>
+    ensures { IfOk result (λ a. IsAnswered Join input.now (answered_by a)) }
+{
+    let values = match read_values(alloc, input) {
+        Ok(values) => values,
+        Err(fault) => return input_fault(alloc, fault),
+    };
+    match join_values(alloc, values)? {
+        Some(joined) => result_line(write_value(alloc, &joined)?),
+        None => report_join(alloc, input),
+    }
+}
+
+#[tactic(auto, unfolding(crate::specs::Answered::IsAnswered))]
+fn report_join(alloc: Global, input: &[u8]) -> Result<Answer, AllocError>
+    ensures { IfOk result (λ a. IsAnswered Join input.now (answered_by a)) }
+{
+    match read_docs(alloc, input) {
+        Ok(docs) => join(alloc, docs.as_slice()),
+        Err(fault) => input_fault(alloc, fault),
+    }
+}
+
+#[tactic(auto, unfolding(crate::specs::Answered::IsAnswered))]
+fn answer_replay(alloc: Global, input: &[u8]) -> Result<Answer, AllocError>
+    ensures { IfOk result (λ a. IsAnswered Replay input.now (answered_by a)) }
+{
+    let values = match read_values(alloc, input) {
+        Ok(values) => values,
+        Err(fault) => return input_fault(alloc, fault),
+    };
+    let Some((start, patches)) = first_and_rest(values) else {
+        return wrong_shape(alloc);
+    };
+    if patches.is_empty() {
+        return result_line(write_value(alloc, &start)?);
+    }
+    laws::join_gives_outcome();
+    match join_values(alloc, patches)? {
+        Some(joined) => {
+            let outcome = merge_value(alloc, Some(start), joined)?;
+            result_line(write_value(alloc, &outcome)?)
+        }
+        None => {
+            drop(start);
+            report_replay(alloc, input)
+        }
+    }
+}
+
+#[tactic(auto, unfolding(crate::specs::Answered::IsAnswered))]
+fn report_replay(alloc: Global, input: &[u8]) -> Result<Answer, AllocError>
+    ensures { IfOk result (λ a. IsAnswered Replay input.now (answered_by a)) }
+{
+    match read_docs(alloc, input) {
+        Ok(docs) => replay(alloc, docs),
         Err(fault) => input_fault(alloc, fault),
     }
 }
@@ -88,16 +190,16 @@ fn apply_patch(alloc: Global, doc: Doc, patch: JsonPatch) -> Result<Answer, Allo
     }
 }
 
-fn merge(alloc: Global, docs: Vec<Doc>) -> Result<Answer, AllocError>
-    ensures { Gives result (merge_answer (items docs.items)) }
+fn merge(alloc: Global, values: Vec<Value>) -> Result<Answer, AllocError>
+    ensures { Gives result (merge_answer (value_items values.items)) }
 {
-    let Some((mut doc, patches)) = first_and_rest(docs) else {
+    let Some((mut value, patches)) = first_and_rest(values) else {
         return wrong_shape(alloc);
     };
     for patch in patches {
-        doc = merge_owned(alloc, Some(doc), patch)?;
+        value = merge_value(alloc, Some(value), patch)?;
     }
-    result_line(write_doc(alloc, &doc)?)
+    result_line(write_value(alloc, &value)?)
 }
 
 fn join(alloc: Global, patches: &[Doc]) -> Result<Answer, AllocError>

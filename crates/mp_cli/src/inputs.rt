@@ -21,12 +21,12 @@ pub(crate) fn pair(docs: Vec<Doc>) -> Option<(Doc, Doc)>
 }
 
 // `[a, ..]`.
-pub(crate) fn first_and_rest(mut docs: Vec<Doc>) -> Option<(Doc, Vec<Doc>)>
-    ensures { MatchOption result (docs.items ≡ []) (λ p. docs.items ≡ p.0 ∷ p.1.items) }
+pub(crate) fn first_and_rest<T: Drop>(mut elements: Vec<T>) -> Option<(T, Vec<T>)>
+    ensures { MatchOption result (elements.items ≡ []) (λ p. elements.items ≡ p.0 ∷ p.1.items) }
 {
-    if docs.is_empty() {
+    if elements.is_empty() {
         return None;
     }
-    let first = docs.remove(0);
-    Some((first, docs))
+    let first = elements.remove(0);
+    Some((first, elements))
 }

@@ -1,3 +1,4 @@
--- Elements of lists and members of maps, one by one.
+-- Loops over collections: what they have passed and what is left, and what a value is not.
 pub mod Growth
 pub mod Members
+pub mod Values

@@ -11,6 +11,7 @@ pub mod laws;
 mod lists;
 mod merging;
 mod rewriting;
+mod valued;
 mod values;
 
 pub use comparing::{compatible, conflict};
@@ -21,3 +22,4 @@ pub use joining::join;
 pub use lists::{join_all, replay, replay_owned};
 pub use merging::{merge, merge_owned};
 pub use rewriting::rewrite;
+pub use valued::{join_value, join_values, merge_value};

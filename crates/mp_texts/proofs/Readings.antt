@@ -1,5 +1,5 @@
 -- Texts that are read, and the documents that they are read as.
-use Rattle.std.proofs.Common.{◌≡◌, ◌≢◌, ◌≤◌, inl, inr, List, [], ◌∷◌, ◌++◌, ℕ, Some, Ok, refl, sym, ap, ap₂, subst}
+use Rattle.std.proofs.Common.{◌≡◌, ◌≢◌, ◌≤◌, inl, inr, List, [], ◌∷◌, ◌++◌, ℕ, Option, Some, IfSome, Ok, refl, sym, ap, ap₂, subst}
 use Rattle.std.proofs.lemmas.List.Elements.{All-cons, All-nil}
 use Rattle.std.specs.List.{All, Contains}
 use Rattle.mp_tree.specs.Document.{Document, IsReadable, depth, depth_limit}
@@ -116,3 +116,7 @@ some_read ts ds are (t ∷ some) sub =
       read = AreRead-cons t some here.document rest.documents here.read rest.read;
       among = λ e at. elim (Contains-cases here.document e rest.documents at) [ inl same ↦ subst (λ (x : Document). Contains ds x) same here.at | inr later ↦ rest.among e later ];
     }
+
+-- what holds if there is a value holds of the one that there is
+pub of_some : {X : Type 0} (P : X → Type 0) {o : Option X} {x : X} → o ≡ Some x → IfSome o P → P x
+of_some P is has = subst (λ o. IfSome o P) is has

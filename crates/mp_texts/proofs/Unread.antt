@@ -1,6 +1,6 @@
 -- Texts that are read one by one, up to the first that is not a document.
 use Rattle.std.proofs.Common.{◌≡◌, ◌<◌, ◌≤◌, ◌+◌, ℕ, zero, suc, List, [], ◌∷◌, ◌++◌, Bor, length, map, take, get_or, slice_get, slice_index_or, Some, Result, Ok, Err, IsErrAnd, MatchResult, refl, sym, ap, ◌∙◌, subst, arith}
-use Rattle.std.proofs.lemmas.List.{length-map, map-append, take_all, take_more}
+use Rattle.std.proofs.lemmas.List.{length-map, map-append, take_more}
 use Rattle.std.proofs.lemmas.List.Elements.{All-append, All-cons, All-nil}
 use Rattle.std.specs.List.{All}
 use Rattle.mp_tree.specs.Document.{Document, depth, depth_limit}
@@ -28,16 +28,25 @@ element_at (p ∷ ps) (suc k) d below = element_at ps k d (omega arith)
 
 -- ---- one more text
 
+pub next_reading : (ps : List (Bor (List ℕ))) (k : ℕ) (p : Bor (List ℕ)) → k < length ps → (ds : List Document) (d : Document) → AreRead (take k (given ps)) ds
+    → document_in (slice_index_or ps k p).now ≡ Ok d → AreRead (take (k + 1) (given ps)) (ds ++ d ∷ [])
+next_reading ps k p below ds d read here =
+    let text = (slice_index_or ps k p).now in
+    let one : AreRead (text ∷ []) (d ∷ []) = AreRead-cons text [] d [] here refl in
+    let grown : take (k + 1) (given ps) ≡ take k (given ps) ++ text ∷ [] =
+    take_more (given ps) k p.now (omega (arith, below, length-map ps (λ (t : Bor (List ℕ)). t.now))) ∙ ap (λ (t : List ℕ). take k (given ps) ++ t ∷ []) (element_at ps k p below) in
+    subst (λ (ts : List (List ℕ)). AreRead ts (ds ++ d ∷ [])) (sym grown) (AreRead-append (take k (given ps)) (text ∷ []) ds (d ∷ []) read one)
+
 pub next_read : (ps : List (Bor (List ℕ))) (k : ℕ) (d : Bor (List ℕ)) → k < length ps → (docs new : List Doc) (x : Doc) → AreRead (take k (given ps)) (map document docs)
     → new ≡ docs ++ x ∷ [] → document_in (slice_index_or ps k d).now ≡ Ok (document x) → AreRead (take (k + 1) (given ps)) (map document new)
 next_read ps k d below docs new x read pushed here =
-    let text = (slice_index_or ps k d).now in
-    let one : AreRead (text ∷ []) (document x ∷ []) = AreRead-cons text [] (document x) [] here refl in
-    let grown : take (k + 1) (given ps) ≡ take k (given ps) ++ text ∷ [] =
-    take_more (given ps) k d.now (omega (arith, below, length-map ps (λ (t : Bor (List ℕ)). t.now))) ∙ ap (λ (t : List ℕ). take k (given ps) ++ t ∷ []) (element_at ps k d below) in
     let moved : map document new ≡ map document docs ++ document x ∷ [] = ap (map document) pushed ∙ map-append document docs (x ∷ []) in
-    subst (λ (ts : List (List ℕ)). AreRead ts (map document new)) (sym grown)
-    (subst (λ (ds : List Document). AreRead (take k (given ps) ++ text ∷ []) ds) (sym moved) (AreRead-append (take k (given ps)) (text ∷ []) (map document docs) (document x ∷ []) read one))
+    subst (λ (ds : List Document). AreRead (take (k + 1) (given ps)) ds) (sym moved) (next_reading ps k d below (map document docs) (document x) read here)
+
+-- the first text
+pub first_given : (ps : List (Bor (List ℕ))) (p : Bor (List ℕ)) → slice_get ps 0 ≡ Some p → take 1 (given ps) ≡ p.now ∷ []
+first_given [] p is = absurd (cc)
+first_given (q ∷ ps) p is = let same : q ≡ p = cc in ap (λ (x : Bor (List ℕ)). x.now ∷ []) same
 
 pub next_within : (docs new : List Doc) (x : Doc) → AreWithin depth_limit (map document docs) → new ≡ docs ++ x ∷ [] → depth (document x) ≤ depth_limit → AreWithin depth_limit (map document new)
 next_within docs new x within pushed here =

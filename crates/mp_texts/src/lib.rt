@@ -6,6 +6,7 @@ mod fault;
 pub mod laws;
 mod lists;
 mod reading;
+mod valued;
 
 pub use documents::{part_text, patch_text, rewrite_text, write_places};
 pub use fault::TextsFault;

@@ -1,16 +1,20 @@
 //! Texts of merge patches: their join, and what they make of a document.
-ghost use Rattle.std.specs.Prelude.{◌≡◌, map, IfOk, MatchResult, string_bytes};
-ghost use Rattle.mp_tree.specs.View.{document};
+ghost use Rattle.std.specs.Prelude.{◌≡◌, List, MatchResult, string_bytes};
+ghost use Rattle.mp_tree.specs.Document.{Document};
+ghost use Rattle.mp_tree.specs.Values.{value_document};
 ghost use Rattle.mp_merge.specs.Application.{in_turn};
 ghost use Rattle.mp_texts.specs.Answers.{IsJoinText, IsMergeText, IsReplayText};
 ghost use Rattle.mp_texts.specs.Faults.{IsJoinTextFault, IsMergeTextFault, IsReplayTextFault};
-ghost use Rattle.mp_texts.specs.Texts.{given};
+ghost use Rattle.mp_texts.specs.Texts.{AreRead, given};
+ghost use Rattle.mp_texts.specs.Private.Unread.{IsPatchesFault};
 
 use crate::fault::TextsFault;
-use crate::reading::{read_document, read_patches};
-use mp_merge::{join_all, laws as merging, merge_owned, replay_owned};
-use mp_tree::{Doc, laws as reading, write_doc};
-use std::alloc::{AllocError, Global};
+use crate::reading::{read_document, read_document_value, read_patch_value, read_patches};
+use crate::valued::joined_value;
+use mp_merge::{join_all, laws as merging, merge_value, replay_owned};
+use mp_tree::{laws as reading, write_doc, write_value};
+use serde_json::Value;
+use std::alloc::Global;
 
 /// The text of the join of merge patches: of one patch with the effect of all, in any order and with any repeats.
 ///
@@ -25,6 +29,19 @@ use std::alloc::{AllocError, Global};
 /// join_texts(alloc, &[b"{\"a\":1}", b"1,2"])             // Patch of number 1, which is not JSON
 /// ```
 pub fn join_texts(alloc: Global, patches: &[&[u8]]) -> Result<String, TextsFault>
+    ensures { MatchResult result (λ text. IsJoinText (given patches.now) (string_bytes text))
+        (λ fault. IsJoinTextFault fault (given patches.now)) }
+{
+    reading::readings_are_documents();
+    merging::join_is_readable();
+    match joined_value(alloc, patches)? {
+        Some(joined) => Ok(write_value(alloc, &joined)?),
+        None => join_docs(alloc, patches),
+    }
+}
+
+// The same by documents, which are there if an error has to be reported.
+fn join_docs(alloc: Global, patches: &[&[u8]]) -> Result<String, TextsFault>
     ensures { MatchResult result (λ text. IsJoinText (given patches.now) (string_bytes text))
         (λ fault. IsJoinTextFault fault (given patches.now)) }
 {
@@ -43,6 +60,32 @@ pub fn join_texts(alloc: Global, patches: &[&[u8]]) -> Result<String, TextsFault
 /// replay_texts(alloc, b"{\"k\":0}", &[b"{\"a\":1}", b"{\"k\":null}"])  // {"a":1}
 /// ```
 pub fn replay_texts(alloc: Global, start: &[u8], patches: &[&[u8]]) -> Result<String, TextsFault>
+    ensures { MatchResult result
+        (λ text. IsReplayText start.now (given patches.now) (string_bytes text))
+        (λ fault. IsReplayTextFault fault start.now (given patches.now)) }
+{
+    reading::readings_are_documents();
+    merging::join_is_readable();
+    merging::join_gives_outcome();
+    merging::merged_is_readable();
+    if patches.is_empty() {
+        return replay_docs(alloc, start, patches);
+    }
+    let from = read_document_value(alloc, start)?;
+    match joined_value(alloc, patches)? {
+        Some(joined) => {
+            let outcome = merge_value(alloc, Some(from), joined)?;
+            Ok(write_value(alloc, &outcome)?)
+        }
+        None => {
+            drop(from);
+            replay_docs(alloc, start, patches)
+        }
+    }
+}
+
+// The same by documents, which are there if an error has to be reported.
+fn replay_docs(alloc: Global, start: &[u8], patches: &[&[u8]]) -> Result<String, TextsFault>
     ensures { MatchResult result
         (λ text. IsReplayText start.now (given patches.now) (string_bytes text))
         (λ fault. IsReplayTextFault fault start.now (given patches.now)) }
@@ -70,19 +113,21 @@ pub fn merge_texts(alloc: Global, document: &[u8], patches: &[&[u8]]) -> Result<
 {
     reading::readings_are_documents();
     merging::merged_is_readable();
-    let doc = read_document(alloc, document)?;
-    let patches = read_patches(alloc, patches)?;
-    let merged = merge_each(doc, patches, alloc)?;
-    Ok(write_doc(alloc, &merged)?)
+    let doc = read_document_value(alloc, document)?;
+    let merged = merge_each(alloc, doc, patches)?;
+    Ok(write_value(alloc, &merged)?)
 }
 
-// Each patch is applied to what those before it left.
-fn merge_each(mut doc: Doc, patches: Vec<Doc>, alloc: Global) -> Result<Doc, AllocError>
-    ensures { IfOk result (λ d.
-        document d ≡ in_turn (document doc) (map document patches.items)) }
+// Each patch is read and applied to what those before it left.
+fn merge_each(alloc: Global, mut value: Value, patches: &[&[u8]]) -> Result<Value, TextsFault>
+    ensures { MatchResult result
+        (λ v. (ds : List Document) × AreRead (given patches.now) ds
+        × (value_document v ≡ in_turn (value_document value) ds))
+        (λ fault. IsPatchesFault fault (given patches.now)) }
 {
-    for patch in patches {
-        doc = merge_owned(alloc, Some(doc), patch)?;
+    for (number, text) in patches.iter().enumerate() {
+        let patch = read_patch_value(alloc, text, number)?;
+        value = merge_value(alloc, Some(value), patch)?;
     }
-    Ok(doc)
+    Ok(value)
 }

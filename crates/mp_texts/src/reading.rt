@@ -2,13 +2,15 @@
 ghost use Rattle.std.specs.Prelude.{◌≡◌, ◌≤◌, map, Ok, IfOk, MatchResult};
 ghost use Rattle.mp_tree.specs.Document.{depth, depth_limit};
 ghost use Rattle.mp_tree.specs.Text.{document_in};
+ghost use Rattle.mp_tree.specs.Values.{value_document};
 ghost use Rattle.mp_tree.specs.View.{document};
 ghost use Rattle.mp_merge.specs.Lists.{AreWithin};
 ghost use Rattle.mp_texts.specs.Texts.{AreRead, given};
 ghost use Rattle.mp_texts.specs.Private.Unread.{IsDocumentFault, IsPatchFault, IsPatchesFault};
 
 use crate::fault::TextsFault;
-use mp_tree::{Doc, ReadFault, read_doc};
+use mp_tree::{Doc, ReadFault, read_doc, read_value};
+use serde_json::Value;
 use std::alloc::Global;
 
 // The text of a document, or of a start.
@@ -32,6 +34,34 @@ pub(crate) fn read_patch(alloc: Global, text: &[u8], number: usize) -> Result<Do
 {
     match read_doc(alloc, text) {
         Ok(doc) => Ok(doc),
+        Err(ReadFault::OutOfMemory) => Err(TextsFault::OutOfMemory),
+        Err(fault) => Err(TextsFault::Patch { number, fault }),
+    }
+}
+
+// The text of a document, kept as the value that is read.
+pub(crate) fn read_document_value(alloc: Global, text: &[u8]) -> Result<Value, TextsFault>
+    ensures { MatchResult result (λ v. document_in text.now ≡ Ok (value_document v))
+        (λ fault. IsDocumentFault fault text.now) }
+{
+    match read_value(alloc, text) {
+        Ok(value) => Ok(value),
+        Err(ReadFault::OutOfMemory) => Err(TextsFault::OutOfMemory),
+        Err(fault) => Err(TextsFault::Document(fault)),
+    }
+}
+
+// The text of the patch with that number, kept as the value that is read.
+pub(crate) fn read_patch_value(
+    alloc: Global,
+    text: &[u8],
+    number: usize,
+) -> Result<Value, TextsFault>
+    ensures { MatchResult result (λ v. document_in text.now ≡ Ok (value_document v))
+        (λ fault. IsPatchFault fault text.now number) }
+{
+    match read_value(alloc, text) {
+        Ok(value) => Ok(value),
         Err(ReadFault::OutOfMemory) => Err(TextsFault::OutOfMemory),
         Err(fault) => Err(TextsFault::Patch { number, fault }),
     }

@@ -8,3 +8,4 @@ pub mod Options
 pub mod Passed
 pub mod Readings
 pub mod Texts
+pub mod Valued

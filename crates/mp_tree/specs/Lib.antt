@@ -6,4 +6,5 @@ pub mod Look
 pub mod Private
 pub mod Rows
 pub mod Text
+pub mod Values
 pub mod View

@@ -4,6 +4,7 @@ ghost use Rattle.serde_json.specs.View.{view, items_view, members_view, number_v
 ghost use Rattle.mp_tree.specs.View.{document, items, number_of};
 ghost use Rattle.mp_tree.specs.Private.Entries.{members};
 ghost use Rattle.mp_tree.specs.Text.{from_data, items_from_data, members_from_data, whole_number};
+ghost use Rattle.mp_tree.specs.Values.{number_in};
 
 use crate::building::{FEW, map_of};
 use crate::doc::Doc;
@@ -60,7 +61,7 @@ pub(crate) fn doc_of(value: Value, alloc: Global) -> Result<Doc, Unread>
     }
 }
 
-fn whole_of(number: &Number) -> Option<Whole>
+pub(crate) fn whole_of(number: &Number) -> Option<Whole>
     ensures { option_map number_of result ≡ whole_number (number_view number.now) }
 {
     if let Some(value) = number.as_u64() {
@@ -69,6 +70,16 @@ fn whole_of(number: &Number) -> Option<Whole>
     match number.as_i64() {
         Some(value) => Some(Whole::from_i64(value)),
         None => None,
+    }
+}
+
+// The number that the value means: 0 if it is not whole.
+pub(crate) fn whole_or_zero(number: &Number) -> Whole
+    ensures { number_of result ≡ number_in number.now }
+{
+    match whole_of(number) {
+        Some(whole) => whole,
+        None => Whole::from_u64(0),
     }
 }
 

@@ -3,11 +3,13 @@ ghost use Rattle.std.specs.Prelude.{◌≡◌, ◌≢◌, ◌≤◌, All, None, 
 ghost use Rattle.serde_json.specs.Read.{max_depth};
 ghost use Rattle.mp_tree.specs.Document.{depth, depth_limit};
 ghost use Rattle.mp_tree.specs.View.{document, items};
+ghost use Rattle.mp_tree.specs.Values.{value_document};
 ghost use Rattle.mp_tree.specs.Text.{data_in, document_in, documents_in, read};
 
 use crate::converting::{Unread, doc_of};
 use crate::doc::Doc;
 use crate::fault::{DocsFault, ReadFault};
+use crate::value_walks::is_whole;
 use serde_json::Value;
 use std::alloc::Global;
 
@@ -70,6 +72,28 @@ fn read_tree(alloc: Global, bytes: &[u8]) -> Result<Doc, Unread>
 {
     match Value::from_slice(alloc, bytes) {
         Ok(value) => doc_of(value, alloc),
+        Err(fault) => if fault.is_memory() {
+            Err(Unread::OutOfMemory)
+        } else {
+            Err(Unread::NotJson)
+        },
+    }
+}
+
+// The same, but for the tree.
+pub(crate) fn read_whole_value(alloc: Global, bytes: &[u8]) -> Result<Value, Unread>
+    ensures ok { IfOk result (λ v. read bytes.now ≡ Some (value_document v)) }
+    ensures nests { IfOk result (λ v. depth (value_document v) ≤ max_depth) }
+    ensures not_json { result ≡ Err Unread.NotJson → data_in bytes.now ≡ None }
+    ensures not_whole { result ≡ Err Unread.NotWhole
+        → (IsSome (data_in bytes.now) × (read bytes.now ≡ None)) }
+{
+    match Value::from_slice(alloc, bytes) {
+        Ok(value) => if is_whole(&value) {
+            Ok(value)
+        } else {
+            Err(Unread::NotWhole)
+        },
         Err(fault) => if fault.is_memory() {
             Err(Unread::OutOfMemory)
         } else {

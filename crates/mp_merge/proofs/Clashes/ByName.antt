@@ -11,7 +11,7 @@ use Rattle.mp_merge.specs.Private.Edits.{NotBothMaps}
 
 -- ---- at the root
 
-abbrev IsNoMap : Document → Type 0
+abbrev pub IsNoMap : Document → Type 0
 IsNoMap d = look_here d ≡ plain d
 
 -- a `Doc` that is not an object

@@ -4,26 +4,39 @@ use Rattle.std.specs.List.Sorted.{IsStrictlySortedBy}
 use Rattle.std.specs.Map.{keys_of, values_of}
 use Rattle.mp_tree.specs.Document.{Document, Members, no_members, member, is_name, find, put, without, depth, items_depth, members_depth}
 use Rattle.mp_tree.specs.View.{document, items}
-use Rattle.mp_tree.specs.Private.Entries.{members}
+use Rattle.mp_tree.specs.Private.Entries.{members, members_by}
 use Rattle.mp_tree.specs.declared.doc.Doc.{Doc}
 use Rattle.mp_tree.proofs.Maps.EachMember.{each_after_put, each_after_without}
-use Rattle.mp_tree.proofs.Texts.IntoData.{put-below, IsBelow-members}
-use Rattle.mp_tree.proofs.Documents.Elements.{items-append, depth-append}
+use Rattle.mp_tree.proofs.Texts.IntoData.{put-below, IsBelow-by}
+use Rattle.mp_tree.proofs.Documents.Elements.{items_by, items-append-by, depth-append}
+
+module _ {V : Type 0} (f : V → Document) where
+  pub items_depth_from_each-by : (ds : List V) (n : ℕ) → ((k : ℕ) (d : V) → k < length ds → depth (f (get_or ds k d)) ≤ n) → items_depth (items_by f ds) ≤ n
+  items_depth_from_each-by [] n each = omega arith
+  items_depth_from_each-by (d ∷ ds) n each = omega (arith, each zero d (omega arith), items_depth_from_each-by ds n (λ k e below. each (suc k) e (omega arith)))
+
+  pub items_depth-append-by : (ds es : List V) → items_depth (items_by f (ds ++ es)) ≡ max (items_depth (items_by f ds)) (items_depth (items_by f es))
+  items_depth-append-by ds es = ap items_depth (items-append-by f ds es) ∙ depth-append (items_by f ds) (items_by f es)
+
+  -- in a map each name stands once, so no value is hidden by another
+  pub members_depth-by : (es : List (String Global × V)) → IsStrictlySortedBy string_cmp (keys_of es) → members_depth (members_by f es) ≡ items_depth (items_by f (values_of es))
+  unfolding IsStrictlySortedBy
+  members_depth-by [] ascending = refl
+  members_depth-by (e ∷ es) ascending =
+      let listed = put-below (string_bytes e.0) (f e.1) (members_by f es) (IsBelow-by f e.0 es ascending.0) in
+      ap members_depth listed ∙ ap (λ n. max (depth (f e.1)) n) (members_depth-by es ascending.1)
+
+-- ---- of documents
 
 pub items_depth_from_each : (ds : List Doc) (n : ℕ) → ((k : ℕ) (d : Doc) → k < length ds → depth (document (get_or ds k d)) ≤ n) → items_depth (items ds) ≤ n
-items_depth_from_each [] n each = omega arith
-items_depth_from_each (d ∷ ds) n each = omega (arith, each zero d (omega arith), items_depth_from_each ds n (λ k e below. each (suc k) e (omega arith)))
+items_depth_from_each = items_depth_from_each-by document
 
 pub items_depth-append : (ds es : List Doc) → items_depth (items (ds ++ es)) ≡ max (items_depth (items ds)) (items_depth (items es))
-items_depth-append ds es = ap items_depth (items-append ds es) ∙ depth-append (items ds) (items es)
+items_depth-append = items_depth-append-by document
 
--- in a map each name stands once, so no value is hidden by another
 pub members_depth-members : (es : List (String Global × Doc)) → IsStrictlySortedBy string_cmp (keys_of es) → members_depth (members es) ≡ items_depth (items (values_of es))
 unfolding IsStrictlySortedBy
-members_depth-members [] ascending = refl
-members_depth-members (e ∷ es) ascending =
-    let listed = put-below (string_bytes e.0) (document e.1) (members es) (IsBelow-members e.0 es ascending.0) in
-    ap members_depth listed ∙ ap (λ n. max (depth (document e.1)) n) (members_depth-members es ascending.1)
+members_depth-members = members_depth-by document
 
 -- ---- a map after a change
 

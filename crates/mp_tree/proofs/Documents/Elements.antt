@@ -4,9 +4,13 @@ use Rattle.std.proofs.lemmas.List.{length-take-le}
 use Rattle.std.proofs.lemmas.List.Elements.{All-head, All-tail, All-weaker}
 use Rattle.std.specs.List.{All, slice_get}
 use Rattle.mp_tree.specs.Document.{Document, Items, no_items, item, IsDocument, IsReadable, AreDocuments, items_depth}
-use Rattle.mp_tree.specs.Elements.{append, count_of, list_of, nth}
+use Rattle.mp_tree.specs.Elements.{append, count_of, items_of, list_of, nth}
 use Rattle.mp_tree.specs.View.{document, items}
 use Rattle.mp_tree.specs.declared.doc.Doc.{Doc}
+
+-- the elements of a list of values, each value as the document that it means
+abbrev pub items_by : {V : Type 0} → (V → Document) → List V → Items
+items_by f ds = items_of (map f ds)
 
 -- ---- as many, and as a list
 
@@ -17,9 +21,12 @@ count_of-items (d ∷ docs) = ap suc (count_of-items docs)
 pub count-take : (i : ℕ) (ds : List Doc) → i ≤ length ds → count_of (items (take i ds)) ≡ i
 count-take i ds within = count_of-items (take i ds) ∙ length-take-le i ds within
 
+pub list_of-by : {V : Type 0} (f : V → Document) (vs : List V) → list_of (items_by f vs) ≡ map f vs
+list_of-by f [] = refl
+list_of-by f (v ∷ vs) = ap (λ ds. f v ∷ ds) (list_of-by f vs)
+
 pub list_of-items : (docs : List Doc) → list_of (items docs) ≡ map document docs
-list_of-items [] = refl
-list_of-items (d ∷ docs) = ap (λ ds. document d ∷ ds) (list_of-items docs)
+list_of-items = list_of-by document
 
 -- ---- at an index
 
@@ -62,9 +69,12 @@ items-set (d ∷ ds) (suc i) y = ap (item (document d)) (items-set ds i y)
 
 -- ---- one list after another
 
-pub items-append : (xs ys : List Doc) → items (xs ++ ys) ≡ append (items xs) (items ys)
-items-append [] ys = refl
-items-append (x ∷ xs) ys = ap (item (document x)) (items-append xs ys)
+pub items-append-by : {V : Type 0} (f : V → Document) (ds es : List V) → items_by f (ds ++ es) ≡ append (items_by f ds) (items_by f es)
+items-append-by f [] es = refl
+items-append-by f (d ∷ ds) es = ap (item (f d)) (items-append-by f ds es)
+
+pub items-append : (ds es : List Doc) → items (ds ++ es) ≡ append (items ds) (items es)
+items-append = items-append-by document
 
 pub all_before : (ds : Items) → ds ≡ append ds no_items
 all_before no_items = refl

@@ -13,7 +13,7 @@ use Rattle.std.specs.List.{All, Contains}
 use Rattle.mp_tree.proofs.Maps.Finite.{IsMap-put}
 use Rattle.mp_tree.proofs.Documents.Throughout.{Throughout-put}
 
-byte_entries-map : {V W : Type 0} (f : V → W) (es : List (String Global × V)) → byte_entries (map (λ e. (e.0, f e.1)) es) ≡ map (λ e. (string_bytes e.0, f e.1)) es
+pub byte_entries-map : {V W : Type 0} (f : V → W) (es : List (String Global × V)) → byte_entries (map (λ e. (e.0, f e.1)) es) ≡ map (λ e. (string_bytes e.0, f e.1)) es
 byte_entries-map f [] = refl
 byte_entries-map f (e ∷ es) = ap (λ r. (string_bytes e.0, f e.1) ∷ r) (byte_entries-map f es)
 

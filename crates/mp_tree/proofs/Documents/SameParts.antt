@@ -5,10 +5,11 @@ use Rattle.std.specs.List.Sorted.{IsStrictlySortedBy}
 use Rattle.std.specs.Map.{keys_of}
 use Rattle.mp_tree.specs.Document.{Document, string, list, object, Items, no_items, item, Members, no_members, find}
 use Rattle.mp_tree.specs.View.{document, members_of, items}
-use Rattle.mp_tree.specs.Private.Entries.{members}
+use Rattle.mp_tree.specs.Private.Entries.{members, members_by}
 use Rattle.mp_tree.specs.declared.doc.Doc.{Doc}
+use Rattle.mp_tree.proofs.Documents.Elements.{items_by}
 use Rattle.mp_tree.proofs.Maps.Building.{seen}
-use Rattle.mp_tree.proofs.Texts.IntoData.{put-below, IsBelow-members}
+use Rattle.mp_tree.proofs.Texts.IntoData.{put-below, IsBelow-by}
 use Rattle.mp_tree.proofs.Maps.Finite.{pairs_of}
 use Rattle.mp_tree.proofs.Lists.{empty_from_length}
 use Rattle.mp_tree.proofs.Passed.{Passed, Passed-next, Passed-end}
@@ -20,41 +21,65 @@ abbrev elements_of : Items → List Document
 elements_of no_items = []
 elements_of (item d ds) = d ∷ elements_of ds
 
-elements_of-items : (ds : List Doc) → elements_of (items ds) ≡ map document ds
-elements_of-items [] = refl
-elements_of-items (d ∷ ds) = ap (λ es. document d ∷ es) (elements_of-items ds)
+module _ {V : Type 0} (f : V → Document) where
+  elements_of-by : (ds : List V) → elements_of (items_by f ds) ≡ map f ds
+  elements_of-by [] = refl
+  elements_of-by (d ∷ ds) = ap (λ es. f d ∷ es) (elements_of-by ds)
 
-documents_from_items : (ds es : List Doc) → items ds ≡ items es → map document ds ≡ map document es
-documents_from_items ds es same = sym (elements_of-items ds) ∙ ap elements_of same ∙ elements_of-items es
+  documents_from_by : (ds es : List V) → items_by f ds ≡ items_by f es → map f ds ≡ map f es
+  documents_from_by ds es same = sym (elements_of-by ds) ∙ ap elements_of same ∙ elements_of-by es
+
+  pub length_from_items-by : (ds es : List V) → items_by f ds ≡ items_by f es → length ds ≡ length es
+  length_from_items-by ds es same = sym (length-map ds f) ∙ ap length (documents_from_by ds es same) ∙ length-map es f
+
+  -- elements at each place
+  at_from_map-by : (ds es : List V) (k : ℕ) (d : V) → map f ds ≡ map f es → f (get_or ds k d) ≡ f (get_or es k d)
+  at_from_map-by [] [] k d same = refl
+  at_from_map-by [] (e ∷ es) k d same = absurd (cc)
+  at_from_map-by (x ∷ ds) [] k d same = absurd (cc)
+  at_from_map-by (x ∷ ds) (e ∷ es) zero d same = cc
+  at_from_map-by (x ∷ ds) (e ∷ es) (suc k) d same = let others : map f ds ≡ map f es = cc in at_from_map-by ds es k d others
+
+  pub at_from_items-by : (ds es : List V) (k : ℕ) (d : V) → items_by f ds ≡ items_by f es → f (get_or ds k d) ≡ f (get_or es k d)
+  at_from_items-by ds es k d same = at_from_map-by ds es k d (documents_from_by ds es same)
+
+  pub items_from_each-by : (ds es : List V) → length ds ≡ length es → ((k : ℕ) (d : V) → k < length ds → f (get_or ds k d) ≡ f (get_or es k d)) → items_by f ds ≡ items_by f es
+  items_from_each-by [] [] long each = refl
+  items_from_each-by [] (e ∷ es) long each = absurd (omega arith)
+  items_from_each-by (d ∷ ds) [] long each = absurd (omega arith)
+  items_from_each-by (d ∷ ds) (e ∷ es) long each = ap₂ item (each zero d (omega arith)) (items_from_each-by ds es (omega arith) (λ k x below. each (suc k) x (omega arith)))
+
+  pairs_of-by : (es : List (String Global × V)) → IsStrictlySortedBy string_cmp (keys_of es) → pairs_of (members_by f es) ≡ map (seen f) es
+  unfolding IsStrictlySortedBy
+  pairs_of-by [] ascending = refl
+  pairs_of-by (e ∷ es) ascending =
+      let listed = put-below (string_bytes e.0) (f e.1) (members_by f es) (IsBelow-by f e.0 es ascending.0) in
+      ap pairs_of listed ∙ ap (λ ps. seen f e ∷ ps) (pairs_of-by es ascending.1)
+
+  -- ascending entries whose members are the same are seen alike
+  pub seen_from_members-by : (es fs : List (String Global × V)) → IsStrictlySortedBy string_cmp (keys_of es) → IsStrictlySortedBy string_cmp (keys_of fs) → members_by f es ≡ members_by f fs
+      → map (seen f) es ≡ map (seen f) fs
+  seen_from_members-by es fs a b same = sym (pairs_of-by es a) ∙ ap pairs_of same ∙ pairs_of-by fs b
+
+  pub members_from_seen-by : (es fs : List (String Global × V)) → map (seen f) es ≡ map (seen f) fs → members_by f es ≡ members_by f fs
+  members_from_seen-by es fs same = ap members_of same
+
+  pub length_from_members-by : (es fs : List (String Global × V)) → IsStrictlySortedBy string_cmp (keys_of es) → IsStrictlySortedBy string_cmp (keys_of fs) → members_by f es ≡ members_by f fs
+      → length es ≡ length fs
+  length_from_members-by es fs a b same = sym (length-map es (seen f)) ∙ ap length (seen_from_members-by es fs a b same) ∙ length-map fs (seen f)
+
+-- ---- of documents
 
 pub length_from_items : (ds es : List Doc) → items ds ≡ items es → length ds ≡ length es
-length_from_items ds es same = sym (length-map ds document) ∙ ap length (documents_from_items ds es same) ∙ length-map es document
-
--- elements at each place
-at_from_map : (ds es : List Doc) (k : ℕ) (d : Doc) → map document ds ≡ map document es → document (get_or ds k d) ≡ document (get_or es k d)
-at_from_map [] [] k d same = refl
-at_from_map [] (e ∷ es) k d same = absurd (cc)
-at_from_map (x ∷ ds) [] k d same = absurd (cc)
-at_from_map (x ∷ ds) (e ∷ es) zero d same = cc
-at_from_map (x ∷ ds) (e ∷ es) (suc k) d same = let others : map document ds ≡ map document es = cc in at_from_map ds es k d others
+length_from_items = length_from_items-by document
 
 pub at_from_items : (ds es : List Doc) (k : ℕ) (d : Doc) → items ds ≡ items es → document (get_or ds k d) ≡ document (get_or es k d)
-at_from_items ds es k d same = at_from_map ds es k d (documents_from_items ds es same)
+at_from_items = at_from_items-by document
 
 pub items_from_each : (ds es : List Doc) → length ds ≡ length es → ((k : ℕ) (d : Doc) → k < length ds → document (get_or ds k d) ≡ document (get_or es k d)) → items ds ≡ items es
-items_from_each [] [] long each = refl
-items_from_each [] (e ∷ es) long each = absurd (omega arith)
-items_from_each (d ∷ ds) [] long each = absurd (omega arith)
-items_from_each (d ∷ ds) (e ∷ es) long each = ap₂ item (each zero d (omega arith)) (items_from_each ds es (omega arith) (λ k x below. each (suc k) x (omega arith)))
+items_from_each = items_from_each-by document
 
 -- ---- members
-
-pairs_of-members : (es : List (String Global × Doc)) → IsStrictlySortedBy string_cmp (keys_of es) → pairs_of (members es) ≡ map (seen document) es
-unfolding IsStrictlySortedBy
-pairs_of-members [] ascending = refl
-pairs_of-members (e ∷ es) ascending =
-    let listed = put-below (string_bytes e.0) (document e.1) (members es) (IsBelow-members e.0 es ascending.0) in
-    ap pairs_of listed ∙ ap (λ ps. seen document e ∷ ps) (pairs_of-members es ascending.1)
 
 abbrev inside : Document → Members
 inside (object ms) = ms
@@ -83,17 +108,16 @@ same_text_at n ms s t here there = same_text s t (same_some (find n ms) (string 
 
 -- ---- entries that ascend
 
--- ascending entries whose members are the same are seen alike
 pub seen_from_members : (es fs : List (String Global × Doc)) → IsStrictlySortedBy string_cmp (keys_of es) → IsStrictlySortedBy string_cmp (keys_of fs) → members es ≡ members fs
     → map (seen document) es ≡ map (seen document) fs
-seen_from_members es fs a b same = sym (pairs_of-members es a) ∙ ap pairs_of same ∙ pairs_of-members fs b
+seen_from_members = seen_from_members-by document
 
 pub members_from_seen : (es fs : List (String Global × Doc)) → map (seen document) es ≡ map (seen document) fs → members es ≡ members fs
-members_from_seen es fs same = ap members_of same
+members_from_seen = members_from_seen-by document
 
 pub length_from_members : (es fs : List (String Global × Doc)) → IsStrictlySortedBy string_cmp (keys_of es) → IsStrictlySortedBy string_cmp (keys_of fs) → members es ≡ members fs
     → length es ≡ length fs
-length_from_members es fs a b same = sym (length-map es (seen document)) ∙ ap length (seen_from_members es fs a b same) ∙ length-map fs (seen document)
+length_from_members = length_from_members-by document
 
 -- ---- two lists that are walked together
 

@@ -10,6 +10,7 @@ use Rattle.mp_tree.specs.Document.{Document, depth, depth_limit, items_depth}
 use Rattle.mp_tree.specs.Text.{data_in, from_data, document_in, json_document, read, shallow_document, whole_document}
 use Rattle.mp_tree.specs.View.{document, items}
 use Rattle.mp_tree.specs.declared.doc.Doc.{Doc}
+use Rattle.mp_tree.proofs.Documents.Elements.{items_by}
 use Rattle.mp_tree.proofs.Texts.Written.{depth-from_data}
 
 pub data_in-some : (b : List ℕ) (x : Data) → IsUtf8 b → serde_json.read b ≡ Some x → data_in b ≡ Some x
@@ -39,7 +40,10 @@ document_in-read bytes d is within =
 pub one_document : (bytes : List ℕ) (d e : Document) → document_in bytes ≡ Ok d → document_in bytes ≡ Ok e → d ≡ e
 one_document bytes d e one other = cc
 
+pub item_depth-by : {V : Type 0} (f : V → Document) (ds : List V) (k : ℕ) (d : V) → k < length ds → depth (f (get_or ds k d)) ≤ items_depth (items_by f ds)
+item_depth-by f [] k d h = absurd (omega arith)
+item_depth-by f (e ∷ ds) zero d h = omega arith
+item_depth-by f (e ∷ ds) (suc k) d h = omega (arith, item_depth-by f ds k d (omega arith))
+
 pub item_depth : (ds : List Doc) (k : ℕ) (d : Doc) → k < length ds → depth (document (get_or ds k d)) ≤ items_depth (items ds)
-item_depth [] k d h = absurd (omega arith)
-item_depth (e ∷ ds) zero d h = omega arith
-item_depth (e ∷ ds) (suc k) d h = omega (arith, item_depth ds k d (omega arith))
+item_depth = item_depth-by document

@@ -30,7 +30,7 @@ items_from_data-all (v ∷ vs) (d ∷ ds) same =
     let others : map read_as ds ≡ map from_value vs = cc in
     rw (first, items_from_data-all vs ds others)
 
-none_after : (o : Option Document) (rest : Option Items) → rest ≡ None → option_and_then (λ e. option_map (item e) rest) o ≡ None
+pub none_after : (o : Option Document) (rest : Option Items) → rest ≡ None → option_and_then (λ e. option_map (item e) rest) o ≡ None
 none_after None rest e = refl
 none_after (Some d) rest e = rw e
 
@@ -49,7 +49,7 @@ members_from_data-all (e ∷ es) (f ∷ fs) same =
     let value : from_value e.1 ≡ read_as f.1 = ap (λ p. p.1) first in
     rw (value, members_from_data-all es fs others, name)
 
-none_below : (n : List ℕ) (o : Option Document) (rest : Option Members) → rest ≡ None → option_and_then (λ e. option_map (put n e) rest) o ≡ None
+pub none_below : (n : List ℕ) (o : Option Document) (rest : Option Members) → rest ≡ None → option_and_then (λ e. option_map (put n e) rest) o ≡ None
 none_below n None rest e = refl
 none_below n (Some d) rest e = rw e
 

@@ -1,12 +1,12 @@
 use Rattle.std.proofs.Common.{◌≡◌}
 use Rattle.std.specs.Vec.Iter.{into_iter_items}
-use Rattle.mp_tree.specs.View.{document, items}
-use Rattle.mp_merge.specs.Application.{in_turn}
 use Rattle.mp_tree.specs.Elements.{list_of}
+use Rattle.mp_tree.specs.Values.{value_document, value_items}
+use Rattle.mp_merge.specs.Application.{in_turn}
 use Rattle.mp_cli.proofs.answering.merge.Given as goal
 
--- the patches that are left, applied to the document as it is, give the result
+-- the patches that are left, applied to the value as it is, give the result
 abbrev pub invariant-loop-patch : goal.invariant-loop-patch
 invariant-loop-patch l =
-    (in_turn (document l.initial.doc) (list_of (items (into_iter_items l.initial.patch-iterator))) ≡ in_turn (document l.doc) (list_of (items (into_iter_items l.patch-iterator))))
+    (in_turn (value_document l.initial.value) (list_of (value_items (into_iter_items l.initial.patch-iterator))) ≡ in_turn (value_document l.value) (list_of (value_items (into_iter_items l.patch-iterator))))
     × (goal.iterator-loop-patch).can_next l.patch-iterator × (goal.iterator-loop-patch).is_finite l.patch-iterator

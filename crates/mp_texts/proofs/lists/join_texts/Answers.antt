@@ -1,23 +1,23 @@
-use Rattle.std.proofs.Common.{◌≡◌, List, ap, map, string_bytes, subst, sym}
-use Rattle.mp_tree.specs.Document.{Document, depth_limit}
-use Rattle.mp_tree.specs.View.{document}
-use Rattle.mp_merge.specs.Join.{IsJoin}
-use Rattle.mp_merge.specs.Lists.{AreWithin}
-use Rattle.mp_texts.proofs.Readings.{text_written}
+use Rattle.std.proofs.Common.{string_bytes}
+use Rattle.mp_tree.specs.Values.{value_document}
+use Rattle.mp_tree.proofs.Facts.{IsDocument-value}
+use Rattle.mp_texts.specs.Texts.{given}
+use Rattle.mp_texts.proofs.Readings.{all_readable, of_some, text_written}
 use Rattle.mp_texts.proofs.lists.join_texts.Goals as goal
 
--- the join is no deeper than the patches, so it is read back
-pub returns : goal.returns
-returns c =
-    let docs = c.in_ok-patches.patches.items in
-    let same : map document c.as_slice.result.now ≡ map document docs = ap (map document) c.as_slice.ensures.value in
-    let joined = document c.in_ok-joined.joined in
-    let written = c.in_ok-write_doc in
-    let within = c.in_ok-joined.ensures.depth depth_limit (subst (λ (ds : List Document). AreWithin depth_limit ds) (sym same) c.in_ok-patches.ensures.depth) in
+-- what is read can be read again, and so can the join
+pub returns-in_ok-write_value-in-Some : goal.returns-in_ok-write_value-in-Some
+returns-in_ok-write_value-in-Some c =
+    let texts = given c.args.patches.now in
+    let v = c.in-Some.joined in
+    let j = value_document v in
+    let (ds, read, is) = of_some _ c.in-Some.is c.in_ok-joined.ensures in
+    let written = c.in_ok-write_value-in-Some in
+    let readable = c.join_is_readable.ensures ds j (IsDocument-value v) (all_readable c.readings_are_documents.ensures.document texts ds read) is in
     record {
-      documents = map document docs;
-      read = c.in_ok-patches.ensures.read;
-      join = joined;
-      is_join = subst (λ (ds : List Document). IsJoin ds joined) same c.in_ok-joined.ensures.joined;
-      text = text_written joined (string_bytes written.field-0) written.ensures.text written.ensures.reads_back within;
+      documents = ds;
+      read = read;
+      join = j;
+      is_join = is;
+      text = text_written j (string_bytes written.field-0) written.ensures.text (λ within. written.ensures.reads_back readable) readable.within;
     }

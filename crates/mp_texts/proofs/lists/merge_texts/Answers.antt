@@ -1,7 +1,6 @@
-use Rattle.std.proofs.Common.{◌≤◌, map, string_bytes, subst, sym}
-use Rattle.mp_tree.specs.Document.{Document, depth, depth_limit}
-use Rattle.mp_tree.specs.View.{document}
-use Rattle.mp_merge.specs.Application.{in_turn}
+use Rattle.std.proofs.Common.{string_bytes, sym, subst}
+use Rattle.mp_tree.specs.Document.{Document, IsReadable}
+use Rattle.mp_tree.specs.Values.{value_document}
 use Rattle.mp_texts.specs.Answers.{IsTextOf}
 use Rattle.mp_texts.specs.Texts.{given}
 use Rattle.mp_texts.proofs.Merging.{in_turn-readable}
@@ -11,19 +10,17 @@ use Rattle.mp_texts.proofs.lists.merge_texts.Goals as goal
 -- what the patches leave can be read, since the document and the patches can
 pub returns : goal.returns
 returns c =
-    let d = document c.in_ok-doc.doc in
+    let d = value_document c.in_ok-doc.doc in
     let texts = given c.args.patches.now in
-    let ps = map document c.in_ok-patches.patches.items in
+    let (ps, read, is) = c.in_ok-merged.ensures in
     let readable = c.readings_are_documents.ensures.document in
-    let end = in_turn d ps in
-    let good = in_turn-readable c.merged_is_readable.ensures d ps (readable c.args.document.now d c.in_ok-doc.ensures.read) (all_readable readable texts ps c.in_ok-patches.ensures.read) in
-    let merged = document c.in_ok-merged.merged in
-    let written = c.in_ok-write_doc in
-    let within : depth merged ≤ depth_limit = subst (λ (x : Document). depth x ≤ depth_limit) (sym c.in_ok-merged.ensures) good.within in
+    let merged = value_document c.in_ok-merged.merged in
+    let written = c.in_ok-write_value in
+    let good = subst (λ (x : Document). IsReadable x) (sym is) (in_turn-readable c.merged_is_readable.ensures d ps (readable c.args.document.now d c.in_ok-doc.ensures) (all_readable readable texts ps read)) in
     record {
       from = d;
-      document_read = c.in_ok-doc.ensures.read;
+      document_read = c.in_ok-doc.ensures;
       documents = ps;
-      read = c.in_ok-patches.ensures.read;
-      text = subst (λ (x : Document). IsTextOf x (string_bytes written.field-0)) c.in_ok-merged.ensures (text_written merged (string_bytes written.field-0) written.ensures.text written.ensures.reads_back within);
+      read = read;
+      text = subst (λ (x : Document). IsTextOf x (string_bytes written.field-0)) is (text_written merged (string_bytes written.field-0) written.ensures.text (λ within. written.ensures.reads_back good) good.within);
     }

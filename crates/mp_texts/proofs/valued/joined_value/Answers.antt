@@ -1,0 +1,38 @@
+use Rattle.std.proofs.Common.{◌≡◌, ℕ, List, [], ◌∷◌, ◌++◌, Bor, take, MatchBool, Ok, refl, sym, subst, arith}
+use Rattle.std.proofs.lemmas.List.{length-map, take_all}
+use Rattle.mp_tree.specs.Text.{document_in}
+use Rattle.mp_tree.specs.Values.{value_document}
+use Rattle.mp_merge.specs.Clash.{Compatible}
+use Rattle.mp_merge.specs.Join.{IsJoin}
+use Rattle.mp_texts.specs.Texts.{AreRead, given}
+use Rattle.mp_texts.proofs.Readings.{AreRead-cons, of_some}
+use Rattle.mp_texts.proofs.Sayings.{join_of_one}
+use Rattle.mp_texts.proofs.Unread.{first_given, next_reading}
+use Rattle.mp_texts.proofs.valued.joined_value.Goals as goal
+
+pub loop-number-init : goal.loop-number-init
+loop-number-init c =
+    let j = value_document c.in-Some-2.joined in
+    let first = c.in-Some.first.now in
+    let read : document_in first.now ≡ Ok j = of_some _ c.in-Some-2.is c.in_ok-joined.ensures in
+    let one : AreRead (first.now ∷ []) (j ∷ []) = AreRead-cons first.now [] j [] read refl in
+    (j ∷ [], subst (λ (ts : List (List ℕ)). AreRead ts (j ∷ [])) (sym (first_given c.args.patches.now first (sym c.in-Some.ensures.value))) one, join_of_one j)
+
+pub loop-number-preserved : goal.loop-number-preserved
+loop-number-preserved c =
+    let (ds, read, is) = c.loop-number.invariant in
+    let p = value_document c.in-Some-3.patch in
+    let j = value_document c.loop-number.joined in
+    let now = value_document c.join_value.new.joined in
+    let pair : IsJoin (j ∷ p ∷ []) now = subst (λ b. MatchBool b (IsJoin (j ∷ p ∷ []) now) (¬ Compatible j p)) c.if-not-branch.false c.in_ok-join_value.ensures in (
+      ds ++ p ∷ [],
+      next_reading c.args.patches.now c.loop-number.number _ c.loop-number-test.true ds p read (of_some _ c.in-Some-3.is c.in_ok-patch.ensures),
+      (c.join_grows.ensures ds p j now is).1 pair,
+    )
+
+pub returns : goal.returns
+returns c =
+    let (ds, read, is) = c.loop-number.invariant in
+    let texts = given c.args.patches.now in
+    let all : take c.loop-number.number texts ≡ texts = take_all c.loop-number.number texts (omega (arith, c.loop-number-test.false, length-map c.args.patches.now (λ (t : Bor (List ℕ)). t.now))) in
+    (ds, subst (λ (ts : List (List ℕ)). AreRead ts ds) all read, is)
