@@ -1,5 +1,5 @@
 -- What the commands over lists of patches answer.
-use Rattle.std.proofs.Common.{◌≡◌, ◌≢◌, ℕ, List, [], ◌∷◌, length, Some, map, refl, sym, subst, arith}
+use Rattle.std.proofs.Common.{◌≡◌, ◌≢◌, ℕ, List, [], ◌∷◌, Some, map, refl, sym, subst}
 use Rattle.mp_tree.specs.Document.{Document}
 use Rattle.mp_tree.specs.View.{document, items}
 use Rattle.mp_tree.specs.declared.doc.Doc.{Doc}
@@ -9,8 +9,7 @@ use Rattle.mp_merge.specs.declared.fault.ListFault.TheVariants.{NoPatches, Confl
 use Rattle.mp_cli.specs.Answered.{IsJoinAnswer, none_joined, join_refused, IsReplayAnswer, replay_refused, IsPatchAnswerTo, IsReplayAnswerTo, IsRewriteAnswerTo, IsGetAnswerTo, IsPartAnswer}
 use Rattle.mp_cli.specs.Lines.{Output, wrong_shape}
 use Rattle.mp_cli.specs.Private.Answers.{list_fault}
-use Rattle.mp_tree.proofs.Facts.{Contains-nil, items_by, list_of-by}
-use Rattle.mp_merge.specs.Outcome.{IsOutcome}
+use Rattle.mp_tree.proofs.Facts.{items_by, list_of-by}
 
 pub no_join : (fault : ListFault) (patches : List Document) (a : Output) → IsJoinAllFault fault patches → list_fault fault ≡ Some a → IsJoinAnswer patches a
 no_join NoPatches patches a none is = none_joined none (cc)
@@ -26,22 +25,6 @@ no_replay OutOfMemory start patches a none is = absurd (cc)
 pub replay_answer_by : {V : Type 0} (f : V → Document) (vs ps : List V) (v : V) (a : Output) → vs ≡ v ∷ ps → IsReplayAnswer (f v) (map f ps) a → IsReplayAnswerTo (items_by f vs) a
 replay_answer_by f vs ps v a split is =
     subst (λ us. IsReplayAnswerTo (items_by f us) a) (sym split) (subst (λ (qs : List Document). IsReplayAnswer (f v) qs a) (sym (list_of-by f ps)) is)
-
--- the outcome of no patches is the start
-pub outcome_of_none : (d : Document) → IsOutcome d [] d
-outcome_of_none d = record {
-  set = λ p at. absurd (Contains-nil p at);
-  entered = λ p at. absurd (Contains-nil p at);
-  cleared = λ p at. absurd (Contains-nil p at);
-  kept = λ w alone. refl;
-}
-
-pub none_of_length : {A : Type 0} (xs : List A) → length xs ≡ 0 → xs ≡ []
-none_of_length [] none = refl
-none_of_length (x ∷ xs) none = absurd (omega arith)
-
-pub replay_answer : (docs ps : List Doc) (d : Doc) (a : Output) → docs ≡ d ∷ ps → IsReplayAnswer (document d) (map document ps) a → IsReplayAnswerTo (items docs) a
-replay_answer = replay_answer_by document
 
 -- `get` wants one document
 pub no_single : (pointer : List ℕ) (docs : List Doc) (a : Output) → ((d : Doc) → docs ≢ d ∷ []) → a ≡ wrong_shape → IsGetAnswerTo pointer (items docs) a

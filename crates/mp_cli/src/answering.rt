@@ -1,6 +1,6 @@
 //! The answer to an input: the checks in their order, and then the command's work.
 ghost use Rattle.std.specs.Prelude.{map, IfOk};
-ghost use Rattle.mp_tree.specs.Values.{value_items};
+ghost use Rattle.mp_tree.specs.Values.{value_document, value_items};
 ghost use Rattle.mp_tree.specs.View.{document, items};
 ghost use Rattle.mp_patch.specs.View.{operations_of};
 ghost use Rattle.mp_cli.specs.Answered.{IsAnswered, IsGetAnswerTo, IsJoinAnswer, IsPatchAnswer, IsPatchAnswerTo, IsReplayAnswerTo, IsRewriteAnswer, IsRewriteAnswerTo, IsRunAnswer, answered_by, merge_answer};
@@ -14,7 +14,7 @@ use crate::lines::{
     apply_fault, form_fault, input_fault, list_fault, part_line, result_line, spelling_fault,
     wrong_shape,
 };
-use mp_merge::{join_all, join_values, laws, merge_value, replay_owned, rewrite as rewriting};
+use mp_merge::{join_all_values, merge_value, replay_values, rewrite as rewriting};
 use mp_patch::{JsonPatch, apply_once, write_patch};
 use mp_pointer::{Pointer, get as part_at};
 use mp_tree::{Doc, read_docs, read_values, write_doc, write_value};
@@ -89,27 +89,12 @@ fn answer_merge(alloc: Global, input: &[u8]) -> Result<Answer, AllocError>
     }
 }
 
-// If there is no join, the patches are gone: they are read again, so that what conflicts can be reported.
 #[tactic(auto, unfolding(crate::specs::Answered::IsAnswered))]
 fn answer_join(alloc: Global, input: &[u8]) -> Result<Answer, AllocError>
     ensures { IfOk result (λ a. IsAnswered Join input.now (answered_by a)) }
 {
-    let values = match read_values(alloc, input) {
-        Ok(values) => values,
-        Err(fault) => return input_fault(alloc, fault),
-    };
-    match join_values(alloc, values)? {
-        Some(joined) => result_line(write_value(alloc, &joined)?),
-        None => report_join(alloc, input),
-    }
-}
-
-#[tactic(auto, unfolding(crate::specs::Answered::IsAnswered))]
-fn report_join(alloc: Global, input: &[u8]) -> Result<Answer, AllocError>
-    ensures { IfOk result (λ a. IsAnswered Join input.now (answered_by a)) }
-{
-    match read_docs(alloc, input) {
-        Ok(docs) => join(alloc, docs.as_slice()),
+    match read_values(alloc, input) {
+        Ok(values) => join(alloc, values.as_slice()),
         Err(fault) => input_fault(alloc, fault),
     }
 }
@@ -118,35 +103,8 @@ fn report_join(alloc: Global, input: &[u8]) -> Result<Answer, AllocError>
 fn answer_replay(alloc: Global, input: &[u8]) -> Result<Answer, AllocError>
     ensures { IfOk result (λ a. IsAnswered Replay input.now (answered_by a)) }
 {
-    let values = match read_values(alloc, input) {
-        Ok(values) => values,
-        Err(fault) => return input_fault(alloc, fault),
-    };
-    let Some((start, patches)) = first_and_rest(values) else {
-        return wrong_shape(alloc);
-    };
-    if patches.is_empty() {
-        return result_line(write_value(alloc, &start)?);
-    }
-    laws::join_gives_outcome();
-    match join_values(alloc, patches)? {
-        Some(joined) => {
-            let outcome = merge_value(alloc, Some(start), joined)?;
-            result_line(write_value(alloc, &outcome)?)
-        }
-        None => {
-            drop(start);
-            report_replay(alloc, input)
-        }
-    }
-}
-
-#[tactic(auto, unfolding(crate::specs::Answered::IsAnswered))]
-fn report_replay(alloc: Global, input: &[u8]) -> Result<Answer, AllocError>
-    ensures { IfOk result (λ a. IsAnswered Replay input.now (answered_by a)) }
-{
-    match read_docs(alloc, input) {
-        Ok(docs) => replay(alloc, docs),
+    match read_values(alloc, input) {
+        Ok(values) => replay(alloc, values),
         Err(fault) => input_fault(alloc, fault),
     }
 }
@@ -202,23 +160,23 @@ fn merge(alloc: Global, values: Vec<Value>) -> Result<Answer, AllocError>
     result_line(write_value(alloc, &value)?)
 }
 
-fn join(alloc: Global, patches: &[Doc]) -> Result<Answer, AllocError>
-    ensures { IfOk result (λ a. IsJoinAnswer (map document patches.now) (answered_by a)) }
+fn join(alloc: Global, patches: &[Value]) -> Result<Answer, AllocError>
+    ensures { IfOk result (λ a. IsJoinAnswer (map value_document patches.now) (answered_by a)) }
 {
-    match join_all(alloc, patches) {
-        Ok(joined) => result_line(write_doc(alloc, &joined)?),
+    match join_all_values(alloc, patches) {
+        Ok(joined) => result_line(write_value(alloc, &joined)?),
         Err(fault) => list_fault(alloc, fault),
     }
 }
 
-fn replay(alloc: Global, docs: Vec<Doc>) -> Result<Answer, AllocError>
-    ensures { IfOk result (λ a. IsReplayAnswerTo (items docs.items) (answered_by a)) }
+fn replay(alloc: Global, values: Vec<Value>) -> Result<Answer, AllocError>
+    ensures { IfOk result (λ a. IsReplayAnswerTo (value_items values.items) (answered_by a)) }
 {
-    let Some((start, patches)) = first_and_rest(docs) else {
+    let Some((start, patches)) = first_and_rest(values) else {
         return wrong_shape(alloc);
     };
-    match replay_owned(alloc, start, patches.as_slice()) {
-        Ok(doc) => result_line(write_doc(alloc, &doc)?),
+    match replay_values(alloc, start, patches.as_slice()) {
+        Ok(value) => result_line(write_value(alloc, &value)?),
         Err(fault) => list_fault(alloc, fault),
     }
 }

@@ -1,4 +1,5 @@
 -- Loops over collections: what they have passed and what is left, and what a value is not.
 pub mod Growth
+pub mod Meant
 pub mod Members
 pub mod Values

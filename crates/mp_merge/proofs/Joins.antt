@@ -1,6 +1,5 @@
 -- Joins, and the union that the code computes.
 pub mod ByName
-pub mod InOrder
 pub mod Laws
 pub mod Numbered
 pub mod Union

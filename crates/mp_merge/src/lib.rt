@@ -11,6 +11,8 @@ pub mod laws;
 mod lists;
 mod merging;
 mod rewriting;
+mod value_comparing;
+mod value_lists;
 mod valued;
 mod values;
 
@@ -22,4 +24,5 @@ pub use joining::join;
 pub use lists::{join_all, replay, replay_owned};
 pub use merging::{merge, merge_owned};
 pub use rewriting::rewrite;
-pub use valued::{join_value, join_values, merge_value};
+pub use value_lists::{join_all_values, replay_values};
+pub use valued::{join_value, merge_value};

@@ -1,12 +1,12 @@
 //! Merging and joining documents as `serde_json`'s values: what a patch sets is moved and not copied, and no tree is made that
 //! was not read. Each function means by its values what its sibling means by its documents.
-ghost use Rattle.std.specs.Prelude.{◌≡◌, ◌≤◌, ◌∷◌, [], length, map, max, Some, IfOk, OnOk, MatchBool, MatchOption, option_map, string_bytes};
+ghost use Rattle.std.specs.Prelude.{◌≡◌, ◌≤◌, ◌∷◌, [], length, max, Some, IfOk, OnOk, MatchBool, option_map, string_bytes};
 ghost use Rattle.mp_tree.specs.Document.{object, find, depth};
 ghost use Rattle.mp_tree.specs.Private.Entries.{value_members};
 ghost use Rattle.mp_tree.specs.Values.{value_document};
 ghost use Rattle.mp_merge.specs.Application.{set_or_remove, depth_of, merge_patch, merge_patch_members, target_members};
 ghost use Rattle.mp_merge.specs.Clash.{Compatible};
-ghost use Rattle.mp_merge.specs.Join.{HasJoin, IsJoin};
+ghost use Rattle.mp_merge.specs.Join.{IsJoin};
 ghost use Rattle.mp_merge.specs.Private.Unions.{UnitesAt, UnitesTo};
 
 use mp_tree::{same_value, value_members_mut};
@@ -133,33 +133,6 @@ pub fn join_value(alloc: Global, joined: &mut Value, patch: Value) -> Result<boo
         MatchBool united (IsJoin (j ∷ p ∷ []) (value_document joined.new)) (¬ Compatible j p)) }
 {
     unite(patch, joined, alloc)
-}
-
-/// The join of a list of patches, each of which is moved into it. None exactly if there is none: the list is empty, or two
-/// patches of it conflict. Then the patches are gone: who has to report the conflict reads them again, for `join_all`.
-/// `AllocError` if memory ran out.
-///
-/// ```text
-/// join_values(alloc, patches)  // Some of {"a":1,"b":2} for {"a":1}, {"b":2} and {"a":1}
-/// ```
-pub fn join_values(alloc: Global, patches: Vec<Value>) -> Result<Option<Value>, AllocError>
-    ensures { IfOk result (λ found. let ps = map value_document patches.items in
-        MatchOption found (¬ HasJoin ps) (λ j. IsJoin ps (value_document j))) }
-{
-    let mut joined = None;
-    for patch in patches {
-        match joined {
-            None => joined = Some(patch),
-            Some(before) => {
-                let mut both = before;
-                if !join_value(alloc, &mut both, patch)? {
-                    return Ok(None);
-                }
-                joined = Some(both);
-            }
-        }
-    }
-    Ok(joined)
 }
 
 // The patch comes first: the recursion goes down it.

@@ -1,13 +1,8 @@
 -- Texts that are read one by one, up to the first that is not a document.
-use Rattle.std.proofs.Common.{◌≡◌, ◌<◌, ◌≤◌, ◌+◌, ℕ, zero, suc, List, [], ◌∷◌, ◌++◌, Bor, length, map, take, get_or, slice_get, slice_index_or, Some, Result, Ok, Err, IsErrAnd, MatchResult, refl, sym, ap, ◌∙◌, subst, arith}
+use Rattle.std.proofs.Common.{◌≡◌, ◌<◌, ◌+◌, ℕ, zero, suc, List, [], ◌∷◌, ◌++◌, Bor, length, map, take, get_or, slice_get, slice_index_or, Some, Result, Ok, Err, IsErrAnd, MatchResult, refl, sym, ap, ◌∙◌, subst, arith}
 use Rattle.std.proofs.lemmas.List.{length-map, map-append, take_more}
-use Rattle.std.proofs.lemmas.List.Elements.{All-append, All-cons, All-nil}
-use Rattle.std.specs.List.{All}
-use Rattle.mp_tree.specs.Document.{Document, depth, depth_limit}
+use Rattle.mp_tree.specs.Document.{Document}
 use Rattle.mp_tree.specs.Text.{document_in}
-use Rattle.mp_tree.specs.View.{document}
-use Rattle.mp_tree.specs.declared.doc.Doc.{Doc}
-use Rattle.mp_merge.specs.Lists.{AreWithin}
 use Rattle.mp_texts.specs.Private.Unread.{IsPatchFault, IsPatchesFault}
 use Rattle.mp_texts.specs.Texts.{AreRead, given}
 use Rattle.mp_texts.specs.declared.fault.TextsFault.{TextsFault}
@@ -37,22 +32,21 @@ next_reading ps k p below ds d read here =
     take_more (given ps) k p.now (omega (arith, below, length-map ps (λ (t : Bor (List ℕ)). t.now))) ∙ ap (λ (t : List ℕ). take k (given ps) ++ t ∷ []) (element_at ps k p below) in
     subst (λ (ts : List (List ℕ)). AreRead ts (ds ++ d ∷ [])) (sym grown) (AreRead-append (take k (given ps)) (text ∷ []) ds (d ∷ []) read one)
 
-pub next_read : (ps : List (Bor (List ℕ))) (k : ℕ) (d : Bor (List ℕ)) → k < length ps → (docs new : List Doc) (x : Doc) → AreRead (take k (given ps)) (map document docs)
-    → new ≡ docs ++ x ∷ [] → document_in (slice_index_or ps k d).now ≡ Ok (document x) → AreRead (take (k + 1) (given ps)) (map document new)
-next_read ps k d below docs new x read pushed here =
-    let moved : map document new ≡ map document docs ++ document x ∷ [] = ap (map document) pushed ∙ map-append document docs (x ∷ []) in
-    subst (λ (ds : List Document). AreRead (take (k + 1) (given ps)) ds) (sym moved) (next_reading ps k d below (map document docs) (document x) read here)
+pub next_read : {V : Type 0} (f : V → Document) (ps : List (Bor (List ℕ))) (k : ℕ) (d : Bor (List ℕ)) → k < length ps → (vs new : List V) (x : V) → AreRead (take k (given ps)) (map f vs)
+    → new ≡ vs ++ x ∷ [] → document_in (slice_index_or ps k d).now ≡ Ok (f x) → AreRead (take (k + 1) (given ps)) (map f new)
+next_read f ps k d below vs new x read pushed here =
+    let moved : map f new ≡ map f vs ++ f x ∷ [] = ap (map f) pushed ∙ map-append f vs (x ∷ []) in
+    subst (λ (ds : List Document). AreRead (take (k + 1) (given ps)) ds) (sym moved) (next_reading ps k d below (map f vs) (f x) read here)
+
+-- no text
+pub none_given : (ps : List (Bor (List ℕ))) → length ps ≡ 0 → AreRead (given ps) []
+none_given [] none = refl
+none_given (p ∷ ps) none = absurd (omega arith)
 
 -- the first text
 pub first_given : (ps : List (Bor (List ℕ))) (p : Bor (List ℕ)) → slice_get ps 0 ≡ Some p → take 1 (given ps) ≡ p.now ∷ []
 first_given [] p is = absurd (cc)
 first_given (q ∷ ps) p is = let same : q ≡ p = cc in ap (λ (x : Bor (List ℕ)). x.now ∷ []) same
-
-pub next_within : (docs new : List Doc) (x : Doc) → AreWithin depth_limit (map document docs) → new ≡ docs ++ x ∷ [] → depth (document x) ≤ depth_limit → AreWithin depth_limit (map document new)
-next_within docs new x within pushed here =
-    let P = λ (p : Document). depth p ≤ depth_limit in
-    subst (λ (ds : List Document). All P ds) (sym (ap (map document) pushed ∙ map-append document docs (x ∷ [])))
-    (All-append P (map document docs) (document x ∷ []) within (All-cons P (document x) [] here (All-nil P)))
 
 -- ---- the first that is not one
 
@@ -71,6 +65,13 @@ unread_at ts k ds read t at (Form fault) is = absurd is
 unread_at ts k ds read t at (Refused fault) is = absurd is
 unread_at ts k ds read t at (Pointer fault) is = absurd is
 unread_at ts k ds read t at Missing is = absurd is
+
+-- the first of all
+pub first_unread : (ps : List (Bor (List ℕ))) (p : Bor (List ℕ)) → slice_get ps 0 ≡ Some p → (fault : TextsFault) → IsPatchFault fault p.now 0 → IsPatchesFault fault (given ps)
+first_unread [] p is fault unread = absurd (cc)
+first_unread (q ∷ ps) p is fault unread =
+    let same : q ≡ p = cc in
+    unread_at (given (q ∷ ps)) 0 [] refl q.now refl fault (subst (λ (x : Bor (List ℕ)). IsPatchFault fault x.now 0) (sym same) unread)
 
 -- what a `?` hands on
 pub handed_on : {A : Type 0} {reported : TextsFault} (P : A → Type 0) (Q : TextsFault → Type 0) (r : Result A TextsFault) → IsErrAnd r (λ fault. fault ≡ reported) → Q reported → MatchResult r P Q

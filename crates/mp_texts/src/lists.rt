@@ -9,10 +9,10 @@ ghost use Rattle.mp_texts.specs.Texts.{AreRead, given};
 ghost use Rattle.mp_texts.specs.Private.Unread.{IsPatchesFault};
 
 use crate::fault::TextsFault;
-use crate::reading::{read_document, read_document_value, read_patch_value, read_patches};
+use crate::reading::{read_document_value, read_patch_value};
 use crate::valued::joined_value;
-use mp_merge::{join_all, laws as merging, merge_value, replay_owned};
-use mp_tree::{laws as reading, write_doc, write_value};
+use mp_merge::{laws as merging, merge_value};
+use mp_tree::{laws as reading, write_value};
 use serde_json::Value;
 use std::alloc::Global;
 
@@ -34,20 +34,8 @@ pub fn join_texts(alloc: Global, patches: &[&[u8]]) -> Result<String, TextsFault
 {
     reading::readings_are_documents();
     merging::join_is_readable();
-    match joined_value(alloc, patches)? {
-        Some(joined) => Ok(write_value(alloc, &joined)?),
-        None => join_docs(alloc, patches),
-    }
-}
-
-// The same by documents, which are there if an error has to be reported.
-fn join_docs(alloc: Global, patches: &[&[u8]]) -> Result<String, TextsFault>
-    ensures { MatchResult result (λ text. IsJoinText (given patches.now) (string_bytes text))
-        (λ fault. IsJoinTextFault fault (given patches.now)) }
-{
-    let patches = read_patches(alloc, patches)?;
-    let joined = join_all(alloc, patches.as_slice())?;
-    Ok(write_doc(alloc, &joined)?)
+    let joined = joined_value(alloc, patches)?;
+    Ok(write_value(alloc, &joined)?)
 }
 
 /// The text of the document that merge patches, no two of which conflict, make of the start's, in whatever order and with
@@ -68,32 +56,13 @@ pub fn replay_texts(alloc: Global, start: &[u8], patches: &[&[u8]]) -> Result<St
     merging::join_is_readable();
     merging::join_gives_outcome();
     merging::merged_is_readable();
-    if patches.is_empty() {
-        return replay_docs(alloc, start, patches);
-    }
     let from = read_document_value(alloc, start)?;
-    match joined_value(alloc, patches)? {
-        Some(joined) => {
-            let outcome = merge_value(alloc, Some(from), joined)?;
-            Ok(write_value(alloc, &outcome)?)
-        }
-        None => {
-            drop(from);
-            replay_docs(alloc, start, patches)
-        }
+    if patches.is_empty() {
+        return Ok(write_value(alloc, &from)?);
     }
-}
-
-// The same by documents, which are there if an error has to be reported.
-fn replay_docs(alloc: Global, start: &[u8], patches: &[&[u8]]) -> Result<String, TextsFault>
-    ensures { MatchResult result
-        (λ text. IsReplayText start.now (given patches.now) (string_bytes text))
-        (λ fault. IsReplayTextFault fault start.now (given patches.now)) }
-{
-    let start = read_document(alloc, start)?;
-    let patches = read_patches(alloc, patches)?;
-    let outcome = replay_owned(alloc, start, patches.as_slice())?;
-    Ok(write_doc(alloc, &outcome)?)
+    let joined = joined_value(alloc, patches)?;
+    let outcome = merge_value(alloc, Some(from), joined)?;
+    Ok(write_value(alloc, &outcome)?)
 }
 
 /// The text of the document after the merge patches (RFC 7396 section 2), each applied to what those before it left. That

@@ -1,12 +1,10 @@
 // Texts read, each as a document.
-ghost use Rattle.std.specs.Prelude.{◌≡◌, ◌≤◌, map, Ok, IfOk, MatchResult};
+ghost use Rattle.std.specs.Prelude.{◌≡◌, ◌≤◌, Ok, IfOk, MatchResult};
 ghost use Rattle.mp_tree.specs.Document.{depth, depth_limit};
 ghost use Rattle.mp_tree.specs.Text.{document_in};
 ghost use Rattle.mp_tree.specs.Values.{value_document};
 ghost use Rattle.mp_tree.specs.View.{document};
-ghost use Rattle.mp_merge.specs.Lists.{AreWithin};
-ghost use Rattle.mp_texts.specs.Texts.{AreRead, given};
-ghost use Rattle.mp_texts.specs.Private.Unread.{IsDocumentFault, IsPatchFault, IsPatchesFault};
+ghost use Rattle.mp_texts.specs.Private.Unread.{IsDocumentFault, IsPatchFault};
 
 use crate::fault::TextsFault;
 use mp_tree::{Doc, ReadFault, read_doc, read_value};
@@ -65,18 +63,4 @@ pub(crate) fn read_patch_value(
         Err(ReadFault::OutOfMemory) => Err(TextsFault::OutOfMemory),
         Err(fault) => Err(TextsFault::Patch { number, fault }),
     }
-}
-
-// All are read before any work is done: a text that is not a document is reported first.
-pub(crate) fn read_patches(alloc: Global, patches: &[&[u8]]) -> Result<Vec<Doc>, TextsFault>
-    ensures read { MatchResult result
-        (λ docs. AreRead (given patches.now) (map document docs.items))
-        (λ fault. IsPatchesFault fault (given patches.now)) }
-    ensures depth { IfOk result (λ docs. AreWithin depth_limit (map document docs.items)) }
-{
-    let mut docs = Vec::with_capacity(alloc, patches.len())?;
-    for (number, text) in patches.iter().enumerate() {
-        docs.push(read_patch(alloc, text, number)?)?;
-    }
-    Ok(docs)
 }

@@ -1,33 +1,45 @@
-// The join of texts by the values that are read: each patch is moved into what was joined before it, as soon as it is read. No
-// patch is there then if two conflict or if a text is no document: whoever has to report that reads all of them again.
-ghost use Rattle.std.specs.Prelude.{◌≡◌, List, Ok, IfOk, IfSome};
+// The join of texts by the values that are read: each patch is moved into what was joined before it, as soon as it is read. If
+// two conflict, no patch is there any more: all are read again, so that the conflict can be reported.
+ghost use Rattle.std.specs.Prelude.{List, map, MatchResult, IfSome};
 ghost use Rattle.mp_tree.specs.Document.{Document};
-ghost use Rattle.mp_tree.specs.Text.{document_in};
 ghost use Rattle.mp_tree.specs.Values.{value_document};
 ghost use Rattle.mp_merge.specs.Join.{IsJoin};
+ghost use Rattle.mp_texts.specs.Faults.{IsJoinTextFault};
 ghost use Rattle.mp_texts.specs.Texts.{AreRead, given};
+ghost use Rattle.mp_texts.specs.Private.Unread.{IsPatchesFault};
 
-use mp_merge::{join_value, laws};
-use mp_tree::{ReadFault, read_value};
+use crate::fault::TextsFault;
+use crate::reading::read_patch_value;
+use mp_merge::{join_all_values, join_value, laws};
 use serde_json::Value;
-use std::alloc::{AllocError, Global};
+use std::alloc::Global;
 
-// The join of the patches. None says nothing of them.
-pub(crate) fn joined_value(alloc: Global, patches: &[&[u8]]) -> Result<Option<Value>, AllocError>
-    ensures { IfOk result (λ found. IfSome found (λ j. (ds : List Document)
-        × AreRead (given patches.now) ds × IsJoin ds (value_document j))) }
+// The join of the patches.
+pub(crate) fn joined_value(alloc: Global, patches: &[&[u8]]) -> Result<Value, TextsFault>
+    ensures { MatchResult result
+        (λ j. (ds : List Document) × AreRead (given patches.now) ds × IsJoin ds (value_document j))
+        (λ fault. IsJoinTextFault fault (given patches.now)) }
+{
+    match joined_in_turn(alloc, patches)? {
+        Some(joined) => Ok(joined),
+        None => joined_of_all(alloc, patches),
+    }
+}
+
+// None says nothing of the patches.
+fn joined_in_turn(alloc: Global, patches: &[&[u8]]) -> Result<Option<Value>, TextsFault>
+    ensures { MatchResult result
+        (λ found. IfSome found (λ j. (ds : List Document)
+        × AreRead (given patches.now) ds × IsJoin ds (value_document j)))
+        (λ fault. IsPatchesFault fault (given patches.now)) }
 {
     laws::join_grows();
     let Some(first) = patches.first() else {
         return Ok(None);
     };
-    let Some(mut joined) = value_of(alloc, first)? else {
-        return Ok(None);
-    };
+    let mut joined = read_patch_value(alloc, first, 0)?;
     for number in 1..patches.len() {
-        let Some(patch) = value_of(alloc, patches[number])? else {
-            return Ok(None);
-        };
+        let patch = read_patch_value(alloc, patches[number], number)?;
         if !join_value(alloc, &mut joined, patch)? {
             return Ok(None);
         }
@@ -35,13 +47,24 @@ pub(crate) fn joined_value(alloc: Global, patches: &[&[u8]]) -> Result<Option<Va
     Ok(Some(joined))
 }
 
-// The value that is read. None says nothing of the text.
-fn value_of(alloc: Global, text: &[u8]) -> Result<Option<Value>, AllocError>
-    ensures { IfOk result (λ found. IfSome found (λ v. document_in text.now ≡ Ok (value_document v))) }
+fn joined_of_all(alloc: Global, patches: &[&[u8]]) -> Result<Value, TextsFault>
+    ensures { MatchResult result
+        (λ j. (ds : List Document) × AreRead (given patches.now) ds × IsJoin ds (value_document j))
+        (λ fault. IsJoinTextFault fault (given patches.now)) }
 {
-    match read_value(alloc, text) {
-        Ok(value) => Ok(Some(value)),
-        Err(ReadFault::OutOfMemory) => Err(AllocError),
-        Err(_) => Ok(None),
+    let patches = read_patches(alloc, patches)?;
+    Ok(join_all_values(alloc, patches.as_slice())?)
+}
+
+// All are read before they are joined: a text that is not a document is reported first.
+fn read_patches(alloc: Global, patches: &[&[u8]]) -> Result<Vec<Value>, TextsFault>
+    ensures { MatchResult result
+        (λ values. AreRead (given patches.now) (map value_document values.items))
+        (λ fault. IsPatchesFault fault (given patches.now)) }
+{
+    let mut values = Vec::with_capacity(alloc, patches.len())?;
+    for (number, text) in patches.iter().enumerate() {
+        values.push(read_patch_value(alloc, text, number)?)?;
     }
+    Ok(values)
 }

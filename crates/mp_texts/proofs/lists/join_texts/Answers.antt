@@ -2,17 +2,17 @@ use Rattle.std.proofs.Common.{string_bytes}
 use Rattle.mp_tree.specs.Values.{value_document}
 use Rattle.mp_tree.proofs.Facts.{IsDocument-value}
 use Rattle.mp_texts.specs.Texts.{given}
-use Rattle.mp_texts.proofs.Readings.{all_readable, of_some, text_written}
+use Rattle.mp_texts.proofs.Readings.{all_readable, text_written}
 use Rattle.mp_texts.proofs.lists.join_texts.Goals as goal
 
 -- what is read can be read again, and so can the join
-pub returns-in_ok-write_value-in-Some : goal.returns-in_ok-write_value-in-Some
-returns-in_ok-write_value-in-Some c =
+pub returns : goal.returns
+returns c =
     let texts = given c.args.patches.now in
-    let v = c.in-Some.joined in
+    let v = c.in_ok-joined.joined in
     let j = value_document v in
-    let (ds, read, is) = of_some _ c.in-Some.is c.in_ok-joined.ensures in
-    let written = c.in_ok-write_value-in-Some in
+    let (ds, read, is) = c.in_ok-joined.ensures in
+    let written = c.in_ok-write_value in
     let readable = c.join_is_readable.ensures ds j (IsDocument-value v) (all_readable c.readings_are_documents.ensures.document texts ds read) is in
     record {
       documents = ds;
