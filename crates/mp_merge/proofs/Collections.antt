@@ -1,5 +1,4 @@
 -- Loops over collections: what they have passed and what is left, and what a value is not.
 pub mod Growth
-pub mod Meant
 pub mod Members
 pub mod Values

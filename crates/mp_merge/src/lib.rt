@@ -12,6 +12,7 @@ mod lists;
 mod merging;
 mod rewriting;
 mod value_comparing;
+mod value_copying;
 mod value_lists;
 mod valued;
 mod values;

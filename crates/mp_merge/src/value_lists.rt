@@ -1,24 +1,30 @@
-//! Lists of merge patches that are values: their join, and the document that they make of a start.
+//! Lists of merge patches that are `serde_json`'s values: their join, and the document that they make of a start, as `lists` has
+//! them for patches that are documents.
 ghost use Rattle.std.specs.Prelude.{◌≡◌, ◌<◌, ◌≤◌, ◌+◌, ℕ, List, [], length, map, take, slice_get, Some, IfOk, MatchOption, MatchResult};
-ghost use Rattle.mp_tree.specs.Document.{depth};
+ghost use Rattle.mp_tree.specs.Document.{depth, object};
+ghost use Rattle.mp_tree.specs.Private.Entries.{value_members};
 ghost use Rattle.mp_tree.specs.Values.{value_document};
 ghost use Rattle.mp_merge.specs.Join.{IsJoin};
 ghost use Rattle.mp_merge.specs.Lists.{AreWithin, IsJoinAllFault, IsReplayFault, IsClashBelow};
-ghost use Rattle.mp_tree.specs.Document.{object};
-ghost use Rattle.mp_tree.specs.Private.Entries.{value_members};
 ghost use Rattle.mp_merge.specs.Private.Clashes.{IsFreeBelow};
 ghost use Rattle.mp_merge.specs.Private.Unions.{UnitesAt, UnitesTo};
 ghost use Rattle.mp_merge.specs.Outcome.{IsOutcome};
 
 use crate::fault::ListFault;
 use crate::value_comparing::{compatible, conflict};
+use crate::value_copying::copy_of;
 use crate::valued::merge_value;
 use mp_pointer::Pointer;
 use mp_tree::{same_value, value_members_mut};
 use serde_json::{Map, Value};
 use std::alloc::{AllocError, Global};
 
-/// As `join_all`, of patches that are values.
+/// As `join_all`, of patches that are values: what is read needs no tree of its own. `NoPatches`, `ConflictOf` and `OutOfMemory`
+/// come when `join_all` answers them.
+///
+/// ```text
+/// join_all_values(alloc, &patches)  // {"a":1,"b":2} for {"a":1}, {"b":2} and {"a":1}
+/// ```
 pub fn join_all_values(alloc: Global, patches: &[Value]) -> Result<Value, ListFault>
     ensures joined { MatchResult result (λ j. IsJoin (map value_document patches.now) (value_document j))
         (λ fault. IsJoinAllFault fault (map value_document patches.now)) }
@@ -28,7 +34,7 @@ pub fn join_all_values(alloc: Global, patches: &[Value]) -> Result<Value, ListFa
     let Some(first) = patches.first() else {
         return Err(ListFault::NoPatches);
     };
-    let mut joined = copy_of(first)?;
+    let mut joined = copy_of(first, alloc)?;
     for second in 1..patches.len() {
         joined = join_next(alloc, patches, second, joined)?;
     }
@@ -83,7 +89,12 @@ fn clash_before(
     Ok(None)
 }
 
-/// As `replay_owned`, of a start and patches that are values.
+/// As `replay_owned`, of a start and patches that are values. `ConflictOf` and `OutOfMemory` come when `replay_owned` answers
+/// them.
+///
+/// ```text
+/// replay_values(alloc, start, &patches)  // {"a":1} for {"k":0} and {"a":1}, {"k":null}
+/// ```
 pub fn replay_values(alloc: Global, start: Value, patches: &[Value]) -> Result<Value, ListFault>
     ensures outcome { MatchResult result
         (λ e. IsOutcome (value_document start) (map value_document patches.now) (value_document e))
@@ -147,15 +158,9 @@ fn unite_entry(
     match entries.get_mut(name) {
         Some(before) => unite(change, before, alloc),
         None => {
-            let value = copy_of(change)?;
+            let value = copy_of(change, alloc)?;
             drop(entries.insert(String::from_str(alloc, name)?, value)?);
             Ok(true)
         }
     }
-}
-
-fn copy_of(value: &Value) -> Result<Value, AllocError>
-    ensures { IfOk result (λ v. value_document v ≡ value_document value.now) }
-{
-    value.clone()
 }

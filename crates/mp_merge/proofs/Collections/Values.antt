@@ -1,9 +1,12 @@
--- What a value is not: null, or an object.
-use Rattle.std.proofs.Common.{◌≡◌, List, [], ◌∷◌, length, String, BTreeMap, Global, refl, sym, ap, ◌∙◌, subst, rules, arith}
+-- What a value is and is not: a document, null, an object.
+use Rattle.std.proofs.Common.{◌≡◌, List, [], ◌∷◌, length, map, String, BTreeMap, Global, refl, sym, ap, ◌∙◌, subst, rules, arith}
+use Rattle.std.proofs.lemmas.List.Elements.{All-contains_itself, All-map, All-weaker}
+use Rattle.std.specs.List.{All, Contains}
 use Rattle.serde_json.specs.declared.value.Value.{Value, Null, Object, fold-roll-Value, ind-Value, roll-Value, the_lemmas}
 use Rattle.serde_json.specs.declared.value.Value.TheOpen.{Value-F}
-use Rattle.mp_tree.specs.Document.{Document, null}
+use Rattle.mp_tree.specs.Document.{Document, IsDocument, null}
 use Rattle.mp_tree.specs.Values.{value_document, value_step}
+use Rattle.mp_tree.proofs.Facts.{IsDocument-value}
 use Rattle.mp_merge.proofs.Clashes.ByName.{IsNoMap}
 
 abbrev NoNullUnless : Value → Type 0
@@ -33,6 +36,11 @@ no_map_value = ind-Value NoMapUnless (λ x y is. opened x)
     opened (Value-F.String s) never = subst IsNoMap (sym (fold-roll-Value Document value_step (Value-F.String s))) refl
     opened (Value-F.Array v) never = subst IsNoMap (sym (fold-roll-Value Document value_step (Value-F.Array v))) refl
     opened (Value-F.Object m) never = absurd (never m (search (rules, the_lemmas)))
+
+-- ---- each value is a document
+
+pub documents_of_values : (vs : List Value) → All IsDocument (map value_document vs)
+documents_of_values vs = All-map IsDocument value_document vs (All-weaker (Contains vs) (λ v. IsDocument (value_document v)) (λ v at. IsDocument-value v) vs (All-contains_itself vs))
 
 -- ---- a patch of one name
 

@@ -2,7 +2,7 @@ use Rattle.std.proofs.Common.{map, subst, arith}
 use Rattle.std.proofs.lemmas.List.{length-map, take_all}
 use Rattle.mp_tree.specs.Values.{value_document}
 use Rattle.mp_tree.proofs.Facts.{IsDocument-value}
-use Rattle.mp_merge.proofs.Collections.Meant.{documents_of_values}
+use Rattle.mp_merge.proofs.Collections.Values.{documents_of_values}
 use Rattle.mp_merge.specs.Join.{IsJoin}
 use Rattle.mp_merge.proofs.Joins.Laws.{join_is_no_deeper}
 use Rattle.mp_merge.proofs.value_lists.join_all_values.Goals as goal
