@@ -12,6 +12,7 @@ mod program;
 mod seeded;
 mod seen;
 mod texts;
+mod values;
 mod without_memory;
 
 use seen::{Seen, line_of};
@@ -61,6 +62,7 @@ fn watch(alloc: Global, name: &str) -> Option<Option<Seen>> {
         "pointers" => pointers::watch(alloc, call),
         "program" => program::watch(alloc, call),
         "texts" => texts::watch(alloc, call),
+        "values" => values::watch(alloc, call),
         "without_memory" => without_memory::watch(alloc, call),
         _ => None,
     }
@@ -76,6 +78,7 @@ fn list(rt: &impl Print) -> u8 {
         ("pointers", pointers::CALLS),
         ("program", program::CALLS),
         ("texts", texts::CALLS),
+        ("values", values::CALLS),
         ("without_memory", without_memory::CALLS),
     ] {
         if list_module(rt, module, calls).is_err() {

@@ -7,26 +7,26 @@ use mp_tree::Doc;
 use std::alloc::{AllocError, Global};
 
 /// A text is made an object, an object a text, and a text goes away.
-const TARGET: &str = r#"{"a":"text","k":0,"t":{"d":"text"},"u":"text"}"#;
+pub const TARGET: &str = r#"{"a":"text","k":0,"t":{"d":"text"},"u":"text"}"#;
 
-const CHANGE: &str = r#"{"a":{"b":1,"c":null},"t":"new","u":null,"z":{"y":2}}"#;
+pub const CHANGE: &str = r#"{"a":{"b":1,"c":null},"t":"new","u":null,"z":{"y":2}}"#;
 
-const MERGED: &str = r#"{"a":{"b":1},"k":0,"t":"new","z":{"y":2}}"#;
+pub const MERGED: &str = r#"{"a":{"b":1},"k":0,"t":"new","z":{"y":2}}"#;
 
 /// Two patches with three conflicts, and where they conflict.
-const CLASHING: &str =
+pub const CLASHING: &str =
     r#"[{"a":{"x":1,"y":[1]},"b":{},"c":0},{"a":{"x":2,"y":[1]},"b":null,"c":{"d":1}}]"#;
 
-const PLACES: &[&[&str]] = &[&["a", "x"], &["b"], &["c"]];
+pub const PLACES: &[&[&str]] = &[&["a", "x"], &["b"], &["c"]];
 
-const START: &str = r#"{"k":0}"#;
+pub const START: &str = r#"{"k":0}"#;
 
 /// Three patches, their join, and what they make of the start.
-const PATCHES: &str = r#"[{"a":{"x":1}},{"a":{"y":null}},{"k":null}]"#;
+pub const PATCHES: &str = r#"[{"a":{"x":1}},{"a":{"y":null}},{"k":null}]"#;
 
-const JOIN: &str = r#"{"a":{"x":1,"y":null},"k":null}"#;
+pub const JOIN: &str = r#"{"a":{"x":1,"y":null},"k":null}"#;
 
-const OUTCOME: &str = r#"{"a":{"x":1}}"#;
+pub const OUTCOME: &str = r#"{"a":{"x":1}}"#;
 
 /// The names that `watch` takes.
 pub const CALLS: &[&str] = &[
@@ -185,7 +185,11 @@ fn of_list(given: Result<Doc, ListFault>, wanted: &Doc) -> Seen {
 }
 
 /// Of a list in which these two patches conflict, at these places.
-fn of_clash(given: Result<Doc, ListFault>, pair: (usize, usize), wanted: &[&[&str]]) -> Seen {
+pub fn of_clash<T: Drop>(
+    given: Result<T, ListFault>,
+    pair: (usize, usize),
+    wanted: &[&[&str]],
+) -> Seen {
     match given {
         Err(
             ListFault::ConflictOf {

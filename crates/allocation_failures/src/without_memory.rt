@@ -7,7 +7,8 @@ use crate::seen::{Seen, has_tokens};
 use mp_cli::{Counted, RunFault};
 use mp_patch::JsonPatch;
 use mp_pointer::Pointer;
-use mp_tree::{Doc, Whole};
+use mp_tree::{Doc, Whole, read_value, same_value};
+use serde_json::Value;
 use std::alloc::Global;
 use std::mem;
 
@@ -44,7 +45,9 @@ pub const CALLS: &[&str] = &[
     "same",
     "same_op",
     "same_patch",
+    "same_value",
     "tokens",
+    "value_members_mut",
     "whole",
 ];
 
@@ -69,7 +72,9 @@ pub fn watch(alloc: Global, name: &str) -> Option<Option<Seen>> {
         "same" => watch_same(alloc),
         "same_op" => watch_same_op(alloc),
         "same_patch" => watch_same_patch(alloc),
+        "same_value" => watch_same_value(alloc),
         "tokens" => watch_tokens(alloc),
+        "value_members_mut" => watch_value_members_mut(alloc),
         "whole" => Some(watch_whole()),
         _ => return None,
     })
@@ -128,6 +133,27 @@ fn watch_members_mut(alloc: Global) -> Option<Seen> {
     let mut doc = doc_of(alloc, r#"{"a":1,"b":2}"#)?;
     let wanted = doc_of(alloc, r#"{"b":2}"#)?;
     Some(Seen::answer_if(remove(&mut doc, "a") && doc.same(&wanted)))
+}
+
+fn watch_same_value(alloc: Global) -> Option<Seen> {
+    let value = read_value(alloc, br#"{"b":[1,"t"],"a":null}"#).ok()?;
+    let equal = read_value(alloc, br#"{"a":null,"b":[1,"t"]}"#).ok()?;
+    let other = read_value(alloc, br#"{"a":null,"b":[1,"u"]}"#).ok()?;
+    Some(Seen::answer_if(same_value(&value, &equal) && !same_value(&value, &other)))
+}
+
+/// Takes a member away, and returns whether it was there.
+fn remove_value(value: &mut Value, name: &str) -> bool {
+    match mp_tree::value_members_mut(value) {
+        Some(members) => members.remove(name).is_some(),
+        None => false,
+    }
+}
+
+fn watch_value_members_mut(alloc: Global) -> Option<Seen> {
+    let mut value = read_value(alloc, br#"{"a":1,"b":2}"#).ok()?;
+    let wanted = read_value(alloc, br#"{"b":2}"#).ok()?;
+    Some(Seen::answer_if(remove_value(&mut value, "a") && same_value(&value, &wanted)))
 }
 
 fn watch_empty(alloc: Global) -> Seen {
