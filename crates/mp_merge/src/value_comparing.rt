@@ -80,7 +80,8 @@ fn push_member_clashes(
 ) -> Result<(), AllocError>
     ensures path { OnOk result (path.new ≡ path.old) }
     ensures places { OnOk result (Grew places.old.items places.new.items
-        (WalksMembers path.old (value_members changes.now.entries) (value_members others.now.entries))) }
+        (WalksMembers path.old
+        (value_members changes.now.entries) (value_members others.now.entries))) }
 {
     for (name, change) in changes.iter() {
         if let Some(other) = others.get(name.as_str()) {

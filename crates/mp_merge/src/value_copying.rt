@@ -40,7 +40,8 @@ fn copy_members(
     entries: &Map<String, Value>,
     alloc: Global,
 ) -> Result<Map<String, Value>, AllocError>
-    ensures { IfOk result (λ copies. value_members copies.entries ≡ value_members entries.now.entries) }
+    ensures { IfOk result (λ copies.
+        value_members copies.entries ≡ value_members entries.now.entries) }
 {
     if entries.len() <= FEW {
         return copy_few(entries, alloc);
@@ -56,7 +57,8 @@ fn copy_members(
 
 #[cycle(copy_value)]
 fn copy_few(entries: &Map<String, Value>, alloc: Global) -> Result<Map<String, Value>, AllocError>
-    ensures { IfOk result (λ copies. value_members copies.entries ≡ value_members entries.now.entries) }
+    ensures { IfOk result (λ copies.
+        value_members copies.entries ≡ value_members entries.now.entries) }
 {
     let mut copies = Map::new(alloc);
     for (name, value) in entries.iter() {

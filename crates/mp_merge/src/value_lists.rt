@@ -26,7 +26,8 @@ use std::alloc::{AllocError, Global};
 /// join_all_values(alloc, &patches)  // {"a":1,"b":2} for {"a":1}, {"b":2} and {"a":1}
 /// ```
 pub fn join_all_values(alloc: Global, patches: &[Value]) -> Result<Value, ListFault>
-    ensures joined { MatchResult result (λ j. IsJoin (map value_document patches.now) (value_document j))
+    ensures joined { MatchResult result
+        (λ j. IsJoin (map value_document patches.now) (value_document j))
         (λ fault. IsJoinAllFault fault (map value_document patches.now)) }
     ensures depth { IfOk result (λ j. (n : ℕ)
         → AreWithin n (map value_document patches.now) → depth (value_document j) ≤ n) }
@@ -49,7 +50,8 @@ fn join_next(
     mut joined: Value,
 ) -> Result<Value, ListFault>
     requires within { second < length patches.now }
-    requires joined { IsJoin (take second (map value_document patches.now)) (value_document joined) }
+    requires joined { IsJoin (take second (map value_document patches.now))
+        (value_document joined) }
     ensures { MatchResult result
         (λ j. IsJoin (take (second + 1) (map value_document patches.now)) (value_document j))
         (λ fault. IsReplayFault fault (map value_document patches.now)) }
