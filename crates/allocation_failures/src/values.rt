@@ -121,9 +121,10 @@ fn watch_merge_value_into_nothing(alloc: Global) -> Option<Seen> {
     Some(of_value(mp_merge::merge_value(alloc, None, patch), &wanted))
 }
 
+/// A name that is moved into an empty object takes memory.
 fn watch_join_value(alloc: Global) -> Option<Seen> {
-    let wanted = value_of(alloc, r#"{"a":{"x":1,"y":null},"k":[0]}"#)?;
-    let mut joined = value_of(alloc, r#"{"a":{"x":1}}"#)?;
+    let wanted = value_of(alloc, r#"{"a":{"y":null},"k":[0]}"#)?;
+    let mut joined = value_of(alloc, r#"{"a":{}}"#)?;
     let patch = value_of(alloc, r#"{"a":{"y":null},"k":[0]}"#)?;
     Some(match mp_merge::join_value(alloc, &mut joined, patch) {
         Ok(free) => Seen::answer_if(free && same_value(&joined, &wanted)),
