@@ -12,7 +12,6 @@ mod lists;
 mod merging;
 mod rewriting;
 mod value_comparing;
-mod value_copying;
 mod value_lists;
 mod valued;
 mod values;

@@ -12,10 +12,9 @@ ghost use Rattle.mp_merge.specs.Outcome.{IsOutcome};
 
 use crate::fault::ListFault;
 use crate::value_comparing::{compatible, conflict};
-use crate::value_copying::copy_of;
 use crate::valued::merge_value;
 use mp_pointer::Pointer;
-use mp_tree::{same_value, value_members_mut};
+use mp_tree::{copy_value, same_value, value_members_mut};
 use serde_json::{Map, Value};
 use std::alloc::{AllocError, Global};
 
@@ -35,7 +34,7 @@ pub fn join_all_values(alloc: Global, patches: &[Value]) -> Result<Value, ListFa
     let Some(first) = patches.first() else {
         return Err(ListFault::NoPatches);
     };
-    let mut joined = copy_of(first, alloc)?;
+    let mut joined = copy_value(alloc, first)?;
     for second in 1..patches.len() {
         joined = join_next(alloc, patches, second, joined)?;
     }
@@ -160,7 +159,7 @@ fn unite_entry(
     match entries.get_mut(name) {
         Some(before) => unite(change, before, alloc),
         None => {
-            let value = copy_of(change, alloc)?;
+            let value = copy_value(alloc, change)?;
             drop(entries.insert(String::from_str(alloc, name)?, value)?);
             Ok(true)
         }

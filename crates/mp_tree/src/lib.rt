@@ -12,6 +12,7 @@ pub mod borrowing;
 mod measuring;
 mod reading;
 mod serializing;
+mod value_copying;
 mod value_walks;
 mod value_writing;
 mod values;
@@ -22,6 +23,8 @@ pub use borrowing::{items_mut, members_mut};
 pub use doc::Doc;
 pub use fault::{DocsFault, ReadFault};
 pub use reading::{DEPTH_LIMIT, read_doc, read_docs};
-pub use values::{read_value, read_values, same_value, value_members_mut, write_value};
+pub use values::{
+    copy_value, doc_of_value, read_value, read_values, same_value, value_members_mut, write_value,
+};
 pub use whole::Whole;
 pub use writing::{write_doc, write_text};

@@ -1,15 +1,17 @@
 //! Documents from JSON texts.
-ghost use Rattle.std.specs.Prelude.{◌≡◌, ◌≢◌, ◌≤◌, All, None, Some, IsSome, Ok, Err, IfOk, IfErr};
+ghost use Rattle.std.specs.Prelude.{◌≡◌, ◌≢◌, ◌≤◌, ◌↔◌, All, None, Some, IsSome, IsTrue, Ok, Err, IfOk, IfErr};
+ghost use Rattle.serde_json.specs.Data.{depth as json_depth};
 ghost use Rattle.serde_json.specs.Read.{max_depth};
+ghost use Rattle.serde_json.specs.View.{view};
 ghost use Rattle.mp_tree.specs.Document.{depth, depth_limit};
 ghost use Rattle.mp_tree.specs.View.{document, items};
 ghost use Rattle.mp_tree.specs.Values.{value_document};
 ghost use Rattle.mp_tree.specs.Text.{data_in, document_in, documents_in, read};
 
-use crate::converting::{Unread, doc_of};
+use crate::converting::{Unread, doc_of, docs_of};
 use crate::doc::Doc;
 use crate::fault::{DocsFault, ReadFault};
-use crate::value_walks::is_whole;
+use crate::value_walks::{Reading, reading_of};
 use serde_json::Value;
 use std::alloc::Global;
 
@@ -33,11 +35,13 @@ pub fn read_doc(alloc: Global, bytes: &[u8]) -> Result<Doc, ReadFault>
         → document_in bytes.now ≡ Err fault) }
     ensures depth { IfOk result (λ d. depth (document d) ≤ depth_limit) }
 {
-    let doc = read_tree(alloc, bytes)?;
-    if doc.fits(DEPTH_LIMIT) {
-        Ok(doc)
-    } else {
-        Err(ReadFault::TooDeep)
+    let Tree { value, fits } = read_tree(alloc, bytes, DEPTH_LIMIT)?;
+    if !fits {
+        return Err(ReadFault::TooDeep);
+    }
+    match doc_of(value, alloc) {
+        Ok(doc) => Ok(doc),
+        Err(_) => Err(ReadFault::OutOfMemory),
     }
 }
 
@@ -57,43 +61,48 @@ pub fn read_docs(alloc: Global, bytes: &[u8]) -> Result<Vec<Doc>, DocsFault>
         → documents_in bytes.now ≡ Err fault) }
     ensures depth { IfOk result (λ docs. All (λ d. depth (document d) ≤ depth_limit) docs.items) }
 {
-    match read_tree(alloc, bytes)? {
-        Doc::Items(docs) => Ok(docs),
+    let Tree { value, fits: _ } = read_tree(alloc, bytes, DEPTH_LIMIT)?;
+    match value {
+        Value::Array(values) => match docs_of(values, alloc) {
+            Ok(docs) => Ok(docs),
+            Err(_) => Err(DocsFault::OutOfMemory),
+        },
         _ => Err(DocsFault::NotAnArray),
     }
 }
 
-fn read_tree(alloc: Global, bytes: &[u8]) -> Result<Doc, Unread>
-    ensures ok { IfOk result (λ d. read bytes.now ≡ Some (document d)) }
-    ensures nests { IfOk result (λ d. depth (document d) ≤ max_depth) }
+// What was read: a value whose numbers are whole, and whether it is as shallow as asked.
+#[derive(Drop)]
+pub(crate) struct Tree {
+    pub(crate) value: Value,
+    pub(crate) fits: bool,
+}
+
+pub(crate) fn read_tree(alloc: Global, bytes: &[u8], limit: u32) -> Result<Tree, Unread>
+    ensures ok { IfOk result (λ t. read bytes.now ≡ Some (value_document t.value)) }
+    ensures fits { IfOk result (λ t. IsTrue t.fits ↔ (depth (value_document t.value) ≤ limit)) }
+    ensures nests { IfOk result (λ t. depth (value_document t.value) ≤ max_depth) }
     ensures not_json { result ≡ Err Unread.NotJson → data_in bytes.now ≡ None }
     ensures not_whole { result ≡ Err Unread.NotWhole
         → (IsSome (data_in bytes.now) × (read bytes.now ≡ None)) }
 {
-    match Value::from_slice(alloc, bytes) {
-        Ok(value) => doc_of(value, alloc),
-        Err(fault) => if fault.is_memory() {
-            Err(Unread::OutOfMemory)
-        } else {
-            Err(Unread::NotJson)
-        },
+    let value = read_json(alloc, bytes)?;
+    match reading_of(&value, limit) {
+        Reading::Fits => Ok(Tree { value, fits: true }),
+        Reading::TooDeep => Ok(Tree { value, fits: false }),
+        Reading::NotWhole => Err(Unread::NotWhole),
     }
 }
 
-// The same, but for the tree.
-pub(crate) fn read_whole_value(alloc: Global, bytes: &[u8]) -> Result<Value, Unread>
-    ensures ok { IfOk result (λ v. read bytes.now ≡ Some (value_document v)) }
-    ensures nests { IfOk result (λ v. depth (value_document v) ≤ max_depth) }
+// Numbers may be of any kind.
+fn read_json(alloc: Global, bytes: &[u8]) -> Result<Value, Unread>
+    ensures ok { IfOk result (λ v. data_in bytes.now ≡ Some (view v)) }
+    ensures nests { IfOk result (λ v. json_depth (view v) ≤ max_depth) }
     ensures not_json { result ≡ Err Unread.NotJson → data_in bytes.now ≡ None }
-    ensures not_whole { result ≡ Err Unread.NotWhole
-        → (IsSome (data_in bytes.now) × (read bytes.now ≡ None)) }
+    ensures is_json { result ≢ Err Unread.NotWhole }
 {
     match Value::from_slice(alloc, bytes) {
-        Ok(value) => if is_whole(&value) {
-            Ok(value)
-        } else {
-            Err(Unread::NotWhole)
-        },
+        Ok(value) => Ok(value),
         Err(fault) => if fault.is_memory() {
             Err(Unread::OutOfMemory)
         } else {

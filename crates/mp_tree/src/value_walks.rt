@@ -1,26 +1,39 @@
-// Walks down a value that allocate nothing: whether its numbers are whole, whether it is as shallow as asked, and whether it means
-// the same as another. The first part that decides ends each.
-ghost use Rattle.std.specs.Prelude.{◌≡◌, ◌≤◌, ◌↔◌, None, Some, IsTrue, MatchBool};
+// Walks down a value that allocate nothing: whether its numbers are whole and it is as shallow as asked, and whether it means the
+// same as another. The first part that decides ends each.
+ghost use Rattle.std.specs.Prelude.{◌≡◌, ◌↔◌, None, Some, IsTrue, MatchBool};
 ghost use Rattle.serde_json.specs.View.{view, items_view, members_view, number_view};
 ghost use Rattle.mp_tree.specs.Document.{depth, items_depth, members_depth};
 ghost use Rattle.mp_tree.specs.Private.Entries.{value_members};
+ghost use Rattle.mp_tree.specs.Private.Readings.{IsReading, reading_around};
 ghost use Rattle.mp_tree.specs.Text.{from_data, items_from_data, members_from_data, whole_number};
 ghost use Rattle.mp_tree.specs.Values.{number_in, value_document, value_items};
 
 use crate::converting::{whole_of, whole_or_zero};
 use serde_json::{Map, Number, Value};
 
-// Whether the value is read as a document, which is the one that it means.
-#[cycle(whole)]
-pub(crate) fn is_whole(value: &Value) -> bool
-    ensures { MatchBool result (from_data (view value.now) ≡ Some (value_document value.now))
-        (from_data (view value.now) ≡ None) }
+// Whether a value is read as a document, and as one that is as shallow as asked.
+#[derive(Clone, Copy, Drop, PartialEq, Eq)]
+pub(crate) enum Reading {
+    Fits,
+    TooDeep,
+    NotWhole,
+}
+
+// A number that is not whole decides; depth is looked at in the same walk.
+#[cycle(reading)]
+pub(crate) fn reading_of(value: &Value, limit: u32) -> Reading
+    ensures { IsReading result (from_data (view value.now)) (value_document value.now)
+        (depth (value_document value.now)) limit }
 {
     match value {
-        Value::Null | Value::Bool(_) | Value::String(_) => true,
-        Value::Number(number) => is_whole_number(number),
-        Value::Array(values) => are_whole_items(values),
-        Value::Object(values) => are_whole_members(values),
+        Value::Null | Value::Bool(_) | Value::String(_) => Reading::Fits,
+        Value::Number(number) => if is_whole_number(number) {
+            Reading::Fits
+        } else {
+            Reading::NotWhole
+        },
+        Value::Array(values) => around(items_reading(values, limit.saturating_sub(1)), limit),
+        Value::Object(values) => around(members_reading(values, limit.saturating_sub(1)), limit),
     }
 }
 
@@ -32,68 +45,52 @@ fn is_whole_number(number: &Number) -> bool
     whole_of(number).is_some()
 }
 
-#[cycle(whole)]
-fn are_whole_items(values: &Vec<Value>) -> bool
-    ensures { MatchBool result
-        (items_from_data (items_view values.now.items) ≡ Some (value_items values.now.items))
-        (items_from_data (items_view values.now.items) ≡ None) }
+// Of an array or an object, from that of its parts within one level less. At no level it is too deep, whatever its parts.
+fn around(parts: Reading, limit: u32) -> Reading
+    ensures { result ≡ reading_around parts limit }
 {
+    match parts {
+        Reading::Fits => if limit == 0 {
+            Reading::TooDeep
+        } else {
+            Reading::Fits
+        },
+        Reading::TooDeep => Reading::TooDeep,
+        Reading::NotWhole => Reading::NotWhole,
+    }
+}
+
+#[cycle(reading)]
+fn items_reading(values: &Vec<Value>, limit: u32) -> Reading
+    ensures { IsReading result (items_from_data (items_view values.now.items))
+        (value_items values.now.items) (items_depth (value_items values.now.items)) limit }
+{
+    let mut reading = Reading::Fits;
     for value in values {
-        if !is_whole(value) {
-            return false;
+        match reading_of(value, limit) {
+            Reading::Fits => (),
+            Reading::TooDeep => reading = Reading::TooDeep,
+            Reading::NotWhole => return Reading::NotWhole,
         }
     }
-    true
+    reading
 }
 
-#[cycle(whole)]
-fn are_whole_members(values: &Map<String, Value>) -> bool
-    ensures { MatchBool result
-        (members_from_data (members_view values.now.entries)
-        ≡ Some (value_members values.now.entries))
-        (members_from_data (members_view values.now.entries) ≡ None) }
+#[cycle(reading)]
+fn members_reading(values: &Map<String, Value>, limit: u32) -> Reading
+    ensures { IsReading result (members_from_data (members_view values.now.entries))
+        (value_members values.now.entries)
+        (members_depth (value_members values.now.entries)) limit }
 {
+    let mut reading = Reading::Fits;
     for value in values.values() {
-        if !is_whole(value) {
-            return false;
+        match reading_of(value, limit) {
+            Reading::Fits => (),
+            Reading::TooDeep => reading = Reading::TooDeep,
+            Reading::NotWhole => return Reading::NotWhole,
         }
     }
-    true
-}
-
-#[cycle(fits)]
-pub(crate) fn is_within(value: &Value, limit: u32) -> bool
-    ensures { IsTrue result ↔ (depth (value_document value.now) ≤ limit) }
-{
-    match value {
-        Value::Null | Value::Bool(_) | Value::Number(_) | Value::String(_) => true,
-        Value::Array(values) => limit > 0 && are_items_within(values, limit - 1),
-        Value::Object(values) => limit > 0 && are_members_within(values, limit - 1),
-    }
-}
-
-#[cycle(fits)]
-fn are_items_within(values: &Vec<Value>, limit: u32) -> bool
-    ensures { IsTrue result ↔ (items_depth (value_items values.now.items) ≤ limit) }
-{
-    for value in values {
-        if !is_within(value, limit) {
-            return false;
-        }
-    }
-    true
-}
-
-#[cycle(fits)]
-fn are_members_within(values: &Map<String, Value>, limit: u32) -> bool
-    ensures { IsTrue result ↔ (members_depth (value_members values.now.entries) ≤ limit) }
-{
-    for value in values.values() {
-        if !is_within(value, limit) {
-            return false;
-        }
-    }
-    true
+    reading
 }
 
 #[cycle(same)]

@@ -1,5 +1,6 @@
 //! Documents as `serde_json`'s values, which are what it reads: no second tree is made of them. A value means the document that
-//! would be read of it, so each function here has the contract of its sibling over `Doc`.
+//! would be read of it, so each function here says of a value what its sibling says of a `Doc`. `write_value` alone asks for more:
+//! its text is read back if the document can be read, as each that was read can.
 ghost use Rattle.std.specs.Prelude.{◌≡◌, ◌≢◌, ◌≤◌, ◌↔◌, All, Some, Ok, Err, IsTrue, IfOk, IfErr, MatchOption, string_bytes};
 ghost use Rattle.std.specs.Borrow.{sem, LendsIf};
 ghost use Rattle.serde_json.specs.Rows.{map_row};
@@ -8,10 +9,14 @@ ghost use Rattle.serde_json.specs.declared.value.Value.TheVariants.{Object};
 ghost use Rattle.mp_tree.specs.Document.{object, depth, depth_limit, IsReadable};
 ghost use Rattle.mp_tree.specs.Text.{document_in, documents_in, read, text};
 ghost use Rattle.mp_tree.specs.Values.{value_document, value_items};
+ghost use Rattle.mp_tree.specs.View.{document};
 
+use crate::converting::doc_of;
+use crate::doc::Doc;
 use crate::fault::{DocsFault, ReadFault};
-use crate::reading::{DEPTH_LIMIT, read_whole_value};
-use crate::value_walks::{is_same, is_within};
+use crate::reading::{DEPTH_LIMIT, Tree, read_tree};
+use crate::value_copying::copy_of;
+use crate::value_walks::is_same;
 use crate::value_writing::Written;
 use serde_json::{Map, Value, to_string};
 use std::alloc::{AllocError, Global};
@@ -28,8 +33,8 @@ pub fn read_value(alloc: Global, bytes: &[u8]) -> Result<Value, ReadFault>
         → document_in bytes.now ≡ Err fault) }
     ensures depth { IfOk result (λ v. depth (value_document v) ≤ depth_limit) }
 {
-    let value = read_whole_value(alloc, bytes)?;
-    if is_within(&value, DEPTH_LIMIT) {
+    let Tree { value, fits } = read_tree(alloc, bytes, DEPTH_LIMIT)?;
+    if fits {
         Ok(value)
     } else {
         Err(ReadFault::TooDeep)
@@ -49,7 +54,8 @@ pub fn read_values(alloc: Global, bytes: &[u8]) -> Result<Vec<Value>, DocsFault>
     ensures depth { IfOk result (λ vs.
         All (λ v. depth (value_document v) ≤ depth_limit) vs.items) }
 {
-    match read_whole_value(alloc, bytes)? {
+    let Tree { value, fits: _ } = read_tree(alloc, bytes, DEPTH_LIMIT)?;
+    match value {
         Value::Array(values) => Ok(values),
         _ => Err(DocsFault::NotAnArray),
     }
@@ -69,6 +75,24 @@ pub fn write_value(alloc: Global, value: &Value) -> Result<String, AllocError>
         Ok(written) => Ok(written),
         Err(_) => Err(AllocError),
     }
+}
+
+/// As `Doc::copy`: a value that means an equal document, and shares nothing with this one. `AllocError` if memory ran out.
+pub fn copy_value(alloc: Global, value: &Value) -> Result<Value, AllocError>
+    ensures equal { IfOk result (λ v. value_document v ≡ value_document value.now) }
+{
+    copy_of(value, alloc)
+}
+
+/// The document that the value means, with its texts and names: they are moved. `AllocError` if memory ran out.
+///
+/// ```text
+/// doc_of_value(alloc, read_value(alloc, bytes)?)  // as read_doc(alloc, bytes)
+/// ```
+pub fn doc_of_value(alloc: Global, value: Value) -> Result<Doc, AllocError>
+    ensures equal { IfOk result (λ d. document d ≡ value_document value) }
+{
+    doc_of(value, alloc)
 }
 
 /// As `Doc::same`: whether the two mean equal documents. It takes no memory, looks at each part once at most, and stops at the

@@ -14,9 +14,12 @@ items_by f ds = items_of (map f ds)
 
 -- ---- as many, and as a list
 
+pub count_of-items-by : {V : Type 0} (f : V → Document) (vs : List V) → count_of (items_by f vs) ≡ length vs
+count_of-items-by f [] = refl
+count_of-items-by f (v ∷ vs) = ap suc (count_of-items-by f vs)
+
 pub count_of-items : (docs : List Doc) → count_of (items docs) ≡ length docs
-count_of-items [] = refl
-count_of-items (d ∷ docs) = ap suc (count_of-items docs)
+count_of-items = count_of-items-by document
 
 pub count-take : (i : ℕ) (ds : List Doc) → i ≤ length ds → count_of (items (take i ds)) ≡ i
 count-take i ds within = count_of-items (take i ds) ∙ length-take-le i ds within

@@ -43,7 +43,7 @@ pub unite_entry-returns-in_ok-insert-in-None : goal.unite_entry-returns-in_ok-in
 unite_entry-returns-in_ok-insert-in-None t c =
     let p = value_document c.args.change.now in
     let stood = value_looked_up c.args.entries.now.entries refl c.in-None.ensures.value in
-    let set = values-put c.args.entries.now c.insert.new.self c.in_ok-value-in-None.value c.get_mut.follows.holds-at-none c.in_ok-from_str-in-None.ensures.ok c.in_ok-value-in-None.ensures c.in_ok-insert-in-None.ensures.updates in
+    let set = values-put c.args.entries.now c.insert.new.self c.in_ok-value-in-None.value c.get_mut.follows.holds-at-none c.in_ok-from_str-in-None.ensures.ok c.in_ok-value-in-None.ensures.equal c.in_ok-insert-in-None.ensures.updates in
     (p, subst (λ o. UnitesTo true p o p) (sym stood) (tt, sym (union_with-absent p)), set)
 
 -- ---- name by name

@@ -1,15 +1,13 @@
-use Rattle.std.proofs.Common.{◌≡◌, String, Global, sym, ap, ap₂, ◌∙◌, string_bytes, string_cmp, rules}
-use Rattle.std.proofs.lemmas.Iterator.Adapters.{YieldsList-from_vec, fact_from_collect}
+use Rattle.std.proofs.Common.{◌≡◌, String, Global, sym, ap, ap₂, ◌∙◌, string_bytes, rules}
 use Rattle.std.proofs.lemmas.Result.{IfOk-weaker}
-use Rattle.std.specs.BTreeMap.{IsFromIterResult}
 use Rattle.mp_tree.specs.Document.{object}
 use Rattle.mp_tree.specs.View.{members_of}
 use Rattle.mp_tree.specs.Values.{value_document}
 use Rattle.serde_json.specs.declared.value.Value.{Value}
-use Rattle.mp_tree.proofs.Maps.Building.{byte_entries-from_iter, seen, ascend_from_seen, insert-last-seen, seen-same}
-use Rattle.mp_tree.proofs.Facts.{value-Object}
+use Rattle.mp_tree.proofs.Maps.Building.{seen, ascend_from_seen, insert-last-seen, seen-same}
+use Rattle.mp_tree.proofs.Valued.Meaning.{value-Object}
 use Rattle.mp_tree.proofs.Passed.{Passed-push, Passed-end}
-use Rattle.mp_merge.proofs.value_copying.+copy_value.Goals as goal
+use Rattle.mp_tree.proofs.value_copying.+copy_value.Goals as goal
 
 pub copy_members-loop-name-preserved : goal.copy_members-loop-name-preserved
 copy_members-loop-name-preserved t c =
@@ -33,14 +31,16 @@ copy_few-loop-name-preserved t c =
 pub copy_few-returns : goal.copy_few-returns
 copy_few-returns t c = ap members_of (Passed-end c.loop-name.invariant c.in-None.ensures.steps.0)
 
+pub copy_members-map_of-requires : goal.copy_members-map_of-requires
+copy_members-map_of-requires t c =
+    let l = c.loop-name in
+    ascend_from_seen value_document value_document l.pairs.items _ (Passed-end l.invariant c.in-None.ensures.steps.0) c.iter-name-items.ensures.ordered
+
 pub copy_members-returns : goal.copy_members-returns
 copy_members-returns t c =
     let l = c.loop-name in
-    let pairs = l.pairs.items in
     let all = Passed-end l.invariant c.in-None.ensures.steps.0 in
-    let ascending = ascend_from_seen value_document value_document pairs _ all c.iter-name-items.ensures.ordered in
-    let given = fact_from_collect (IsFromIterResult string_cmp) c.collect.result c.collect.ensures.ran (YieldsList-from_vec pairs c.into_iter.ensures.rest (c.into_iter.ensures.len ∙ c.loop-name.pairs.ok.0)) in
-    IfOk-weaker c.collect.result (IsFromIterResult string_cmp pairs) _ (λ m made. ap members_of (seen-same value_document m.entries pairs (byte_entries-from_iter m pairs ascending made) ∙ all)) given
+    IfOk-weaker c.map_of.result _ _ (λ m built. ap members_of (seen-same value_document m.entries l.pairs.items built ∙ all)) c.map_of.ensures
 
 pub copy_of-returns-in_ok-copy_members-in-Object : goal.copy_of-returns-in_ok-copy_members-in-Object
 copy_of-returns-in_ok-copy_members-in-Object t c =

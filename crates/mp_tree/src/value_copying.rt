@@ -1,14 +1,12 @@
-// Copies of values. A map of many names is built whole from its pairs, as `mp_tree` copies one of documents: an insertion each
-// costs more, and so does `clone`, which inserts.
+// Copies of values. A map of many names is built whole from its pairs, as that of a `Doc` is: an insertion each costs more, and so
+// does `clone`, which inserts.
 ghost use Rattle.std.specs.Prelude.{◌≡◌, IfOk};
 ghost use Rattle.mp_tree.specs.Values.{value_document, value_items};
 ghost use Rattle.mp_tree.specs.Private.Entries.{value_members};
 
+use crate::building::{FEW, map_of};
 use serde_json::{Map, Value};
 use std::alloc::{AllocError, Global};
-
-// Up to so many names an insertion each costs less.
-const FEW: usize = 8;
 
 #[cycle(copy_value)]
 pub(crate) fn copy_of(value: &Value, alloc: Global) -> Result<Value, AllocError>
@@ -52,7 +50,7 @@ fn copy_members(
         let copied_value = copy_of(value, alloc)?;
         pairs.push((copied_name, copied_value))?;
     }
-    pairs.into_iter().collect(alloc)
+    map_of(alloc, pairs)
 }
 
 #[cycle(copy_value)]

@@ -2,7 +2,7 @@ use Rattle.std.proofs.Common.{◌≡◌, take, map}
 use Rattle.mp_tree.specs.Values.{value_document}
 use Rattle.mp_tree.proofs.Maps.Building.{seen}
 use Rattle.mp_tree.proofs.Passed.{Passed}
-use Rattle.mp_merge.proofs.value_copying.+copy_value.Given as goal
+use Rattle.mp_tree.proofs.value_copying.+copy_value.Given as goal
 
 abbrev pub invariant-copy_items-loop-element : goal.invariant-copy_items-loop-element
 invariant-copy_items-loop-element l = map value_document l.copies.items ≡ map value_document (take l.element-index l.element-items)
