@@ -15,6 +15,7 @@ mod reading;
 mod serializing;
 mod shape;
 mod steps;
+mod value_reading;
 mod writing;
 
 pub use applying::{apply, apply_once, apply_owned};

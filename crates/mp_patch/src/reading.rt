@@ -20,14 +20,14 @@ use std::collections::BTreeMap;
 
 // Where a part is, and where it goes.
 #[derive(Drop)]
-struct Pointers {
-    origin: Pointer,
-    path: Pointer,
+pub(crate) struct Pointers {
+    pub(crate) origin: Pointer,
+    pub(crate) path: Pointer,
 }
 
 // An operation, but for its value if it has one.
 #[derive(Drop)]
-enum Draft {
+pub(crate) enum Draft {
     Whole(Op),
     Add(Pointer),
     Replace(Pointer),
@@ -123,7 +123,7 @@ fn text_at<'a>(entries: &'a BTreeMap<String, Doc>, name: &str) -> Option<&'a str
     }
 }
 
-fn pointer_of(spelling: &str, alloc: Global) -> Result<Pointer, Refusal<FormCause>>
+pub(crate) fn pointer_of(spelling: &str, alloc: Global) -> Result<Pointer, Refusal<FormCause>>
     ensures { MatchResult result (λ p. spelling.now ≡ spell p)
         (λ fault. IsTextFault fault spelling.now) }
 {

@@ -2,8 +2,6 @@
 use Rattle.std.proofs.Common.{◌≡◌, ◌≢◌, ◌⊎◌, inl, inr, ◌∷◌, ◌++◌, ℕ, List, [], length, None, Some, option_and_then, suc, append_assoc, append-nil, Result, Ok, Err, MatchResult, refl, sym, ap, ◌∙◌, subst, arith, codes}
 use Rattle.std.proofs.lemmas.List.{map-append}
 use Rattle.mp_tree.specs.Document.{Document, object, list, Members}
-use Rattle.mp_tree.specs.View.{document, items}
-use Rattle.mp_tree.specs.declared.doc.Doc.{Doc}
 use Rattle.mp_pointer.specs.Spelling.{Tokens, spell, IsPointerFault}
 use Rattle.mp_pointer.specs.declared.fault.PointerFault.{PointerFault}
 use Rattle.mp_pointer.proofs.Facts.{spellings_have_no_fault}
@@ -18,7 +16,7 @@ use Rattle.mp_patch.specs.declared.op.Op.{Op}
 use Rattle.mp_patch.specs.declared.fault.Refusal.{Refusal}
 use Rattle.mp_patch.specs.declared.fault.Refusal.TheVariants.{By, OutOfMemory}
 use Rattle.mp_patch.proofs.Forms.Needs.{one_need, value_or_origin}
-use Rattle.mp_tree.proofs.Facts.{count_of-items, items-append, same_some, some_none}
+use Rattle.mp_tree.proofs.Facts.{count_of-items-by, items-append-by, items_by, same_some, some_none}
 
 -- ---- reading
 
@@ -82,50 +80,51 @@ pub form_of_map : (r : Result Op (Refusal FormCause)) (ms : Members) (d : Docume
 form_of_map (Ok op) ms d is carries = (ms, is, carries)
 form_of_map (Err fault) ms d is found = subst (IsElementFault fault) (sym is) (map_fault ms fault found)
 
-EachForm-more : (docs : List Doc) (operations : List Operation) (d : Doc) (o : Operation) → EachForm (items docs) operations → IsForm (document d) o → EachForm (items (docs ++ d ∷ [])) (operations ++ o ∷ [])
-EachForm-more [] [] d o forms form = (form, tt)
-EachForm-more [] (p ∷ operations) d o forms form = absurd forms
-EachForm-more (x ∷ docs) [] d o forms form = absurd forms
-EachForm-more (x ∷ docs) (p ∷ operations) d o forms form = (forms.0, EachForm-more docs operations d o forms.1 form)
+module _ {V : Type 0} (f : V → Document) where
+  EachForm-more : (vs : List V) (operations : List Operation) (v : V) (o : Operation) → EachForm (items_by f vs) operations → IsForm (f v) o → EachForm (items_by f (vs ++ v ∷ [])) (operations ++ o ∷ [])
+  EachForm-more [] [] v o forms form = (form, tt)
+  EachForm-more [] (p ∷ operations) v o forms form = absurd forms
+  EachForm-more (x ∷ vs) [] v o forms form = absurd forms
+  EachForm-more (x ∷ vs) (p ∷ operations) v o forms form = (forms.0, EachForm-more vs operations v o forms.1 form)
 
--- ---- reading a list that is taken apart
+  as_many : (vs : List V) (ops : List Op) → EachForm (items_by f vs) (operations_of ops) → length ops ≡ length vs
+  as_many [] [] forms = refl
+  as_many [] (op ∷ ops) forms = absurd forms
+  as_many (v ∷ vs) [] forms = absurd forms
+  as_many (v ∷ vs) (op ∷ ops) forms = ap suc (as_many vs ops forms.1)
 
-pub record AreReadTo (docs left : List Doc) (ops : List Op) : Type 0 where
-  pub passed : List Doc
-  pub all : docs ≡ passed ++ left
-  pub forms : EachForm (items passed) (operations_of ops)
+-- ---- reading a list that is taken apart, each element as the document that it means
 
-as_many : (docs : List Doc) (ops : List Op) → EachForm (items docs) (operations_of ops) → length ops ≡ length docs
-as_many [] [] forms = refl
-as_many [] (op ∷ ops) forms = absurd forms
-as_many (d ∷ docs) [] forms = absurd forms
-as_many (d ∷ docs) (op ∷ ops) forms = ap suc (as_many docs ops forms.1)
+pub record AreReadTo {V : Type 0} (f : V → Document) (vs left : List V) (ops : List Op) : Type 0 where
+  pub passed : List V
+  pub all : vs ≡ passed ++ left
+  pub forms : EachForm (items_by f passed) (operations_of ops)
 
-module _ (docs left : List Doc) (ops : List Op) (r : AreReadTo docs left ops) where
-  pub read_more : (d : Doc) (more : List Doc) (op : Op) (new : List Op) → left ≡ d ∷ more → IsForm (document d) (operation_of op) → new ≡ ops ++ op ∷ [] → AreReadTo docs more new
-  read_more d more op new next form pushed =
+module _ {V : Type 0} (f : V → Document) (vs left : List V) (ops : List Op) (r : AreReadTo f vs left ops) where
+  pub read_more : (v : V) (more : List V) (op : Op) (new : List Op) → left ≡ v ∷ more → IsForm (f v) (operation_of op) → new ≡ ops ++ op ∷ [] → AreReadTo f vs more new
+  read_more v more op new next form pushed =
       let grown : operations_of new ≡ operations_of ops ++ operation_of op ∷ [] = ap operations_of pushed ∙ map-append operation_of ops (op ∷ []) in
       record {
-        passed = r.passed ++ d ∷ [];
-        all = r.all ∙ ap (λ ds. r.passed ++ ds) next ∙ sym (append_assoc r.passed (d ∷ []) more);
-        forms = subst (λ os. EachForm (items (r.passed ++ d ∷ [])) os) (sym grown) (EachForm-more r.passed (operations_of ops) d (operation_of op) r.forms form);
+        passed = r.passed ++ v ∷ [];
+        all = r.all ∙ ap (λ ws. r.passed ++ ws) next ∙ sym (append_assoc r.passed (v ∷ []) more);
+        forms = subst (λ os. EachForm (items_by f (r.passed ++ v ∷ [])) os) (sym grown) (EachForm-more f r.passed (operations_of ops) v (operation_of op) r.forms form);
       }
 
-  pub read_end : length left ≡ 0 → EachForm (items docs) (operations_of ops)
-  read_end none = subst (λ ds. EachForm (items ds) (operations_of ops)) (sym (r.all ∙ ap (λ ds. r.passed ++ ds) (empty left none) ∙ append-nil r.passed)) r.forms
+  pub read_end : length left ≡ 0 → EachForm (items_by f vs) (operations_of ops)
+  read_end none = subst (λ ws. EachForm (items_by f ws) (operations_of ops)) (sym (r.all ∙ ap (λ ws. r.passed ++ ws) (empty left none) ∙ append-nil r.passed)) r.forms
     where
-      empty : (ds : List Doc) → length ds ≡ 0 → ds ≡ []
+      empty : (ws : List V) → length ws ≡ 0 → ws ≡ []
       empty [] none = refl
-      empty (d ∷ ds) none = absurd (omega (arith, none))
+      empty (w ∷ ws) none = absurd (omega (arith, none))
 
-  pub read_fault : (fault : Refusal FormCause) (d : Doc) (more : List Doc) → left ≡ d ∷ more → IsElementFault fault (document d) → IsFormFault (fault_of_element (length ops) fault) (list (items docs))
-  read_fault OutOfMemory d more next faulty = tt
-  read_fault (By cause) d more next faulty = record {
-    front = items r.passed;
-    element = document d;
-    back = items more;
-    is = ap list (ap items (r.all ∙ ap (λ ds. r.passed ++ ds) next) ∙ items-append r.passed (d ∷ more));
-    numbered = as_many r.passed ops r.forms ∙ sym (count_of-items r.passed);
+  pub read_fault : (fault : Refusal FormCause) (v : V) (more : List V) → left ≡ v ∷ more → IsElementFault fault (f v) → IsFormFault (fault_of_element (length ops) fault) (list (items_by f vs))
+  read_fault OutOfMemory v more next faulty = tt
+  read_fault (By cause) v more next faulty = record {
+    front = items_by f r.passed;
+    element = f v;
+    back = items_by f more;
+    is = ap list (ap (items_by f) (r.all ∙ ap (λ ws. r.passed ++ ws) next) ∙ items-append-by f r.passed (v ∷ more));
+    numbered = as_many f r.passed ops r.forms ∙ sym (count_of-items-by f r.passed);
     operations = operations_of ops;
     forms = r.forms;
     faulty = faulty;

@@ -1,0 +1,11 @@
+use Rattle.std.specs.Vec.Iter.{into_iter_items}
+use Rattle.mp_tree.specs.Values.{value_document}
+use Rattle.mp_patch.proofs.Forms.Reading.{AreReadTo}
+use Rattle.mp_patch.proofs.value_reading.read_ops.Given as goal
+
+abbrev pub invariant-loop-element : goal.invariant-loop-element
+invariant-loop-element l = record {
+  read : AreReadTo value_document l.fn.elements.items (into_iter_items l.element-iterator) l.patch;
+  can_next : (goal.iterator-loop-element).can_next l.element-iterator;
+  is_finite : (goal.iterator-loop-element).is_finite l.element-iterator;
+}
