@@ -13,6 +13,7 @@ mod merging;
 mod rewriting;
 mod value_comparing;
 mod value_lists;
+mod value_rewriting;
 mod valued;
 mod values;
 
@@ -24,5 +25,7 @@ pub use joining::join;
 pub use lists::{join_all, replay, replay_owned};
 pub use merging::{merge, merge_owned};
 pub use rewriting::rewrite;
+pub use value_comparing::{compatible_values, conflict_values};
 pub use value_lists::{join_all_values, replay_values};
+pub use value_rewriting::rewrite_value;
 pub use valued::{join_value, merge_value};

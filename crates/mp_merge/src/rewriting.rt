@@ -59,12 +59,12 @@ pub fn rewrite(alloc: Global, doc: &Doc, patch: &Doc) -> Result<JsonPatch, Alloc
 // The tests of the places that were passed, and their edits: both in the order of paths. No place is kept with its test,
 // so that a rewriting is these two lists and no third one.
 #[derive(Drop)]
-struct Edits {
-    guards: JsonPatch,
-    edits: Vec<Op>,
+pub(crate) struct Edits {
+    pub(crate) guards: JsonPatch,
+    pub(crate) edits: Vec<Op>,
 }
 
-fn push_ops(ops: Vec<Op>, patch: &mut JsonPatch) -> Result<(), AllocError>
+pub(crate) fn push_ops(ops: Vec<Op>, patch: &mut JsonPatch) -> Result<(), AllocError>
     ensures { OnOk result (patch.new ≡ patch.old ++ ops.items) }
 {
     for op in ops {

@@ -1,4 +1,4 @@
-// Whether two merge patches that are values are compatible, and where they conflict: `comparing`, over values.
+//! Whether two merge patches that are values are compatible, and where they conflict: `comparing`, over values.
 ghost use Rattle.std.specs.Prelude.{◌≡◌, ◌↔◌, Some, IsTrue, IfOk, OnOk};
 ghost use Rattle.std.specs.Prelude.{List, ℕ};
 ghost use Rattle.mp_tree.specs.Document.{object};
@@ -13,8 +13,13 @@ use mp_tree::same_value;
 use serde_json::{Map, Value};
 use std::alloc::{AllocError, Global};
 
+/// As `compatible`, of patches that are values. Takes no memory.
+///
+/// ```text
+/// compatible_values(&p, &q)  // true for {"a":{"x":1}} and {"a":{"y":null}}, false for {"a":1} and {"a":2}
+/// ```
 #[cycle(compatible_values)]
-pub(crate) fn compatible(p: &Value, q: &Value) -> bool
+pub fn compatible_values(p: &Value, q: &Value) -> bool
     ensures { IsTrue result ↔ Compatible (value_document p.now) (value_document q.now) }
 {
     match (p, q) {
@@ -30,7 +35,7 @@ fn are_members_compatible(changes: &Map<String, Value>, others: &Map<String, Val
 {
     for (name, change) in changes.iter() {
         if let Some(other) = others.get(name.as_str()) {
-            if !compatible(change, other) {
+            if !compatible_values(change, other) {
                 return false;
             }
         }
@@ -38,7 +43,12 @@ fn are_members_compatible(changes: &Map<String, Value>, others: &Map<String, Val
     true
 }
 
-pub(crate) fn conflict(alloc: Global, p: &Value, q: &Value) -> Result<Vec<Pointer>, AllocError>
+/// As `conflict`, of patches that are values. `AllocError` if memory ran out.
+///
+/// ```text
+/// conflict_values(alloc, &p, &q)  // /a/z and /b for {"a":{"z":1},"b":1} and {"a":{"z":2},"b":2}
+/// ```
+pub fn conflict_values(alloc: Global, p: &Value, q: &Value) -> Result<Vec<Pointer>, AllocError>
     ensures { IfOk result (λ places.
         AreAllClashes (value_document p.now) (value_document q.now) places.items) }
 {

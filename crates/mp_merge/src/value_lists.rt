@@ -11,7 +11,7 @@ ghost use Rattle.mp_merge.specs.Private.Unions.{UnitesAt, UnitesTo};
 ghost use Rattle.mp_merge.specs.Outcome.{IsOutcome};
 
 use crate::fault::ListFault;
-use crate::value_comparing::{compatible, conflict};
+use crate::value_comparing::{compatible_values, conflict_values};
 use crate::valued::merge_value;
 use mp_pointer::Pointer;
 use mp_tree::{copy_value, same_value, value_members_mut};
@@ -59,6 +59,7 @@ fn join_next(
     if unite(patch, &mut joined, alloc)? {
         return Ok(joined);
     }
+    drop(joined);
     let Some((first, places)) = clash_before(alloc, patches, second)? else {
         unreachable!();
     };
@@ -82,8 +83,8 @@ fn clash_before(
 {
     let patch = &patches[second];
     for first in 0..second {
-        if !compatible(&patches[first], patch) {
-            let places = conflict(alloc, &patches[first], patch)?;
+        if !compatible_values(&patches[first], patch) {
+            let places = conflict_values(alloc, &patches[first], patch)?;
             return Ok(Some((first, places)));
         }
     }

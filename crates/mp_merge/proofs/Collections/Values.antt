@@ -1,7 +1,8 @@
 -- What a value is and is not: a document, null, an object.
-use Rattle.std.proofs.Common.{◌≡◌, List, [], ◌∷◌, length, map, String, BTreeMap, Global, refl, sym, ap, ◌∙◌, subst, rules, arith}
+use Rattle.std.proofs.Common.{◌≡◌, List, [], ◌∷◌, length, map, Option, None, Some, option_map, Bor, String, BTreeMap, Global, refl, sym, ap, ◌∙◌, subst, rules, arith}
 use Rattle.std.proofs.lemmas.List.Elements.{All-contains_itself, All-map, All-weaker}
 use Rattle.std.specs.List.{All, Contains}
+use Rattle.std.specs.Option.{option_copied}
 use Rattle.serde_json.specs.declared.value.Value.{Value, Null, Object, fold-roll-Value, ind-Value, roll-Value, the_lemmas}
 use Rattle.serde_json.specs.declared.value.Value.TheOpen.{Value-F}
 use Rattle.mp_tree.specs.Document.{Document, IsDocument, null}
@@ -36,6 +37,12 @@ no_map_value = ind-Value NoMapUnless (λ x y is. opened x)
     opened (Value-F.String s) never = subst IsNoMap (sym (fold-roll-Value Document value_step (Value-F.String s))) refl
     opened (Value-F.Array v) never = subst IsNoMap (sym (fold-roll-Value Document value_step (Value-F.Array v))) refl
     opened (Value-F.Object m) never = absurd (never m (search (rules, the_lemmas)))
+
+-- ---- a value that is lent
+
+pub borrowed_value : (r : Option (Bor Value)) → option_map (λ (v : Bor Value). value_document v.now) r ≡ option_map value_document (option_copied r)
+borrowed_value None = refl
+borrowed_value (Some v) = refl
 
 -- ---- each value is a document
 

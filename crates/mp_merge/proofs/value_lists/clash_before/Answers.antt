@@ -10,7 +10,7 @@ loop-first-preserved c =
     let k = c.loop-first.first in
     let d = c.index-patches-first.result in
     let q = value_document c.index-patches-second.result in
-    let free : Compatible (value_document d) q = c.compatible.ensures.0 c.if-not-compatible.false in
+    let free : Compatible (value_document d) q = c.compatible_values.ensures.0 c.if-not-compatible_values.false in
     let at : slice_get (map value_document ds) k ≡ Some (value_document d) = at_number-by value_document ds k d (omega (arith, c.loop-first-test.true, c.requires)) c.index-patches-first.is in
     below_more (map value_document ds) k (value_document d) q at free c.loop-first.invariant
 

@@ -5,7 +5,7 @@ use Rattle.mp_merge.specs.Clash.{AreAllClashes}
 use Rattle.mp_merge.specs.Private.Clashes.{WalksClashes}
 use Rattle.mp_tree.proofs.Facts.{IsDocument-value}
 use Rattle.mp_merge.proofs.Clashes.Conflicts.{walk_finds_all}
-use Rattle.mp_merge.proofs.value_comparing.conflict.Goals as goal
+use Rattle.mp_merge.proofs.value_comparing.conflict_values.Goals as goal
 
 pub returns : goal.returns
 returns c =

@@ -1,0 +1,14 @@
+use Rattle.std.proofs.Common.{[], refl}
+use Rattle.std.proofs.lemmas.Bool.{iff_false}
+use Rattle.std.proofs.lemmas.Result.{on_ok_weaker}
+use Rattle.mp_tree.specs.Values.{value_document}
+use Rattle.mp_merge.proofs.Rewritings.Walk.{edit_replaces}
+use Rattle.mp_merge.proofs.value_rewriting.push_root_edit.Goals as goal
+
+pub returns : goal.returns
+returns c =
+    let p = value_document c.args.patch.now in
+    let v = value_document c.args.doc.now in
+    on_ok_weaker c.push_guarded.result
+    (λ is other. (_, is, edit_replaces [] _ _ p v _ refl other (iff_false c.same_value.ensures.same c.if-same_value.false) c.empty-2.ensures c.empty.ensures c.in_ok-left_by.ensures))
+    c.push_guarded.ensures
