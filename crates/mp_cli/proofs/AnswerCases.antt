@@ -36,8 +36,11 @@ pub single_part : (pointer : List ℕ) (docs : List Doc) (d : Doc) (a : Output) 
 single_part pointer docs d a split is = subst (λ (ds : List Doc). IsGetAnswerTo pointer (items ds) a) (sym split) is
 
 -- `patch` and `rewrite` want two
+pub no_pair_by : {V : Type 0} (f : V → Document) (vs : List V) (a : Output) → ((v w : V) → vs ≢ v ∷ w ∷ []) → a ≡ wrong_shape → IsPatchAnswerTo (items_by f vs) a × IsRewriteAnswerTo (items_by f vs) a
+no_pair_by f [] a other is = (is, is)
+no_pair_by f (v ∷ []) a other is = (is, is)
+no_pair_by f (v ∷ w ∷ []) a other is = absurd (other v w refl)
+no_pair_by f (v ∷ w ∷ x ∷ vs) a other is = (is, is)
+
 pub no_pair : (docs : List Doc) (a : Output) → ((d e : Doc) → docs ≢ d ∷ e ∷ []) → a ≡ wrong_shape → IsPatchAnswerTo (items docs) a × IsRewriteAnswerTo (items docs) a
-no_pair [] a other is = (is, is)
-no_pair (d ∷ []) a other is = (is, is)
-no_pair (d ∷ e ∷ []) a other is = absurd (other d e refl)
-no_pair (d ∷ e ∷ f ∷ docs) a other is = (is, is)
+no_pair = no_pair_by document

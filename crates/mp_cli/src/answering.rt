@@ -17,7 +17,7 @@ use crate::lines::{
 use mp_merge::{join_all_values, merge_value, replay_values, rewrite as rewriting};
 use mp_patch::{JsonPatch, apply_once, write_patch};
 use mp_pointer::{Pointer, get as part_at};
-use mp_tree::{Doc, read_docs, read_values, write_doc, write_value};
+use mp_tree::{Doc, doc_of_value, read_docs, read_values, write_doc, write_value};
 use serde_json::Value;
 use std::alloc::{AllocError, Global};
 
@@ -59,16 +59,6 @@ fn answer_get(alloc: Global, pointer: &String, input: &[u8]) -> Result<Answer, A
 }
 
 #[tactic(auto, unfolding(crate::specs::Answered::IsAnswered))]
-fn answer_patch(alloc: Global, input: &[u8]) -> Result<Answer, AllocError>
-    ensures { IfOk result (λ a. IsAnswered Patch input.now (answered_by a)) }
-{
-    match read_docs(alloc, input) {
-        Ok(docs) => patch(alloc, docs),
-        Err(fault) => input_fault(alloc, fault),
-    }
-}
-
-#[tactic(auto, unfolding(crate::specs::Answered::IsAnswered))]
 fn answer_rewrite(alloc: Global, input: &[u8]) -> Result<Answer, AllocError>
     ensures { IfOk result (λ a. IsAnswered Rewrite input.now (answered_by a)) }
 {
@@ -78,7 +68,17 @@ fn answer_rewrite(alloc: Global, input: &[u8]) -> Result<Answer, AllocError>
     }
 }
 
-// What is read, changed and written needs no tree of its own: these three keep the values that are read.
+// What is read, changed and written needs no tree of its own: the other commands keep the values that are read.
+#[tactic(auto, unfolding(crate::specs::Answered::IsAnswered))]
+fn answer_patch(alloc: Global, input: &[u8]) -> Result<Answer, AllocError>
+    ensures { IfOk result (λ a. IsAnswered Patch input.now (answered_by a)) }
+{
+    match read_values(alloc, input) {
+        Ok(values) => patch(alloc, values),
+        Err(fault) => input_fault(alloc, fault),
+    }
+}
+
 #[tactic(auto, unfolding(crate::specs::Answered::IsAnswered))]
 fn answer_merge(alloc: Global, input: &[u8]) -> Result<Answer, AllocError>
     ensures { IfOk result (λ a. IsAnswered Merge input.now (answered_by a)) }
@@ -121,20 +121,22 @@ fn get(alloc: Global, pointer: &str, docs: Vec<Doc>) -> Result<Answer, AllocErro
     }
 }
 
-fn patch(alloc: Global, docs: Vec<Doc>) -> Result<Answer, AllocError>
-    ensures { IfOk result (λ a. IsPatchAnswerTo (items docs.items) (answered_by a)) }
+fn patch(alloc: Global, values: Vec<Value>) -> Result<Answer, AllocError>
+    ensures { IfOk result (λ a. IsPatchAnswerTo (value_items values.items) (answered_by a)) }
 {
-    let Some((doc, patch)) = pair(docs) else {
+    let Some((doc, patch)) = pair(values) else {
         return wrong_shape(alloc);
     };
     read_and_apply(alloc, doc, patch)
 }
 
-fn read_and_apply(alloc: Global, doc: Doc, patch: Doc) -> Result<Answer, AllocError>
-    ensures { IfOk result (λ a. IsPatchAnswer (document doc) (document patch) (answered_by a)) }
+// The patch works on a document; of the patch itself, the values of its operations alone become documents.
+fn read_and_apply(alloc: Global, doc: Value, patch: Value) -> Result<Answer, AllocError>
+    ensures { IfOk result (λ a.
+        IsPatchAnswer (value_document doc) (value_document patch) (answered_by a)) }
 {
-    match JsonPatch::from_doc_owned(alloc, patch) {
-        Ok(patch) => apply_patch(alloc, doc, patch),
+    match JsonPatch::from_value_owned(alloc, patch) {
+        Ok(patch) => apply_patch(alloc, doc_of_value(alloc, doc)?, patch),
         Err(fault) => form_fault(alloc, fault),
     }
 }

@@ -1,23 +1,22 @@
 // The elements of the input array, in each of the shapes that a command wants.
 ghost use Rattle.std.specs.Prelude.{◌≡◌, ◌≢◌, ◌∷◌, [], MatchOption};
 
-use mp_tree::Doc;
-
 // `[a]`.
-pub(crate) fn single(docs: Vec<Doc>) -> Option<Doc>
-    ensures { MatchOption result ((d : _) → docs.items ≢ d ∷ []) (λ d. docs.items ≡ d ∷ []) }
+pub(crate) fn single<T: Drop>(elements: Vec<T>) -> Option<T>
+    ensures { MatchOption result ((x : _) → elements.items ≢ x ∷ [])
+        (λ x. elements.items ≡ x ∷ []) }
 {
-    let (doc, rest) = first_and_rest(docs)?;
-    if rest.is_empty() { Some(doc) } else { None }
+    let (element, rest) = first_and_rest(elements)?;
+    if rest.is_empty() { Some(element) } else { None }
 }
 
 // `[a, b]`.
-pub(crate) fn pair(docs: Vec<Doc>) -> Option<(Doc, Doc)>
-    ensures { MatchOption result ((d e : _) → docs.items ≢ d ∷ e ∷ [])
-        (λ p. docs.items ≡ p.0 ∷ p.1 ∷ []) }
+pub(crate) fn pair<T: Drop>(elements: Vec<T>) -> Option<(T, T)>
+    ensures { MatchOption result ((x y : _) → elements.items ≢ x ∷ y ∷ [])
+        (λ p. elements.items ≡ p.0 ∷ p.1 ∷ []) }
 {
-    let (doc, rest) = first_and_rest(docs)?;
-    Some((doc, single(rest)?))
+    let (element, rest) = first_and_rest(elements)?;
+    Some((element, single(rest)?))
 }
 
 // `[a, ..]`.

@@ -5,7 +5,7 @@ ghost use Rattle.mp_texts.specs.Answers.{IsPartText, IsPatchText, IsRewriteText,
 ghost use Rattle.mp_texts.specs.Faults.{IsPartTextFault, IsPatchTextFault, IsRewriteTextFault};
 
 use crate::fault::TextsFault;
-use crate::reading::{read_document, read_patch};
+use crate::reading::{read_document, read_patch, read_patch_value};
 use mp_merge::{laws as merging, rewrite};
 use mp_patch::{JsonPatch, apply_once, laws as patching, write_patch};
 use mp_pointer::{Pointer, get, laws as pointing};
@@ -51,8 +51,8 @@ pub fn patch_text(alloc: Global, document: &[u8], json_patch: &[u8]) -> Result<S
         (λ fault. IsPatchTextFault fault document.now json_patch.now) }
 {
     let doc = read_document(alloc, document)?;
-    let form = read_patch(alloc, json_patch, 0)?;
-    let operations = JsonPatch::from_doc_owned(alloc, form)?;
+    let form = read_patch_value(alloc, json_patch, 0)?;
+    let operations = JsonPatch::from_value_owned(alloc, form)?;
     let patched = apply_once(alloc, doc, operations)?;
     Ok(write_doc(alloc, &patched)?)
 }

@@ -1,4 +1,5 @@
 use Rattle.std.proofs.Common.{string_bytes}
+use Rattle.mp_tree.specs.Values.{value_document}
 use Rattle.mp_tree.specs.View.{document}
 use Rattle.mp_patch.specs.View.{operations_of}
 use Rattle.mp_texts.proofs.Readings.{text_written}
@@ -11,8 +12,8 @@ returns c =
     record {
       from = document c.in_ok-doc.doc;
       document_read = c.in_ok-doc.ensures.read;
-      form = document c.in_ok-form.form;
-      patch_read = c.in_ok-form.ensures.read;
+      form = value_document c.in_ok-form.form;
+      patch_read = c.in_ok-form.ensures;
       operations = operations_of c.in_ok-operations.operations;
       forms = c.in_ok-operations.ensures;
       end = end;
