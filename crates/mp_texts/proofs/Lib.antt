@@ -1,5 +1,6 @@
 pub mod Joins
 pub mod Merging
+pub mod Numbered
 pub mod OneAnswer
 pub mod Patched
 pub mod Places

@@ -1,6 +1,7 @@
 //! Merge patches, pointers and JSON Patches over texts: each document and each patch is a JSON text of its own.
 #![tactic(auto)]
 
+mod clashing;
 mod documents;
 mod fault;
 pub mod laws;

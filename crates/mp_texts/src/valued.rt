@@ -1,18 +1,24 @@
-// The join of texts by the values that are read: each patch is moved into what was joined before it, as soon as it is read. If
-// two conflict, no patch is there any more: all are read again, so that the conflict can be reported.
-ghost use Rattle.std.specs.Prelude.{List, map, MatchResult, IfSome};
+// The join of texts by the values that are read. A few are all read and then joined. Of many, each is moved into what was joined
+// before it, as soon as it is read: so what is held is the join and one patch. If two conflict, the texts are read again, one by
+// one, to find which two.
+ghost use Rattle.std.specs.Prelude.{◌<◌, List, length, map, MatchResult};
 ghost use Rattle.mp_tree.specs.Document.{Document};
 ghost use Rattle.mp_tree.specs.Values.{value_document};
 ghost use Rattle.mp_merge.specs.Join.{IsJoin};
 ghost use Rattle.mp_texts.specs.Faults.{IsJoinTextFault};
 ghost use Rattle.mp_texts.specs.Texts.{AreRead, given};
+ghost use Rattle.mp_texts.specs.Private.Clashing.{IsTurns};
 ghost use Rattle.mp_texts.specs.Private.Unread.{IsPatchesFault};
 
+use crate::clashing::clash_at;
 use crate::fault::TextsFault;
 use crate::reading::read_patch_value;
-use mp_merge::{join_all_values, join_value, laws};
+use mp_merge::{ListFault, join_all_values, join_value, laws};
 use serde_json::Value;
 use std::alloc::Global;
+
+// Up to so many patches are kept until they are joined.
+const FEW: usize = 8;
 
 // The join of the patches.
 pub(crate) fn joined_value(alloc: Global, patches: &[&[u8]]) -> Result<Value, TextsFault>
@@ -20,34 +26,14 @@ pub(crate) fn joined_value(alloc: Global, patches: &[&[u8]]) -> Result<Value, Te
         (λ j. (ds : List Document) × AreRead (given patches.now) ds × IsJoin ds (value_document j))
         (λ fault. IsJoinTextFault fault (given patches.now)) }
 {
-    match joined_in_turn(alloc, patches)? {
-        Some(joined) => Ok(joined),
-        None => joined_of_all(alloc, patches),
+    if patches.len() <= FEW {
+        joined_of_few(alloc, patches)
+    } else {
+        joined_of_many(alloc, patches)
     }
 }
 
-// None says nothing of the patches.
-fn joined_in_turn(alloc: Global, patches: &[&[u8]]) -> Result<Option<Value>, TextsFault>
-    ensures { MatchResult result
-        (λ found. IfSome found (λ j. (ds : List Document)
-        × AreRead (given patches.now) ds × IsJoin ds (value_document j)))
-        (λ fault. IsPatchesFault fault (given patches.now)) }
-{
-    laws::join_grows();
-    let Some(first) = patches.first() else {
-        return Ok(None);
-    };
-    let mut joined = read_patch_value(alloc, first, 0)?;
-    for number in 1..patches.len() {
-        let patch = read_patch_value(alloc, patches[number], number)?;
-        if !join_value(alloc, &mut joined, patch)? {
-            return Ok(None);
-        }
-    }
-    Ok(Some(joined))
-}
-
-fn joined_of_all(alloc: Global, patches: &[&[u8]]) -> Result<Value, TextsFault>
+fn joined_of_few(alloc: Global, patches: &[&[u8]]) -> Result<Value, TextsFault>
     ensures { MatchResult result
         (λ j. (ds : List Document) × AreRead (given patches.now) ds × IsJoin ds (value_document j))
         (λ fault. IsJoinTextFault fault (given patches.now)) }
@@ -67,4 +53,49 @@ fn read_patches(alloc: Global, patches: &[&[u8]]) -> Result<Vec<Value>, TextsFau
         values.push(read_patch_value(alloc, text, number)?)?;
     }
     Ok(values)
+}
+
+fn joined_of_many(alloc: Global, patches: &[&[u8]]) -> Result<Value, TextsFault>
+    requires { 0 < length patches.now }
+    ensures { MatchResult result
+        (λ j. (ds : List Document) × AreRead (given patches.now) ds × IsJoin ds (value_document j))
+        (λ fault. IsJoinTextFault fault (given patches.now)) }
+{
+    match joined_in_turn(alloc, patches)? {
+        Turns::Joined(joined) => Ok(joined),
+        Turns::Clash(second) => {
+            let (first, places) = clash_at(alloc, patches, second)?;
+            Err(TextsFault::List(ListFault::ConflictOf {
+                first,
+                second,
+                places,
+            }))
+        }
+    }
+}
+
+// What joining one patch after another comes to: their join, or the number of the first that conflicts with one before it.
+#[derive(Drop)]
+pub(crate) enum Turns {
+    Joined(Value),
+    Clash(usize),
+}
+
+fn joined_in_turn(alloc: Global, patches: &[&[u8]]) -> Result<Turns, TextsFault>
+    requires { 0 < length patches.now }
+    ensures { MatchResult result (λ turns. IsTurns turns (given patches.now))
+        (λ fault. IsPatchesFault fault (given patches.now)) }
+{
+    laws::join_grows();
+    let Some(first) = patches.first() else {
+        unreachable!();
+    };
+    let mut joined = read_patch_value(alloc, first, 0)?;
+    for number in 1..patches.len() {
+        let patch = read_patch_value(alloc, patches[number], number)?;
+        if !join_value(alloc, &mut joined, patch)? {
+            return Ok(Turns::Clash(number));
+        }
+    }
+    Ok(Turns::Joined(joined))
 }

@@ -1,10 +1,11 @@
-use Rattle.std.proofs.Common.{◌≡◌, ℕ, List, [], ◌∷◌, ◌++◌, Bor, take, MatchBool, Ok, refl, sym, subst, arith}
-use Rattle.std.proofs.lemmas.List.{length-map, take_all}
+use Rattle.std.proofs.Common.{◌≡◌, ℕ, List, [], ◌∷◌, ◌++◌, Bor, take, MatchBool, Ok, refl, sym, ◌∙◌, subst, arith}
+use Rattle.std.proofs.lemmas.List.{length-map, length-take-le, take_all}
 use Rattle.mp_tree.specs.Text.{document_in}
 use Rattle.mp_tree.specs.Values.{value_document}
 use Rattle.mp_merge.specs.Clash.{Compatible}
 use Rattle.mp_merge.specs.Join.{IsJoin}
 use Rattle.mp_texts.specs.Texts.{AreRead, given}
+use Rattle.mp_texts.proofs.Numbered.{read_count}
 use Rattle.mp_texts.proofs.Readings.{AreRead-cons}
 use Rattle.mp_texts.proofs.Sayings.{join_of_one}
 use Rattle.mp_texts.specs.Private.Unread.{IsPatchesFault}
@@ -45,6 +46,23 @@ loop-number-preserved c =
       next_reading c.args.patches.now c.loop-number.number _ c.loop-number-test.true ds p read c.in_ok-patch.ensures,
       (c.join_grows.ensures ds p j now is).1 pair,
     )
+
+pub returns-then-not-branch : goal.returns-then-not-branch
+returns-then-not-branch c =
+    let (ds, read, is) = c.loop-number.invariant in
+    let k = c.loop-number.number in
+    let p = value_document c.in_ok-patch.patch in
+    let j = value_document c.loop-number.joined in
+    let now = value_document c.join_value.new.joined in
+    record {
+      before = ds;
+      other = p;
+      joined = j;
+      read = next_reading c.args.patches.now k _ c.loop-number-test.true ds p read c.in_ok-patch.ensures;
+      count = read_count (take k (given c.args.patches.now)) ds read ∙ length-take-le k (given c.args.patches.now) (omega (arith, c.loop-number-test.true, length-map c.args.patches.now (λ (t : Bor (List ℕ)). t.now)));
+      is_join = is;
+      clash = subst (λ b. MatchBool b (IsJoin (j ∷ p ∷ []) now) (¬ Compatible j p)) c.if-not-branch.true c.in_ok-join_value.ensures;
+    }
 
 pub returns : goal.returns
 returns c =
