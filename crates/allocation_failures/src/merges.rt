@@ -28,6 +28,11 @@ pub const JOIN: &str = r#"{"a":{"x":1,"y":null},"k":null}"#;
 
 pub const OUTCOME: &str = r#"{"a":{"x":1}}"#;
 
+/// A document, and a patch that is rewritten against it: the edits test and remove 2, and add {}.
+pub const CHANGED: &str = r#"{"a":1,"b":{"c":2}}"#;
+
+pub const REWRITTEN: &str = r#"{"a":1,"b":{"c":null,"d":{"e":null}},"x":null}"#;
+
 /// The names that `watch` takes.
 pub const CALLS: &[&str] = &[
     "conflict",
@@ -249,7 +254,7 @@ fn watch_replay_owned(alloc: Global) -> Option<Seen> {
 }
 
 /// Of edits that test and remove `old`, and add `new`.
-fn of_edits(given: Result<JsonPatch, AllocError>, old: &Doc, new: &Doc) -> Seen {
+pub fn of_edits(given: Result<JsonPatch, AllocError>, old: &Doc, new: &Doc) -> Seen {
     match given {
         Ok(edits) => Seen::answer_if(are_edits(edits.ops(), old, new)),
         Err(_) => Seen::NoMemory,
@@ -274,13 +279,7 @@ fn are_edits(ops: &[Op], old: &Doc, new: &Doc) -> bool {
 }
 
 fn watch_rewrite(alloc: Global) -> Option<Seen> {
-    let borrowed = two_docs_of(
-        alloc,
-        [
-            r#"{"a":1,"b":{"c":2}}"#,
-            r#"{"a":1,"b":{"c":null,"d":{"e":null}},"x":null}"#,
-        ],
-    )?;
+    let borrowed = two_docs_of(alloc, [CHANGED, REWRITTEN])?;
     let values = two_docs_of(alloc, ["2", "{}"])?;
     let [doc, patch] = &borrowed;
     let [two, empty] = &values;

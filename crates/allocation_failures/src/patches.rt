@@ -2,7 +2,7 @@
 use crate::preparing::{doc_of, patch_of, pointer_of, three_docs_of, two_docs_of};
 use crate::seen::{Seen, has_tokens};
 use mp_patch::{ApplyFault, FormFault, JsonPatch, Op};
-use mp_tree::Doc;
+use mp_tree::{Doc, read_value};
 use std::alloc::Global;
 
 /// A form of one operation.
@@ -28,6 +28,7 @@ pub const CALLS: &[&str] = &[
     "fifth_push",
     "from_doc",
     "from_doc_owned",
+    "from_value_owned",
     "push",
     "to_doc",
     "write_patch",
@@ -44,6 +45,7 @@ pub fn watch(alloc: Global, name: &str) -> Option<Option<Seen>> {
         "fifth_push" => watch_fifth_push(alloc),
         "from_doc" => watch_from_doc(alloc),
         "from_doc_owned" => watch_from_doc_owned(alloc),
+        "from_value_owned" => watch_from_value_owned(alloc),
         "push" => watch_push(alloc),
         "to_doc" => watch_to_doc(alloc),
         "write_patch" => watch_write_patch(alloc),
@@ -121,14 +123,25 @@ fn is_addition(patch: &JsonPatch, value: &Doc) -> bool {
     }
 }
 
+/// Of the form `VALUED_FORM`.
+fn of_addition(given: Result<JsonPatch, FormFault>, value: &Doc) -> Seen {
+    match given {
+        Ok(patch) => Seen::answer_if(is_addition(&patch, value)),
+        Err(FormFault::OutOfMemory) => Seen::NoMemory,
+        Err(_) => Seen::Wrong,
+    }
+}
+
 fn watch_from_doc_owned(alloc: Global) -> Option<Seen> {
     let form = doc_of(alloc, VALUED_FORM)?;
     let value = doc_of(alloc, "[5]")?;
-    Some(match JsonPatch::from_doc_owned(alloc, form) {
-        Ok(patch) => Seen::answer_if(is_addition(&patch, &value)),
-        Err(FormFault::OutOfMemory) => Seen::NoMemory,
-        Err(_) => Seen::Wrong,
-    })
+    Some(of_addition(JsonPatch::from_doc_owned(alloc, form), &value))
+}
+
+fn watch_from_value_owned(alloc: Global) -> Option<Seen> {
+    let form = read_value(alloc, VALUED_FORM.as_bytes()).ok()?;
+    let value = doc_of(alloc, "[5]")?;
+    Some(of_addition(JsonPatch::from_value_owned(alloc, form), &value))
 }
 
 fn watch_to_doc(alloc: Global) -> Option<Seen> {

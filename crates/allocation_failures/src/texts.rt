@@ -30,15 +30,57 @@ const OTHER: &str = r#"{"a":{"x":2,"y":[1]},"b":null,"c":{"d":1}}"#;
 
 const PLACES: &[&[&str]] = &[&["a", "x"], &["b"], &["c"]];
 
+/// More patches than are all read before they are joined, some of them twice; their join, and what they make of the start.
+const MANY: &[&[u8]] = &[
+    br#"{"a":{"x":1}}"#,
+    br#"{"k":null}"#,
+    br#"{"a":{"y":null}}"#,
+    br#"{"b":[{"t":"text"}]}"#,
+    br#"{"a":{"x":1}}"#,
+    br#"{"a":{"z":{"w":true}}}"#,
+    br#"{"k":null}"#,
+    br#"{"c":{}}"#,
+    br#"{"a":{"z":{"v":-1}}}"#,
+    br#"{"b":[{"t":"text"}]}"#,
+    br#"{"d":"text"}"#,
+    br#"{"c":{},"e":5}"#,
+];
+
+const MANY_JOIN: &str =
+    r#"{"a":{"x":1,"y":null,"z":{"v":-1,"w":true}},"b":[{"t":"text"}],"c":{},"d":"text","e":5,"k":null}"#;
+
+const MANY_OUTCOME: &str =
+    r#"{"a":{"x":1,"z":{"v":-1,"w":true}},"b":[{"t":"text"}],"c":{},"d":"text","e":5}"#;
+
+/// More than those few too, of which those with the numbers 2 and 6 conflict, and after them 3 and 9.
+const MANY_CLASHING: &[&[u8]] = &[
+    br#"{"a":{"x":1}}"#,
+    br#"{"k":null}"#,
+    br#"{"a":{"y":null},"b":[1]}"#,
+    br#"{"c":{}}"#,
+    br#"{"a":{"x":1}}"#,
+    br#"{"a":{"z":3}}"#,
+    br#"{"a":{"x":1,"y":0},"b":{"d":2}}"#,
+    br#"{"k":null}"#,
+    br#"{"c":{}}"#,
+    br#"{"c":7}"#,
+    br#"{"d":"text"}"#,
+];
+
+const MANY_PLACES: &[&[&str]] = &[&["a", "y"], &["b"]];
+
 /// The names that `watch` takes.
 pub const CALLS: &[&str] = &[
     "join_texts",
     "join_texts_of_an_unread",
     "join_texts_of_clashing",
+    "join_texts_of_many",
+    "join_texts_of_many_clashing",
     "merge_texts",
     "part_text",
     "patch_text",
     "replay_texts",
+    "replay_texts_of_many",
     "rewrite_text",
     "write_places",
 ];
@@ -49,10 +91,13 @@ pub fn watch(alloc: Global, name: &str) -> Option<Option<Seen>> {
         "join_texts" => watch_join_texts(alloc),
         "join_texts_of_an_unread" => watch_join_texts_of_an_unread(alloc),
         "join_texts_of_clashing" => watch_join_texts_of_clashing(alloc),
+        "join_texts_of_many" => watch_join_texts_of_many(alloc),
+        "join_texts_of_many_clashing" => watch_join_texts_of_many_clashing(alloc),
         "merge_texts" => watch_merge_texts(alloc),
         "part_text" => watch_part_text(alloc),
         "patch_text" => watch_patch_text(alloc),
         "replay_texts" => watch_replay_texts(alloc),
+        "replay_texts_of_many" => watch_replay_texts_of_many(alloc),
         "rewrite_text" => watch_rewrite_text(alloc),
         "write_places" => watch_write_places(alloc),
         _ => return None,
@@ -68,8 +113,8 @@ fn seen_text(given: Result<String, TextsFault>, wanted: &str) -> Seen {
     }
 }
 
-/// Of a call over the two patches that conflict.
-fn seen_clash(given: Result<String, TextsFault>) -> Seen {
+/// Of a call over patches of which these two conflict, at these places.
+fn seen_clash(given: Result<String, TextsFault>, pair: (usize, usize), wanted: &[&[&str]]) -> Seen {
     match given {
         Err(
             TextsFault::List(
@@ -79,7 +124,7 @@ fn seen_clash(given: Result<String, TextsFault>) -> Seen {
                     places,
                 },
             ),
-        ) => Seen::answer_if(first == 0 && second == 1 && are_pointers(places.as_slice(), PLACES)),
+        ) => Seen::answer_if((first, second) == pair && are_pointers(places.as_slice(), wanted)),
         Err(TextsFault::OutOfMemory) => Seen::NoMemory,
         _ => Seen::Wrong,
     }
@@ -92,7 +137,17 @@ fn watch_join_texts(alloc: Global) -> Option<Seen> {
 
 fn watch_join_texts_of_clashing(alloc: Global) -> Option<Seen> {
     let patches = [ONE.as_bytes(), OTHER.as_bytes()];
-    Some(seen_clash(mp_texts::join_texts(alloc, &patches)))
+    Some(seen_clash(mp_texts::join_texts(alloc, &patches), (0, 1), PLACES))
+}
+
+fn watch_join_texts_of_many(alloc: Global) -> Option<Seen> {
+    Some(seen_text(mp_texts::join_texts(alloc, MANY), MANY_JOIN))
+}
+
+/// All are read again, since what was joined in turn is gone.
+fn watch_join_texts_of_many_clashing(alloc: Global) -> Option<Seen> {
+    let given = mp_texts::join_texts(alloc, MANY_CLASHING);
+    Some(seen_clash(given, (2, 6), MANY_PLACES))
 }
 
 fn watch_join_texts_of_an_unread(alloc: Global) -> Option<Seen> {
@@ -110,6 +165,11 @@ fn watch_replay_texts(alloc: Global) -> Option<Seen> {
     let patches = [K.as_bytes(), Y.as_bytes(), X.as_bytes()];
     let given = mp_texts::replay_texts(alloc, START.as_bytes(), &patches);
     Some(seen_text(given, OUTCOME))
+}
+
+fn watch_replay_texts_of_many(alloc: Global) -> Option<Seen> {
+    let given = mp_texts::replay_texts(alloc, START.as_bytes(), MANY);
+    Some(seen_text(given, MANY_OUTCOME))
 }
 
 fn watch_merge_texts(alloc: Global) -> Option<Seen> {

@@ -1,8 +1,10 @@
 //! The calls of mp_tree and mp_merge over `serde_json`'s values that take memory.
 use crate::merges::{
-    CHANGE, CLASHING, JOIN, MERGED, OUTCOME, PATCHES, PLACES, START, TARGET, of_clash,
+    CHANGE, CHANGED, CLASHING, JOIN, MERGED, OUTCOME, PATCHES, PLACES, REWRITTEN, START, TARGET,
+    of_clash, of_edits,
 };
-use crate::seen::Seen;
+use crate::preparing::{doc_of, two_docs_of};
+use crate::seen::{Seen, are_pointers};
 use mp_merge::ListFault;
 use mp_tree::{DocsFault, ReadFault, read_value, read_values, same_value};
 use serde_json::Value;
@@ -18,6 +20,10 @@ const WIDE_JOIN: &str = r#"{"a":1,"b":"t","c":[{}],"d":4,"e":5,"f":6,"g":7,"h":8
 
 /// The names that `watch` takes.
 pub const CALLS: &[&str] = &[
+    "conflict_values",
+    "copy_value",
+    "copy_value_of_wide",
+    "doc_of_value",
     "join_all_values",
     "join_all_values_of_clashing",
     "join_all_values_of_wide",
@@ -27,12 +33,17 @@ pub const CALLS: &[&str] = &[
     "read_value",
     "read_values",
     "replay_values",
+    "rewrite_value",
     "write_value",
 ];
 
 /// Watches the call of this name, if there is one.
 pub fn watch(alloc: Global, name: &str) -> Option<Option<Seen>> {
     Some(match name {
+        "conflict_values" => watch_conflict_values(alloc),
+        "copy_value" => watch_copy_value(alloc),
+        "copy_value_of_wide" => watch_copy_value_of_wide(alloc),
+        "doc_of_value" => watch_doc_of_value(alloc),
         "join_all_values" => watch_join_all_values(alloc),
         "join_all_values_of_clashing" => watch_join_all_values_of_clashing(alloc),
         "join_all_values_of_wide" => watch_join_all_values_of_wide(alloc),
@@ -42,6 +53,7 @@ pub fn watch(alloc: Global, name: &str) -> Option<Option<Seen>> {
         "read_value" => watch_read_value(alloc),
         "read_values" => watch_read_values(alloc),
         "replay_values" => watch_replay_values(alloc),
+        "rewrite_value" => watch_rewrite_value(alloc),
         "write_value" => watch_write_value(alloc),
         _ => return None,
     })
@@ -49,6 +61,13 @@ pub fn watch(alloc: Global, name: &str) -> Option<Option<Seen>> {
 
 fn value_of(alloc: Global, text: &str) -> Option<Value> {
     read_value(alloc, text.as_bytes()).ok()
+}
+
+fn two_values_of(alloc: Global, texts: [&str; 2]) -> Option<[Value; 2]> {
+    let [text, other] = texts;
+    let first = value_of(alloc, text)?;
+    let second = value_of(alloc, other)?;
+    Some([first, second])
 }
 
 fn values_of(alloc: Global, text: &str) -> Option<Vec<Value>> {
@@ -108,6 +127,28 @@ fn watch_write_value(alloc: Global) -> Option<Seen> {
     Some(Seen::of_text(mp_tree::write_value(alloc, &value), TEXT))
 }
 
+/// Of a value, which is as it was, and its copy.
+fn watch_copy(alloc: Global, text: &str) -> Option<Seen> {
+    let values = two_values_of(alloc, [text, text])?;
+    let [value, before] = &values;
+    let seen = of_value(mp_tree::copy_value(alloc, value), before);
+    Some(seen.with(same_value(value, before)))
+}
+
+fn watch_copy_value(alloc: Global) -> Option<Seen> {
+    watch_copy(alloc, TEXT)
+}
+
+fn watch_copy_value_of_wide(alloc: Global) -> Option<Seen> {
+    watch_copy(alloc, WIDE_JOIN)
+}
+
+fn watch_doc_of_value(alloc: Global) -> Option<Seen> {
+    let value = value_of(alloc, TEXT)?;
+    let wanted = doc_of(alloc, TEXT)?;
+    Some(Seen::of_doc(mp_tree::doc_of_value(alloc, value), &wanted))
+}
+
 fn watch_merge_value(alloc: Global) -> Option<Seen> {
     let wanted = value_of(alloc, MERGED)?;
     let target = value_of(alloc, TARGET)?;
@@ -156,6 +197,30 @@ fn watch_join_all_values_of_clashing(alloc: Global) -> Option<Seen> {
     let patches = values_of(alloc, CLASHING)?;
     let given = mp_merge::join_all_values(alloc, patches.as_slice());
     Some(of_clash(given, (0, 1), PLACES))
+}
+
+fn watch_conflict_values(alloc: Global) -> Option<Seen> {
+    let patches = values_of(alloc, CLASHING)?;
+    let before = values_of(alloc, CLASHING)?;
+    let [p, q] = patches.as_slice() else {
+        return None;
+    };
+    let seen = match mp_merge::conflict_values(alloc, p, q) {
+        Ok(places) => Seen::answer_if(are_pointers(places.as_slice(), PLACES)),
+        Err(_) => Seen::NoMemory,
+    };
+    Some(seen.with(are_same_values(patches.as_slice(), before.as_slice())))
+}
+
+fn watch_rewrite_value(alloc: Global) -> Option<Seen> {
+    let borrowed = two_values_of(alloc, [CHANGED, REWRITTEN])?;
+    let values = two_values_of(alloc, [CHANGED, REWRITTEN])?;
+    let docs = two_docs_of(alloc, ["2", "{}"])?;
+    let [value, patch] = &borrowed;
+    let [value_before, patch_before] = &values;
+    let [two, empty] = &docs;
+    let seen = of_edits(mp_merge::rewrite_value(alloc, value, patch), two, empty);
+    Some(seen.with(same_value(value, value_before) && same_value(patch, patch_before)))
 }
 
 fn watch_replay_values(alloc: Global) -> Option<Seen> {

@@ -7,7 +7,7 @@ use crate::seen::{Seen, has_tokens};
 use mp_cli::{Counted, RunFault};
 use mp_patch::JsonPatch;
 use mp_pointer::Pointer;
-use mp_tree::{Doc, Whole, read_value, same_value};
+use mp_tree::{Doc, Whole, read_value, read_values, same_value};
 use serde_json::Value;
 use std::alloc::Global;
 use std::mem;
@@ -25,9 +25,13 @@ const INDICES: &[(&str, Option<usize>)] = &[
     ("18446744073709551616", None),
 ];
 
+/// Two patches that are compatible, and one that conflicts with the first.
+const PATCHES: &str = r#"[{"a":{"x":1}},{"a":{"y":null}},{"a":{"x":2}}]"#;
+
 /// The names that `watch` takes.
 pub const CALLS: &[&str] = &[
     "compatible",
+    "compatible_values",
     "counted_devices",
     "edit_part",
     "empty",
@@ -55,6 +59,7 @@ pub const CALLS: &[&str] = &[
 pub fn watch(alloc: Global, name: &str) -> Option<Option<Seen>> {
     Some(match name {
         "compatible" => watch_compatible(alloc),
+        "compatible_values" => watch_compatible_values(alloc),
         "counted_devices" => Some(watch_counted_devices()),
         "edit_part" => watch_edit_part(alloc),
         "empty" => Some(watch_empty(alloc)),
@@ -285,12 +290,21 @@ fn watch_same_op(alloc: Global) -> Option<Seen> {
 }
 
 fn watch_compatible(alloc: Global) -> Option<Seen> {
-    let docs = docs_of(alloc, r#"[{"a":{"x":1}},{"a":{"y":null}},{"a":{"x":2}}]"#)?;
+    let docs = docs_of(alloc, PATCHES)?;
     let [p, q, other] = docs.as_slice() else {
         return None;
     };
     let joinable = mp_merge::compatible(p, q) && mp_merge::compatible(p, p);
     Some(Seen::answer_if(joinable && !mp_merge::compatible(p, other)))
+}
+
+fn watch_compatible_values(alloc: Global) -> Option<Seen> {
+    let values = read_values(alloc, PATCHES.as_bytes()).ok()?;
+    let [p, q, other] = values.as_slice() else {
+        return None;
+    };
+    let joinable = mp_merge::compatible_values(p, q) && mp_merge::compatible_values(p, p);
+    Some(Seen::answer_if(joinable && !mp_merge::compatible_values(p, other)))
 }
 
 /// An object of nulls and objects alone, into a target that has an object wherever the patch has one.
