@@ -30,7 +30,7 @@ const OTHER: &str = r#"{"a":{"x":2,"y":[1]},"b":null,"c":{"d":1}}"#;
 
 const PLACES: &[&[&str]] = &[&["a", "x"], &["b"], &["c"]];
 
-/// More patches than are all read before they are joined, some of them twice; their join, and what they make of the start.
+/// Patches of which some come twice; their join, and what they make of the start.
 const MANY: &[&[u8]] = &[
     br#"{"a":{"x":1}}"#,
     br#"{"k":null}"#,
@@ -52,7 +52,7 @@ const MANY_JOIN: &str =
 const MANY_OUTCOME: &str =
     r#"{"a":{"x":1,"z":{"v":-1,"w":true}},"b":[{"t":"text"}],"c":{},"d":"text","e":5}"#;
 
-/// More than those few too, of which those with the numbers 2 and 6 conflict, and after them 3 and 9.
+/// Patches of which those with the numbers 2 and 6 conflict, and after them 3 and 9.
 const MANY_CLASHING: &[&[u8]] = &[
     br#"{"a":{"x":1}}"#,
     br#"{"k":null}"#,
@@ -140,13 +140,24 @@ fn watch_join_texts_of_clashing(alloc: Global) -> Option<Seen> {
     Some(seen_clash(mp_texts::join_texts(alloc, &patches), (0, 1), PLACES))
 }
 
+/// The texts four times over: more than are all kept until they are joined.
+fn often(alloc: Global, texts: &'static [&'static [u8]]) -> Option<Vec<&'static [u8]>> {
+    let mut many = Vec::new(alloc);
+    for _ in 0..4 {
+        many.extend_from_slice(texts).ok()?;
+    }
+    Some(many)
+}
+
 fn watch_join_texts_of_many(alloc: Global) -> Option<Seen> {
-    Some(seen_text(mp_texts::join_texts(alloc, MANY), MANY_JOIN))
+    let many = often(alloc, MANY)?;
+    Some(seen_text(mp_texts::join_texts(alloc, many.as_slice()), MANY_JOIN))
 }
 
 /// All are read again, since what was joined in turn is gone.
 fn watch_join_texts_of_many_clashing(alloc: Global) -> Option<Seen> {
-    let given = mp_texts::join_texts(alloc, MANY_CLASHING);
+    let many = often(alloc, MANY_CLASHING)?;
+    let given = mp_texts::join_texts(alloc, many.as_slice());
     Some(seen_clash(given, (2, 6), MANY_PLACES))
 }
 
@@ -168,7 +179,8 @@ fn watch_replay_texts(alloc: Global) -> Option<Seen> {
 }
 
 fn watch_replay_texts_of_many(alloc: Global) -> Option<Seen> {
-    let given = mp_texts::replay_texts(alloc, START.as_bytes(), MANY);
+    let many = often(alloc, MANY)?;
+    let given = mp_texts::replay_texts(alloc, START.as_bytes(), many.as_slice());
     Some(seen_text(given, MANY_OUTCOME))
 }
 

@@ -21,6 +21,8 @@ const WIDE_JOIN: &str = r#"{"a":1,"b":"t","c":[{}],"d":4,"e":5,"f":6,"g":7,"h":8
 /// The names that `watch` takes.
 pub const CALLS: &[&str] = &[
     "conflict_values",
+    "copy_to_doc",
+    "copy_to_doc_of_wide",
     "copy_value",
     "copy_value_of_wide",
     "doc_of_value",
@@ -41,6 +43,8 @@ pub const CALLS: &[&str] = &[
 pub fn watch(alloc: Global, name: &str) -> Option<Option<Seen>> {
     Some(match name {
         "conflict_values" => watch_conflict_values(alloc),
+        "copy_to_doc" => watch_copy_to_doc(alloc),
+        "copy_to_doc_of_wide" => watch_copy_to_doc_of_wide(alloc),
         "copy_value" => watch_copy_value(alloc),
         "copy_value_of_wide" => watch_copy_value_of_wide(alloc),
         "doc_of_value" => watch_doc_of_value(alloc),
@@ -141,6 +145,23 @@ fn watch_copy_value(alloc: Global) -> Option<Seen> {
 
 fn watch_copy_value_of_wide(alloc: Global) -> Option<Seen> {
     watch_copy(alloc, WIDE_JOIN)
+}
+
+/// Of a value, which is as it was, and the document that is a copy of it.
+fn watch_doc_copied(alloc: Global, text: &str) -> Option<Seen> {
+    let values = two_values_of(alloc, [text, text])?;
+    let [value, before] = &values;
+    let wanted = doc_of(alloc, text)?;
+    let seen = Seen::of_doc(mp_tree::copy_to_doc(alloc, value), &wanted);
+    Some(seen.with(same_value(value, before)))
+}
+
+fn watch_copy_to_doc(alloc: Global) -> Option<Seen> {
+    watch_doc_copied(alloc, TEXT)
+}
+
+fn watch_copy_to_doc_of_wide(alloc: Global) -> Option<Seen> {
+    watch_doc_copied(alloc, WIDE_JOIN)
 }
 
 fn watch_doc_of_value(alloc: Global) -> Option<Seen> {

@@ -41,6 +41,3 @@ no_pair_by f [] a other is = (is, is)
 no_pair_by f (v ∷ []) a other is = (is, is)
 no_pair_by f (v ∷ w ∷ []) a other is = absurd (other v w refl)
 no_pair_by f (v ∷ w ∷ x ∷ vs) a other is = (is, is)
-
-pub no_pair : (docs : List Doc) (a : Output) → ((d e : Doc) → docs ≢ d ∷ e ∷ []) → a ≡ wrong_shape → IsPatchAnswerTo (items docs) a × IsRewriteAnswerTo (items docs) a
-no_pair = no_pair_by document

@@ -14,7 +14,7 @@ use crate::lines::{
     apply_fault, form_fault, input_fault, list_fault, part_line, result_line, spelling_fault,
     wrong_shape,
 };
-use mp_merge::{join_all_values, merge_value, replay_values, rewrite as rewriting};
+use mp_merge::{join_all_values, merge_value, replay_values, rewrite_value};
 use mp_patch::{JsonPatch, apply_once, write_patch};
 use mp_pointer::{Pointer, get as part_at};
 use mp_tree::{Doc, doc_of_value, read_docs, read_values, write_doc, write_value};
@@ -58,16 +58,6 @@ fn answer_get(alloc: Global, pointer: &String, input: &[u8]) -> Result<Answer, A
     }
 }
 
-#[tactic(auto, unfolding(crate::specs::Answered::IsAnswered))]
-fn answer_rewrite(alloc: Global, input: &[u8]) -> Result<Answer, AllocError>
-    ensures { IfOk result (λ a. IsAnswered Rewrite input.now (answered_by a)) }
-{
-    match read_docs(alloc, input) {
-        Ok(docs) => rewrite(alloc, docs),
-        Err(fault) => input_fault(alloc, fault),
-    }
-}
-
 // What is read, changed and written needs no tree of its own: the other commands keep the values that are read.
 #[tactic(auto, unfolding(crate::specs::Answered::IsAnswered))]
 fn answer_patch(alloc: Global, input: &[u8]) -> Result<Answer, AllocError>
@@ -105,6 +95,16 @@ fn answer_replay(alloc: Global, input: &[u8]) -> Result<Answer, AllocError>
 {
     match read_values(alloc, input) {
         Ok(values) => replay(alloc, values),
+        Err(fault) => input_fault(alloc, fault),
+    }
+}
+
+#[tactic(auto, unfolding(crate::specs::Answered::IsAnswered))]
+fn answer_rewrite(alloc: Global, input: &[u8]) -> Result<Answer, AllocError>
+    ensures { IfOk result (λ a. IsAnswered Rewrite input.now (answered_by a)) }
+{
+    match read_values(alloc, input) {
+        Ok(values) => rewrite(alloc, values),
         Err(fault) => input_fault(alloc, fault),
     }
 }
@@ -183,19 +183,19 @@ fn replay(alloc: Global, values: Vec<Value>) -> Result<Answer, AllocError>
     }
 }
 
-fn rewrite(alloc: Global, docs: Vec<Doc>) -> Result<Answer, AllocError>
-    ensures { IfOk result (λ a. IsRewriteAnswerTo (items docs.items) (answered_by a)) }
+fn rewrite(alloc: Global, values: Vec<Value>) -> Result<Answer, AllocError>
+    ensures { IfOk result (λ a. IsRewriteAnswerTo (value_items values.items) (answered_by a)) }
 {
-    let Some((doc, patch)) = pair(docs) else {
+    let Some((doc, patch)) = pair(values) else {
         return wrong_shape(alloc);
     };
     rewrite_patch(alloc, &doc, &patch)
 }
 
-fn rewrite_patch(alloc: Global, doc: &Doc, patch: &Doc) -> Result<Answer, AllocError>
+fn rewrite_patch(alloc: Global, doc: &Value, patch: &Value) -> Result<Answer, AllocError>
     ensures { IfOk result (λ a.
-        IsRewriteAnswer (document doc.now) (document patch.now) (answered_by a)) }
+        IsRewriteAnswer (value_document doc.now) (value_document patch.now) (answered_by a)) }
 {
-    let edits = rewriting(alloc, doc, patch)?;
+    let edits = rewrite_value(alloc, doc, patch)?;
     result_line(write_patch(alloc, &edits)?)
 }

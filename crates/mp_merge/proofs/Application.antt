@@ -2,5 +2,6 @@
 pub mod ByName
 pub mod Depth
 pub mod InTurn
+pub mod Left
 pub mod Looks
 pub mod Resumption

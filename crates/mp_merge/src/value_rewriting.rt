@@ -1,24 +1,24 @@
 //! Merge patches rewritten as JSON Patches, of a document and a patch that are `serde_json`'s values.
 ghost use Rattle.std.specs.Prelude.{◌≡◌, ◌≤◌, ◌↔◌, ◌++◌, ◌∷◌, [], None, Some, IfOk, OnOk, IsTrue, option_map};
 ghost use Rattle.mp_patch.specs.Operation.{test};
-ghost use Rattle.mp_tree.specs.Document.{depth, depth_limit, null};
-ghost use Rattle.mp_tree.specs.Private.Entries.{value_members};
+ghost use Rattle.mp_tree.specs.Document.{depth, depth_limit, no_members, null};
+ghost use Rattle.mp_tree.specs.Private.Entries.{members, value_members};
 ghost use Rattle.mp_tree.specs.Values.{value_document};
 ghost use Rattle.mp_tree.specs.View.{document};
 ghost use Rattle.mp_patch.specs.Run.{Runs};
 ghost use Rattle.mp_patch.specs.View.{operation_of, operations_of};
-ghost use Rattle.mp_merge.specs.Application.{merge_patch};
+ghost use Rattle.mp_merge.specs.Application.{merge_patch, merge_patch_members};
 ghost use Rattle.mp_merge.specs.Private.Edits.{IsOneEdit, NotBothMaps, AreEdits, AreMemberEdits, Gathered, lists_of, followed_by};
 ghost use Rattle.mp_merge.specs.Rewriting.{IsRewriting};
 
 use crate::laws;
 use crate::rewriting::{Edits, push_ops};
-use crate::valued::merge_value;
 use mp_patch::{JsonPatch, Op};
 use mp_pointer::Pointer;
-use mp_tree::{Doc, copy_value, doc_of_value, same_value};
+use mp_tree::{Doc, copy_to_doc, same_value};
 use serde_json::{Map, Value};
 use std::alloc::{AllocError, Global};
+use std::collections::BTreeMap;
 
 /// As `rewrite`, of a document and a patch that are values: of both, what stands in the result alone becomes a document.
 ///
@@ -174,18 +174,42 @@ fn push_guarded(
     ensures { OnOk result (lists_of found.new ≡ followed_by (lists_of found.old)
         ((test place (value_document there.now) ∷ [], operation_of op) ∷ [])) }
 {
-    let value = doc_of_value(alloc, copy_value(alloc, there)?)?;
-    found.guards.push(Op::Test(place, value))?;
+    found
+        .guards
+        .push(Op::Test(place, copy_to_doc(alloc, there)?))?;
     found.edits.push(op)?;
     Ok(())
 }
 
-// What a patch leaves where there was nothing (RFC 7396 section 2), as a document.
+// What a patch leaves where there was nothing (RFC 7396 section 2), as a document: a null below the root is left out.
+#[cycle(left_by)]
 fn left_by(patch: &Value, alloc: Global) -> Result<Doc, AllocError>
     ensures { IfOk result (λ d. document d ≡ merge_patch None (value_document patch.now)) }
 {
-    let left = merge_value(alloc, None, copy_value(alloc, patch)?)?;
-    doc_of_value(alloc, left)
+    match patch {
+        Value::Object(changes) => Ok(Doc::Members(left_members(changes, alloc)?)),
+        _ => copy_to_doc(alloc, patch),
+    }
+}
+
+#[cycle(left_by)]
+fn left_members(
+    changes: &Map<String, Value>,
+    alloc: Global,
+) -> Result<BTreeMap<String, Doc>, AllocError>
+    ensures { IfOk result (λ m. members m.entries
+        ≡ merge_patch_members no_members (value_members changes.now.entries)) }
+{
+    let mut entries = BTreeMap::new(alloc);
+    for (name, change) in changes.iter() {
+        if is_null(change) {
+            continue;
+        }
+        let value = left_by(change, alloc)?;
+        let copied = String::from_str(alloc, name.as_str())?;
+        drop(entries.insert(copied, value)?);
+    }
+    Ok(entries)
 }
 
 fn is_null(value: &Value) -> bool

@@ -5,8 +5,8 @@ ghost use Rattle.mp_texts.specs.Answers.{IsPartText, IsPatchText, IsRewriteText,
 ghost use Rattle.mp_texts.specs.Faults.{IsPartTextFault, IsPatchTextFault, IsRewriteTextFault};
 
 use crate::fault::TextsFault;
-use crate::reading::{read_document, read_patch, read_patch_value};
-use mp_merge::{laws as merging, rewrite};
+use crate::reading::{read_document, read_document_value, read_patch_value};
+use mp_merge::{laws as merging, rewrite_value};
 use mp_patch::{JsonPatch, apply_once, laws as patching, write_patch};
 use mp_pointer::{Pointer, get, laws as pointing};
 use mp_tree::{Doc, laws as reading, write_doc};
@@ -30,9 +30,9 @@ pub fn rewrite_text(alloc: Global, document: &[u8], patch: &[u8]) -> Result<Stri
     reading::readings_are_documents();
     merging::rewritings_are_writable();
     patching::shapes_are_readable();
-    let doc = read_document(alloc, document)?;
-    let patch = read_patch(alloc, patch, 0)?;
-    let edits = rewrite(alloc, &doc, &patch)?;
+    let doc = read_document_value(alloc, document)?;
+    let patch = read_patch_value(alloc, patch, 0)?;
+    let edits = rewrite_value(alloc, &doc, &patch)?;
     Ok(write_patch(alloc, &edits)?)
 }
 

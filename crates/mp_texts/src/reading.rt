@@ -24,19 +24,6 @@ pub(crate) fn read_document(alloc: Global, text: &[u8]) -> Result<Doc, TextsFaul
     }
 }
 
-// The text of the patch with that number.
-pub(crate) fn read_patch(alloc: Global, text: &[u8], number: usize) -> Result<Doc, TextsFault>
-    ensures read { MatchResult result (λ d. document_in text.now ≡ Ok (document d))
-        (λ fault. IsPatchFault fault text.now number) }
-    ensures depth { IfOk result (λ d. depth (document d) ≤ depth_limit) }
-{
-    match read_doc(alloc, text) {
-        Ok(doc) => Ok(doc),
-        Err(ReadFault::OutOfMemory) => Err(TextsFault::OutOfMemory),
-        Err(fault) => Err(TextsFault::Patch { number, fault }),
-    }
-}
-
 // The text of a document, kept as the value that is read.
 pub(crate) fn read_document_value(alloc: Global, text: &[u8]) -> Result<Value, TextsFault>
     ensures { MatchResult result (λ v. document_in text.now ≡ Ok (value_document v))

@@ -18,7 +18,7 @@ use serde_json::Value;
 use std::alloc::Global;
 
 // Up to so many patches are kept until they are joined.
-const FEW: usize = 8;
+const FEW: usize = 32;
 
 // The join of the patches.
 pub(crate) fn joined_value(alloc: Global, patches: &[&[u8]]) -> Result<Value, TextsFault>

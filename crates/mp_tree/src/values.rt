@@ -12,6 +12,7 @@ ghost use Rattle.mp_tree.specs.Values.{value_document, value_items};
 ghost use Rattle.mp_tree.specs.View.{document};
 
 use crate::converting::doc_of;
+use crate::copying::doc_copied;
 use crate::doc::Doc;
 use crate::fault::{DocsFault, ReadFault};
 use crate::reading::{DEPTH_LIMIT, Tree, read_tree};
@@ -82,6 +83,17 @@ pub fn copy_value(alloc: Global, value: &Value) -> Result<Value, AllocError>
     ensures equal { IfOk result (λ v. value_document v ≡ value_document value.now) }
 {
     copy_of(value, alloc)
+}
+
+/// A document that the value means, and that shares nothing with it. `AllocError` if memory ran out.
+///
+/// ```text
+/// copy_to_doc(alloc, &read_value(alloc, bytes)?)  // as read_doc(alloc, bytes)
+/// ```
+pub fn copy_to_doc(alloc: Global, value: &Value) -> Result<Doc, AllocError>
+    ensures equal { IfOk result (λ d. document d ≡ value_document value.now) }
+{
+    doc_copied(value, alloc)
 }
 
 /// The document that the value means, with its texts and names: they are moved. `AllocError` if memory ran out.

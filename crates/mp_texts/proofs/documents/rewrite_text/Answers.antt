@@ -1,5 +1,5 @@
 use Rattle.std.proofs.Common.{string_bytes}
-use Rattle.mp_tree.specs.View.{document}
+use Rattle.mp_tree.specs.Values.{value_document}
 use Rattle.mp_tree.proofs.Facts.{document_in-read}
 use Rattle.mp_patch.specs.Form.{shapes}
 use Rattle.mp_patch.specs.View.{operations_of}
@@ -8,17 +8,17 @@ use Rattle.mp_texts.proofs.documents.rewrite_text.Goals as goal
 -- its operations can be written, since the document and the patch can be read
 pub returns : goal.returns
 returns c =
-    let d = document c.in_ok-doc.doc in
-    let p = document c.in_ok-patch.patch in
+    let d = value_document c.in_ok-doc.doc in
+    let p = value_document c.in_ok-patch.patch in
     let operations = operations_of c.in_ok-edits.edits in
     let written = c.in_ok-write_patch in
     let readable = c.readings_are_documents.ensures.document in
-    let writable = c.rewritings_are_writable.ensures.writable d p operations (readable c.args.document.now d c.in_ok-doc.ensures.read) (readable c.args.patch.now p c.in_ok-patch.ensures.read) c.in_ok-edits.ensures.rewriting in
+    let writable = c.rewritings_are_writable.ensures.writable d p operations (readable c.args.document.now d c.in_ok-doc.ensures) (readable c.args.patch.now p c.in_ok-patch.ensures) c.in_ok-edits.ensures.rewriting in
     record {
       from = d;
-      document_read = c.in_ok-doc.ensures.read;
+      document_read = c.in_ok-doc.ensures;
       change = p;
-      patch_read = c.in_ok-patch.ensures.read;
+      patch_read = c.in_ok-patch.ensures;
       operations = operations;
       is_rewriting = c.in_ok-edits.ensures.rewriting;
       is = written.ensures.text;
