@@ -1,8 +1,9 @@
 //! The calls of mp_patch that take memory.
 use crate::preparing::{doc_of, patch_of, pointer_of, three_docs_of, two_docs_of};
 use crate::seen::{Seen, has_tokens};
-use mp_patch::{ApplyFault, FormFault, JsonPatch, Op};
-use mp_tree::{Doc, read_value};
+use mp_patch::{ApplyFault, FormFault, JsonPatch, Op, ValueOp, apply_to_value, ops_of_value};
+use mp_tree::{Doc, read_value, same_value};
+use serde_json::Value;
 use std::alloc::Global;
 
 /// A form of one operation.
@@ -23,12 +24,13 @@ pub const CALLS: &[&str] = &[
     "apply",
     "apply_once",
     "apply_owned",
+    "apply_to_value",
     "copy",
     "copy_op",
     "fifth_push",
     "from_doc",
     "from_doc_owned",
-    "from_value_owned",
+    "ops_of_value",
     "push",
     "to_doc",
     "write_patch",
@@ -40,12 +42,13 @@ pub fn watch(alloc: Global, name: &str) -> Option<Option<Seen>> {
         "apply" => watch_apply(alloc),
         "apply_once" => watch_apply_once(alloc),
         "apply_owned" => watch_apply_owned(alloc),
+        "apply_to_value" => watch_apply_to_value(alloc),
         "copy" => watch_copy(alloc),
         "copy_op" => watch_copy_op(alloc),
         "fifth_push" => watch_fifth_push(alloc),
         "from_doc" => watch_from_doc(alloc),
         "from_doc_owned" => watch_from_doc_owned(alloc),
-        "from_value_owned" => watch_from_value_owned(alloc),
+        "ops_of_value" => watch_ops_of_value(alloc),
         "push" => watch_push(alloc),
         "to_doc" => watch_to_doc(alloc),
         "write_patch" => watch_write_patch(alloc),
@@ -138,10 +141,34 @@ fn watch_from_doc_owned(alloc: Global) -> Option<Seen> {
     Some(of_addition(JsonPatch::from_doc_owned(alloc, form), &value))
 }
 
-fn watch_from_value_owned(alloc: Global) -> Option<Seen> {
+/// Whether the operations are those of `VALUED_FORM`. It takes no memory.
+fn is_value_addition(ops: &[ValueOp], value: &Value) -> bool {
+    match ops {
+        [ValueOp::Add(path, added)] => has_tokens(path, &["a"]) && same_value(added, value),
+        _ => false,
+    }
+}
+
+fn watch_ops_of_value(alloc: Global) -> Option<Seen> {
     let form = read_value(alloc, VALUED_FORM.as_bytes()).ok()?;
-    let value = doc_of(alloc, "[5]")?;
-    Some(of_addition(JsonPatch::from_value_owned(alloc, form), &value))
+    let value = read_value(alloc, b"[5]").ok()?;
+    Some(match ops_of_value(alloc, form) {
+        Ok(ops) => Seen::answer_if(is_value_addition(ops.as_slice(), &value)),
+        Err(FormFault::OutOfMemory) => Seen::NoMemory,
+        Err(_) => Seen::Wrong,
+    })
+}
+
+fn watch_apply_to_value(alloc: Global) -> Option<Seen> {
+    let form = read_value(alloc, LONG_FORM.as_bytes()).ok()?;
+    let ops = ops_of_value(alloc, form).ok()?;
+    let doc = read_value(alloc, DOC.as_bytes()).ok()?;
+    let end = read_value(alloc, END.as_bytes()).ok()?;
+    Some(match apply_to_value(alloc, doc, ops) {
+        Ok(value) => Seen::answer_if(same_value(&value, &end)),
+        Err(ApplyFault::OutOfMemory) => Seen::NoMemory,
+        Err(_) => Seen::Wrong,
+    })
 }
 
 fn watch_to_doc(alloc: Global) -> Option<Seen> {

@@ -34,11 +34,13 @@ pub const CALLS: &[&str] = &[
     "compatible_values",
     "counted_devices",
     "edit_part",
+    "edit_value_part",
     "empty",
     "fault_line",
     "fits",
     "get",
     "get_mut",
+    "get_value",
     "index_of",
     "items_mut",
     "members_mut",
@@ -51,6 +53,7 @@ pub const CALLS: &[&str] = &[
     "same_patch",
     "same_value",
     "tokens",
+    "value_items_mut",
     "value_members_mut",
     "whole",
 ];
@@ -62,11 +65,13 @@ pub fn watch(alloc: Global, name: &str) -> Option<Option<Seen>> {
         "compatible_values" => watch_compatible_values(alloc),
         "counted_devices" => Some(watch_counted_devices()),
         "edit_part" => watch_edit_part(alloc),
+        "edit_value_part" => watch_edit_value_part(alloc),
         "empty" => Some(watch_empty(alloc)),
         "fault_line" => Some(watch_fault_line()),
         "fits" => watch_fits(alloc),
         "get" => watch_get(alloc),
         "get_mut" => watch_get_mut(alloc),
+        "get_value" => watch_get_value(alloc),
         "index_of" => Some(watch_index_of()),
         "items_mut" => watch_items_mut(alloc),
         "members_mut" => watch_members_mut(alloc),
@@ -79,6 +84,7 @@ pub fn watch(alloc: Global, name: &str) -> Option<Option<Seen>> {
         "same_patch" => watch_same_patch(alloc),
         "same_value" => watch_same_value(alloc),
         "tokens" => watch_tokens(alloc),
+        "value_items_mut" => watch_value_items_mut(alloc),
         "value_members_mut" => watch_value_members_mut(alloc),
         "whole" => Some(watch_whole()),
         _ => return None,
@@ -145,6 +151,23 @@ fn watch_same_value(alloc: Global) -> Option<Seen> {
     let equal = read_value(alloc, br#"{"a":null,"b":[1,"t"]}"#).ok()?;
     let other = read_value(alloc, br#"{"a":null,"b":[1,"u"]}"#).ok()?;
     Some(Seen::answer_if(same_value(&value, &equal) && !same_value(&value, &other)))
+}
+
+/// Turns the elements round, and returns whether there are any.
+fn reverse_value(value: &mut Value) -> bool {
+    match mp_tree::value_items_mut(value) {
+        Some(items) => {
+            items.reverse();
+            true
+        }
+        None => false,
+    }
+}
+
+fn watch_value_items_mut(alloc: Global) -> Option<Seen> {
+    let mut value = read_value(alloc, b"[1,2]").ok()?;
+    let wanted = read_value(alloc, b"[2,1]").ok()?;
+    Some(Seen::answer_if(reverse_value(&mut value) && same_value(&value, &wanted)))
 }
 
 /// Takes a member away, and returns whether it was there.
@@ -229,6 +252,34 @@ fn set_to_nine(doc: &mut Doc, pointer: &Pointer) -> bool {
         }
         None => false,
     }
+}
+
+fn watch_get_value(alloc: Global) -> Option<Seen> {
+    let value = read_value(alloc, br#"{"a":[1,2]}"#).ok()?;
+    let wanted = read_value(alloc, b"2").ok()?;
+    let pointers = two_pointers_of(alloc, ["/a/1", "/a/2"])?;
+    let [within, past] = &pointers;
+    let found = match mp_pointer::get_value(&value, within) {
+        Some(part) => same_value(part, &wanted),
+        None => false,
+    };
+    Some(Seen::answer_if(found && mp_pointer::get_value(&value, past).is_none()))
+}
+
+fn watch_edit_value_part(alloc: Global) -> Option<Seen> {
+    let mut value = read_value(alloc, br#"{"a":[1,2]}"#).ok()?;
+    let pointer = pointer_of(alloc, "/a/1")?;
+    let wanted = read_values(alloc, br#"[{"a":[1,null]},2]"#).ok()?;
+    let [left, taken] = wanted.as_slice() else {
+        return None;
+    };
+    let part = mp_pointer::edit_value_part(&mut value, &pointer, pointer.len(), |part| {
+        mem::replace(part, Value::Null)
+    });
+    Some(match part {
+        Some(part) => Seen::answer_if(same_value(&part, taken) && same_value(&value, left)),
+        None => Seen::Wrong,
+    })
 }
 
 fn watch_edit_part(alloc: Global) -> Option<Seen> {

@@ -1,8 +1,6 @@
 -- What the commands over lists of patches answer.
 use Rattle.std.proofs.Common.{◌≡◌, ◌≢◌, ℕ, List, [], ◌∷◌, Some, map, refl, sym, subst}
 use Rattle.mp_tree.specs.Document.{Document}
-use Rattle.mp_tree.specs.View.{document, items}
-use Rattle.mp_tree.specs.declared.doc.Doc.{Doc}
 use Rattle.mp_merge.specs.Lists.{IsJoinAllFault, IsReplayFault}
 use Rattle.mp_merge.specs.declared.fault.ListFault.{ListFault}
 use Rattle.mp_merge.specs.declared.fault.ListFault.TheVariants.{NoPatches, ConflictOf, OutOfMemory}
@@ -27,13 +25,13 @@ replay_answer_by f vs ps v a split is =
     subst (λ us. IsReplayAnswerTo (items_by f us) a) (sym split) (subst (λ (qs : List Document). IsReplayAnswer (f v) qs a) (sym (list_of-by f ps)) is)
 
 -- `get` wants one document
-pub no_single : (pointer : List ℕ) (docs : List Doc) (a : Output) → ((d : Doc) → docs ≢ d ∷ []) → a ≡ wrong_shape → IsGetAnswerTo pointer (items docs) a
-no_single pointer [] a other is = is
-no_single pointer (d ∷ []) a other is = absurd (other d refl)
-no_single pointer (d ∷ e ∷ docs) a other is = is
+pub no_single_by : {V : Type 0} (f : V → Document) (pointer : List ℕ) (vs : List V) (a : Output) → ((v : V) → vs ≢ v ∷ []) → a ≡ wrong_shape → IsGetAnswerTo pointer (items_by f vs) a
+no_single_by f pointer [] a other is = is
+no_single_by f pointer (v ∷ []) a other is = absurd (other v refl)
+no_single_by f pointer (v ∷ w ∷ vs) a other is = is
 
-pub single_part : (pointer : List ℕ) (docs : List Doc) (d : Doc) (a : Output) → docs ≡ d ∷ [] → IsPartAnswer (document d) pointer a → IsGetAnswerTo pointer (items docs) a
-single_part pointer docs d a split is = subst (λ (ds : List Doc). IsGetAnswerTo pointer (items ds) a) (sym split) is
+pub single_part_by : {V : Type 0} (f : V → Document) (pointer : List ℕ) (vs : List V) (v : V) (a : Output) → vs ≡ v ∷ [] → IsPartAnswer (f v) pointer a → IsGetAnswerTo pointer (items_by f vs) a
+single_part_by f pointer vs v a split is = subst (λ us. IsGetAnswerTo pointer (items_by f us) a) (sym split) is
 
 -- `patch` and `rewrite` want two
 pub no_pair_by : {V : Type 0} (f : V → Document) (vs : List V) (a : Output) → ((v w : V) → vs ≢ v ∷ w ∷ []) → a ≡ wrong_shape → IsPatchAnswerTo (items_by f vs) a × IsRewriteAnswerTo (items_by f vs) a

@@ -1,8 +1,7 @@
 //! The answer to an input: the checks in their order, and then the command's work.
 ghost use Rattle.std.specs.Prelude.{map, IfOk};
 ghost use Rattle.mp_tree.specs.Values.{value_document, value_items};
-ghost use Rattle.mp_tree.specs.View.{document, items};
-ghost use Rattle.mp_patch.specs.View.{operations_of};
+ghost use Rattle.mp_patch.specs.View.{value_operations};
 ghost use Rattle.mp_cli.specs.Answered.{IsAnswered, IsGetAnswerTo, IsJoinAnswer, IsPatchAnswer, IsPatchAnswerTo, IsReplayAnswerTo, IsRewriteAnswer, IsRewriteAnswerTo, IsRunAnswer, answered_by, merge_answer};
 ghost use Rattle.mp_cli.specs.Private.Answers.{Gives};
 ghost use Rattle.mp_cli.specs.declared.command.Command.TheVariants.{Get, Patch, Merge, Join, Replay, Rewrite};
@@ -15,9 +14,9 @@ use crate::lines::{
     wrong_shape,
 };
 use mp_merge::{join_all_values, merge_value, replay_values, rewrite_value};
-use mp_patch::{JsonPatch, apply_once, write_patch};
-use mp_pointer::{Pointer, get as part_at};
-use mp_tree::{Doc, doc_of_value, read_docs, read_values, write_doc, write_value};
+use mp_patch::{ValueOp, apply_to_value, ops_of_value, write_patch};
+use mp_pointer::{Pointer, get_value};
+use mp_tree::{read_values, write_value};
 use serde_json::Value;
 use std::alloc::{AllocError, Global};
 
@@ -48,17 +47,17 @@ pub fn answer(alloc: Global, command: &Command, input: &[u8]) -> Result<Answer, 
     }
 }
 
+// What is read is kept as the values that `serde_json` reads.
 #[tactic(auto, unfolding(crate::specs::Answered::IsAnswered))]
 fn answer_get(alloc: Global, pointer: &String, input: &[u8]) -> Result<Answer, AllocError>
     ensures { IfOk result (λ a. IsAnswered (Get pointer.now) input.now (answered_by a)) }
 {
-    match read_docs(alloc, input) {
-        Ok(docs) => get(alloc, pointer.as_str(), docs),
+    match read_values(alloc, input) {
+        Ok(values) => get(alloc, pointer.as_str(), values),
         Err(fault) => input_fault(alloc, fault),
     }
 }
 
-// What is read, changed and written needs no tree of its own: the other commands keep the values that are read.
 #[tactic(auto, unfolding(crate::specs::Answered::IsAnswered))]
 fn answer_patch(alloc: Global, input: &[u8]) -> Result<Answer, AllocError>
     ensures { IfOk result (λ a. IsAnswered Patch input.now (answered_by a)) }
@@ -109,14 +108,15 @@ fn answer_rewrite(alloc: Global, input: &[u8]) -> Result<Answer, AllocError>
     }
 }
 
-fn get(alloc: Global, pointer: &str, docs: Vec<Doc>) -> Result<Answer, AllocError>
-    ensures { IfOk result (λ a. IsGetAnswerTo pointer.now (items docs.items) (answered_by a)) }
+fn get(alloc: Global, pointer: &str, values: Vec<Value>) -> Result<Answer, AllocError>
+    ensures { IfOk result (λ a.
+        IsGetAnswerTo pointer.now (value_items values.items) (answered_by a)) }
 {
-    let Some(doc) = single(docs) else {
+    let Some(doc) = single(values) else {
         return wrong_shape(alloc);
     };
     match Pointer::parse(alloc, pointer) {
-        Ok(pointer) => part_line(alloc, part_at(&doc, &pointer)),
+        Ok(pointer) => part_line(alloc, get_value(&doc, &pointer)),
         Err(fault) => spelling_fault(alloc, fault),
     }
 }
@@ -130,22 +130,22 @@ fn patch(alloc: Global, values: Vec<Value>) -> Result<Answer, AllocError>
     read_and_apply(alloc, doc, patch)
 }
 
-// The patch works on a document; of the patch itself, the values of its operations alone become documents.
 fn read_and_apply(alloc: Global, doc: Value, patch: Value) -> Result<Answer, AllocError>
     ensures { IfOk result (λ a.
         IsPatchAnswer (value_document doc) (value_document patch) (answered_by a)) }
 {
-    match JsonPatch::from_value_owned(alloc, patch) {
-        Ok(patch) => apply_patch(alloc, doc_of_value(alloc, doc)?, patch),
+    match ops_of_value(alloc, patch) {
+        Ok(ops) => apply_patch(alloc, doc, ops),
         Err(fault) => form_fault(alloc, fault),
     }
 }
 
-fn apply_patch(alloc: Global, doc: Doc, patch: JsonPatch) -> Result<Answer, AllocError>
-    ensures { IfOk result (λ a. IsRunAnswer (document doc) (operations_of patch) (answered_by a)) }
+fn apply_patch(alloc: Global, doc: Value, ops: Vec<ValueOp>) -> Result<Answer, AllocError>
+    ensures { IfOk result (λ a.
+        IsRunAnswer (value_document doc) (value_operations ops.items) (answered_by a)) }
 {
-    match apply_once(alloc, doc, patch) {
-        Ok(result) => result_line(write_doc(alloc, &result)?),
+    match apply_to_value(alloc, doc, ops) {
+        Ok(result) => result_line(write_value(alloc, &result)?),
         Err(fault) => apply_fault(alloc, fault),
     }
 }

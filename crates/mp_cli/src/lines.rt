@@ -1,6 +1,6 @@
 //! The lines of the program, each with its status: the texts are here alone.
 ghost use Rattle.std.specs.Prelude.{◌≡◌, ◌++◌, IfOk, OnOk, option_map, string_bytes};
-ghost use Rattle.mp_tree.specs.View.{document};
+ghost use Rattle.mp_tree.specs.Values.{value_document};
 ghost use Rattle.mp_pointer.specs.Part.{numeral};
 ghost use Rattle.mp_cli.specs.Lines as lines;
 ghost use Rattle.mp_cli.specs.Lines.{line_of, pointers_text, status_of, exit_result};
@@ -12,7 +12,8 @@ use crate::running::RunFault;
 use mp_merge::ListFault;
 use mp_patch::{ApplyFault, FormFault};
 use mp_pointer::{Pointer, PointerFault};
-use mp_tree::{Doc, DocsFault, write_doc, write_text};
+use mp_tree::{DocsFault, write_text, write_value};
+use serde_json::Value;
 use std::alloc::{AllocError, Global};
 
 /// The status if the command gives a result.
@@ -77,11 +78,12 @@ fn bad_tilde_line(alloc: Global, offset: usize) -> Result<Answer, AllocError>
     )
 }
 
-pub(crate) fn part_line(alloc: Global, found: Option<&Doc>) -> Result<Answer, AllocError>
-    ensures { Gives result (lines.part_line (option_map (λ d. document d.now) found.entry)) }
+pub(crate) fn part_line(alloc: Global, found: Option<&Value>) -> Result<Answer, AllocError>
+    ensures { Gives result
+        (lines.part_line (option_map (λ v. value_document v.now) found.entry)) }
 {
     match found {
-        Some(doc) => result_line(write_doc(alloc, doc)?),
+        Some(value) => result_line(write_value(alloc, value)?),
         None => line(alloc, "missing", NO_RESULT),
     }
 }

@@ -1,11 +1,14 @@
 // What is known of the depth of a document while operations change it.
 ghost use Rattle.std.specs.Prelude.{◌≡◌, ◌+◌, ◌≤◌, ◌↔◌, ℕ, IsTrue, None};
 ghost use Rattle.mp_tree.specs.Document.{Document, depth, depth_limit};
+ghost use Rattle.mp_tree.specs.Values.{value_document};
 ghost use Rattle.mp_tree.specs.View.{document};
 ghost use Rattle.mp_patch.specs.Private.Bounds.{Bounds};
 
 use crate::measuring::depth_within;
+use crate::value_measuring::value_depth_within;
 use mp_tree::Doc;
+use serde_json::Value;
 
 /// The number of tokens of a place and the depth of a value that is put there are together at most this.
 const LEVELS: usize = mp_tree::DEPTH_LIMIT as usize;
@@ -76,6 +79,45 @@ impl DepthBound {
         self.admit(part, tokens)
     }
 
+    // As `admit`, of a value of `serde_json`.
+    pub(crate) fn admit_value(&mut self, value: &Value, tokens: usize) -> bool
+        ensures fits { IsTrue result ↔ (tokens + depth (value_document value.now) ≤ depth_limit) }
+        ensures kept { (d : Document) → Bounds self.old.most 0 d → Bounds self.new.most 0 d }
+        ensures bounds { IsTrue result → Bounds self.new.most tokens (value_document value.now) }
+    {
+        let Some(allowed) = LEVELS.checked_sub(tokens) else {
+            return false;
+        };
+        let Some(depth) = value_depth_within(value, allowed, &mut self.walked) else {
+            return false;
+        };
+        self.raise(tokens + depth);
+        true
+    }
+
+    // As `admit_part`, of values of `serde_json`.
+    pub(crate) fn admit_value_part(
+        &mut self,
+        part: &Value,
+        origin: usize,
+        rest: &Value,
+        tokens: usize,
+    ) -> bool
+        requires part { Bounds self.old.most origin (value_document part.now) }
+        requires rest { Bounds self.old.most 0 (value_document rest.now) }
+        ensures fits { IsTrue result ↔ (tokens + depth (value_document part.now) ≤ depth_limit) }
+        ensures kept { Bounds self.new.most 0 (value_document rest.now) }
+        ensures bounds { IsTrue result → Bounds self.new.most tokens (value_document part.now) }
+    {
+        if self.admits_unseen(origin, tokens) {
+            return true;
+        }
+        if self.walked >= self.parts.max(LEAST_WALKED) {
+            self.measure_value(rest);
+        }
+        self.admit_value(part, tokens)
+    }
+
     // Whether a part that was below `origin` tokens fits below these, whatever it is; then the bound holds with it there.
     fn admits_unseen(&mut self, origin: usize, tokens: usize) -> bool
         ensures fits { IsTrue result → (v : Document) → Bounds self.old.most origin v
@@ -100,6 +142,15 @@ impl DepthBound {
     {
         self.walked = 0;
         self.most = depth_within(doc, LEVELS, &mut self.walked);
+        self.parts = self.walked;
+        self.walked = 0;
+    }
+
+    fn measure_value(&mut self, value: &Value)
+        ensures { Bounds self.new.most 0 (value_document value.now) }
+    {
+        self.walked = 0;
+        self.most = value_depth_within(value, LEVELS, &mut self.walked);
         self.parts = self.walked;
         self.walked = 0;
     }

@@ -1,7 +1,6 @@
 //! Patches: lists of operations.
 ghost use Rattle.std.specs.Prelude.{◌≡◌, ◌+◌, ◌≤◌, ◌++◌, ◌∷◌, ◌↔◌, [], IsTrue, OnOk, OnErr, IfOk, MatchResult};
 ghost use Rattle.mp_tree.specs.Document.{depth};
-ghost use Rattle.mp_tree.specs.Values.{value_document};
 ghost use Rattle.mp_tree.specs.View.{document};
 ghost use Rattle.mp_patch.specs.Form.{AreForms, IsFormFault, deepest, shapes};
 ghost use Rattle.mp_patch.specs.View.{operations_of};
@@ -10,9 +9,7 @@ use crate::fault::FormFault;
 use crate::making::docs_of;
 use crate::op::Op;
 use crate::reading::read_ops;
-use crate::value_reading;
 use mp_tree::Doc;
-use serde_json::Value;
 use std::alloc::{AllocError, Global};
 use std::marker::Model;
 
@@ -142,21 +139,6 @@ impl JsonPatch {
             return Err(FormFault::NotAnArray);
         };
         read_ops(elements, alloc)
-    }
-
-    /// As `from_doc_owned`, of a value that is owned: of each operation its value alone becomes a document.
-    ///
-    /// ```text
-    /// JsonPatch::from_value_owned(alloc, value)  // for [{"op":"remove","path":"/a"}]: a list of one Op::Remove
-    /// ```
-    pub fn from_value_owned(alloc: Global, value: Value) -> Result<JsonPatch, FormFault>
-        ensures { MatchResult result (λ p. AreForms (value_document value) (operations_of p))
-            (λ fault. IsFormFault fault (value_document value)) }
-    {
-        match value {
-            Value::Array(elements) => value_reading::read_ops(elements, alloc),
-            _ => Err(FormFault::NotAnArray),
-        }
     }
 
     /// The array of objects with exactly the members that the operations need (RFC 6902 sections 3 and 4).

@@ -28,9 +28,11 @@ pub(crate) struct Pointers {
 // An operation, but for its value if it has one.
 #[derive(Drop)]
 pub(crate) enum Draft {
-    Whole(Op),
     Add(Pointer),
+    Remove(Pointer),
     Replace(Pointer),
+    Move { origin: Pointer, path: Pointer },
+    Copy { origin: Pointer, path: Pointer },
     Test(Pointer),
 }
 
@@ -65,9 +67,11 @@ fn read_members(entries: BTreeMap<String, Doc>, alloc: Global) -> Result<Op, Ref
         (λ fault. IsMapFault fault (object (members entries.entries))) }
 {
     match read_draft(&entries, alloc)? {
-        Draft::Whole(op) => Ok(op),
         Draft::Add(path) => Ok(Op::Add(path, value_of(entries)?)),
+        Draft::Remove(path) => Ok(Op::Remove(path)),
         Draft::Replace(path) => Ok(Op::Replace(path, value_of(entries)?)),
+        Draft::Move { origin, path } => Ok(Op::Move { origin, path }),
+        Draft::Copy { origin, path } => Ok(Op::Copy { origin, path }),
         Draft::Test(path) => Ok(Op::Test(path, value_of(entries)?)),
     }
 }
@@ -82,15 +86,15 @@ fn read_draft(entries: &BTreeMap<String, Doc>, alloc: Global) -> Result<Draft, R
     let spelling = text_at(entries, "path").ok_or(FormCause::NoPath)?;
     match name {
         OpName::Add => Ok(Draft::Add(pointer_of(spelling, alloc)?)),
-        OpName::Remove => Ok(Draft::Whole(Op::Remove(pointer_of(spelling, alloc)?))),
+        OpName::Remove => Ok(Draft::Remove(pointer_of(spelling, alloc)?)),
         OpName::Replace => Ok(Draft::Replace(pointer_of(spelling, alloc)?)),
         OpName::Move => {
             let Pointers { origin, path } = pointers_in(spelling, entries, alloc)?;
-            Ok(Draft::Whole(Op::Move { origin, path }))
+            Ok(Draft::Move { origin, path })
         }
         OpName::Copy => {
             let Pointers { origin, path } = pointers_in(spelling, entries, alloc)?;
-            Ok(Draft::Whole(Op::Copy { origin, path }))
+            Ok(Draft::Copy { origin, path })
         }
         OpName::Test => Ok(Draft::Test(pointer_of(spelling, alloc)?)),
     }

@@ -202,7 +202,7 @@ fn check(doc: &Doc, path: &Pointer, value: &Doc) -> Result<(), Refusal<Cause>>
 }
 
 // The last token, with its number: the tokens before it lead to the object or the array that it names a part of.
-fn last_token(path: &Pointer) -> Option<(usize, &str)>
+pub(crate) fn last_token(path: &Pointer) -> Option<(usize, &str)>
     ensures { MatchOption result (path.now ≡ [])
         (λ last. path.now ≡ take last.0 path.now ++ last.1.now ∷ []) }
 {

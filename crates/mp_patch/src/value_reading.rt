@@ -1,40 +1,38 @@
-// As `reading` has it, from a value of `serde_json`: of each operation its value alone becomes a document.
+// As `reading` has it, from a value of `serde_json`: the operations keep the values that are read.
 ghost use Rattle.std.specs.Prelude.{◌≡◌, codes, string_bytes, Some, None, MatchResult};
 ghost use Rattle.std.specs.Option.{option_copied};
 ghost use Rattle.mp_tree.specs.Document.{find, list, object};
 ghost use Rattle.mp_tree.specs.Private.Entries.{value_members};
 ghost use Rattle.mp_tree.specs.Values.{value_document, value_items};
-ghost use Rattle.mp_tree.specs.View.{document};
 ghost use Rattle.mp_pointer.specs.Spelling.{spell};
 ghost use Rattle.mp_patch.specs.Form.{Carries, EachForm, IsFormFault, IsForm, needed_members, text_at as text_under};
 ghost use Rattle.mp_patch.specs.Private.Reading.{Drafts, IsElementFault, IsMapFault, IsOriginFault, IsValueFault};
-ghost use Rattle.mp_patch.specs.View.{operation_of, operations_of};
+ghost use Rattle.mp_patch.specs.View.{value_operation_of, value_operations};
 
 use crate::fault::{FormCause, FormFault, Refusal};
 use crate::name::{OpName, op_named};
-use crate::op::Op;
-use crate::patch::JsonPatch;
 use crate::reading::{Draft, Pointers, pointer_of};
-use mp_tree::{Doc, doc_of_value};
+use crate::value_op::ValueOp;
 use serde_json::{Map, Value};
 use std::alloc::Global;
 
-pub(crate) fn read_ops(elements: Vec<Value>, alloc: Global) -> Result<JsonPatch, FormFault>
-    ensures { MatchResult result (λ p. EachForm (value_items elements.items) (operations_of p))
+pub(crate) fn read_ops(elements: Vec<Value>, alloc: Global) -> Result<Vec<ValueOp>, FormFault>
+    ensures { MatchResult result
+        (λ ops. EachForm (value_items elements.items) (value_operations ops.items))
         (λ fault. IsFormFault fault (list (value_items elements.items))) }
 {
-    let mut patch = JsonPatch::new(alloc);
+    let mut ops = Vec::new(alloc);
     for element in elements {
         match read_op(element, alloc) {
-            Ok(op) => patch.push(op)?,
-            Err(refusal) => return Err(refusal.of_element(patch.ops().len())),
+            Ok(op) => ops.push(op)?,
+            Err(refusal) => return Err(refusal.of_element(ops.len())),
         }
     }
-    Ok(patch)
+    Ok(ops)
 }
 
-fn read_op(element: Value, alloc: Global) -> Result<Op, Refusal<FormCause>>
-    ensures { MatchResult result (λ op. IsForm (value_document element) (operation_of op))
+fn read_op(element: Value, alloc: Global) -> Result<ValueOp, Refusal<FormCause>>
+    ensures { MatchResult result (λ op. IsForm (value_document element) (value_operation_of op))
         (λ fault. IsElementFault fault (value_document element)) }
 {
     match element {
@@ -43,16 +41,18 @@ fn read_op(element: Value, alloc: Global) -> Result<Op, Refusal<FormCause>>
     }
 }
 
-fn read_members(entries: Map<String, Value>, alloc: Global) -> Result<Op, Refusal<FormCause>>
+fn read_members(entries: Map<String, Value>, alloc: Global) -> Result<ValueOp, Refusal<FormCause>>
     ensures { MatchResult result
-        (λ op. Carries (value_members entries.entries) (needed_members (operation_of op)))
+        (λ op. Carries (value_members entries.entries) (needed_members (value_operation_of op)))
         (λ fault. IsMapFault fault (object (value_members entries.entries))) }
 {
     match read_draft(&entries, alloc)? {
-        Draft::Whole(op) => Ok(op),
-        Draft::Add(path) => Ok(Op::Add(path, value_of(entries, alloc)?)),
-        Draft::Replace(path) => Ok(Op::Replace(path, value_of(entries, alloc)?)),
-        Draft::Test(path) => Ok(Op::Test(path, value_of(entries, alloc)?)),
+        Draft::Add(path) => Ok(ValueOp::Add(path, value_of(entries)?)),
+        Draft::Remove(path) => Ok(ValueOp::Remove(path)),
+        Draft::Replace(path) => Ok(ValueOp::Replace(path, value_of(entries)?)),
+        Draft::Move { origin, path } => Ok(ValueOp::Move { origin, path }),
+        Draft::Copy { origin, path } => Ok(ValueOp::Copy { origin, path }),
+        Draft::Test(path) => Ok(ValueOp::Test(path, value_of(entries)?)),
     }
 }
 
@@ -66,15 +66,15 @@ fn read_draft(entries: &Map<String, Value>, alloc: Global) -> Result<Draft, Refu
     let spelling = text_at(entries, "path").ok_or(FormCause::NoPath)?;
     match name {
         OpName::Add => Ok(Draft::Add(pointer_of(spelling, alloc)?)),
-        OpName::Remove => Ok(Draft::Whole(Op::Remove(pointer_of(spelling, alloc)?))),
+        OpName::Remove => Ok(Draft::Remove(pointer_of(spelling, alloc)?)),
         OpName::Replace => Ok(Draft::Replace(pointer_of(spelling, alloc)?)),
         OpName::Move => {
             let Pointers { origin, path } = pointers_in(spelling, entries, alloc)?;
-            Ok(Draft::Whole(Op::Move { origin, path }))
+            Ok(Draft::Move { origin, path })
         }
         OpName::Copy => {
             let Pointers { origin, path } = pointers_in(spelling, entries, alloc)?;
-            Ok(Draft::Whole(Op::Copy { origin, path }))
+            Ok(Draft::Copy { origin, path })
         }
         OpName::Test => Ok(Draft::Test(pointer_of(spelling, alloc)?)),
     }
@@ -110,16 +110,13 @@ fn text_at<'a>(entries: &'a Map<String, Value>, name: &str) -> Option<&'a str>
     }
 }
 
-fn value_of(mut entries: Map<String, Value>, alloc: Global) -> Result<Doc, Refusal<FormCause>>
+fn value_of(mut entries: Map<String, Value>) -> Result<Value, Refusal<FormCause>>
     ensures { MatchResult result
-        (λ v. find (codes "value") (value_members entries.entries) ≡ Some (document v))
+        (λ v. find (codes "value") (value_members entries.entries) ≡ Some (value_document v))
         (λ fault. IsValueFault fault (object (value_members entries.entries))) }
 {
     let Some(value) = entries.remove("value") else {
         return Err(Refusal::By(FormCause::NoValue));
     };
-    match doc_of_value(alloc, value) {
-        Ok(doc) => Ok(doc),
-        Err(_) => Err(Refusal::OutOfMemory),
-    }
+    Ok(value)
 }

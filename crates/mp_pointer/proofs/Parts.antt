@@ -5,3 +5,4 @@ pub mod Documents
 pub mod Kinds
 pub mod Borrowed
 pub mod Readable
+pub mod Valued

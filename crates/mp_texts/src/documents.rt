@@ -5,11 +5,12 @@ ghost use Rattle.mp_texts.specs.Answers.{IsPartText, IsPatchText, IsRewriteText,
 ghost use Rattle.mp_texts.specs.Faults.{IsPartTextFault, IsPatchTextFault, IsRewriteTextFault};
 
 use crate::fault::TextsFault;
-use crate::reading::{read_document, read_document_value, read_patch_value};
+use crate::laws::run_laws;
+use crate::reading::{read_document_value, read_patch_value};
 use mp_merge::{laws as merging, rewrite_value};
-use mp_patch::{JsonPatch, apply_once, laws as patching, write_patch};
-use mp_pointer::{Pointer, get, laws as pointing};
-use mp_tree::{Doc, laws as reading, write_doc};
+use mp_patch::{apply_to_value, laws as patching, ops_of_value, write_patch};
+use mp_pointer::{Pointer, get_value, laws as pointing};
+use mp_tree::{Doc, laws as reading, write_doc, write_value};
 use std::alloc::{AllocError, Global};
 
 /// The text of a merge patch as a JSON Patch for the document, as `mp_merge::rewrite` makes it: tests of what the patch
@@ -50,11 +51,13 @@ pub fn patch_text(alloc: Global, document: &[u8], json_patch: &[u8]) -> Result<S
         (λ text. IsPatchText document.now json_patch.now (string_bytes text))
         (λ fault. IsPatchTextFault fault document.now json_patch.now) }
 {
-    let doc = read_document(alloc, document)?;
+    reading::readings_are_documents();
+    run_laws();
+    let doc = read_document_value(alloc, document)?;
     let form = read_patch_value(alloc, json_patch, 0)?;
-    let operations = JsonPatch::from_value_owned(alloc, form)?;
-    let patched = apply_once(alloc, doc, operations)?;
-    Ok(write_doc(alloc, &patched)?)
+    let operations = ops_of_value(alloc, form)?;
+    let patched = apply_to_value(alloc, doc, operations)?;
+    Ok(write_value(alloc, &patched)?)
 }
 
 /// The text of the part of the document that the pointer names (RFC 6901).
@@ -70,11 +73,12 @@ pub fn part_text(alloc: Global, document: &[u8], pointer: &str) -> Result<String
         (λ text. IsPartText document.now pointer.now (string_bytes text))
         (λ fault. IsPartTextFault fault document.now pointer.now) }
 {
-    pointing::parts_are_shallower();
-    let doc = read_document(alloc, document)?;
+    reading::readings_are_documents();
+    pointing::parts_are_readable();
+    let doc = read_document_value(alloc, document)?;
     let pointer = Pointer::parse(alloc, pointer)?;
-    match get(&doc, &pointer) {
-        Some(part) => Ok(write_doc(alloc, part)?),
+    match get_value(&doc, &pointer) {
+        Some(part) => Ok(write_value(alloc, part)?),
         None => Err(TextsFault::Missing),
     }
 }

@@ -1,30 +1,15 @@
-// Texts read, each as a document.
-ghost use Rattle.std.specs.Prelude.{◌≡◌, ◌≤◌, Ok, IfOk, MatchResult};
-ghost use Rattle.mp_tree.specs.Document.{depth, depth_limit};
+// Texts read, each as the value of a document.
+ghost use Rattle.std.specs.Prelude.{◌≡◌, Ok, MatchResult};
 ghost use Rattle.mp_tree.specs.Text.{document_in};
 ghost use Rattle.mp_tree.specs.Values.{value_document};
-ghost use Rattle.mp_tree.specs.View.{document};
 ghost use Rattle.mp_texts.specs.Private.Unread.{IsDocumentFault, IsPatchFault};
 
 use crate::fault::TextsFault;
-use mp_tree::{Doc, ReadFault, read_doc, read_value};
+use mp_tree::{ReadFault, read_value};
 use serde_json::Value;
 use std::alloc::Global;
 
 // The text of a document, or of a start.
-pub(crate) fn read_document(alloc: Global, text: &[u8]) -> Result<Doc, TextsFault>
-    ensures read { MatchResult result (λ d. document_in text.now ≡ Ok (document d))
-        (λ fault. IsDocumentFault fault text.now) }
-    ensures depth { IfOk result (λ d. depth (document d) ≤ depth_limit) }
-{
-    match read_doc(alloc, text) {
-        Ok(doc) => Ok(doc),
-        Err(ReadFault::OutOfMemory) => Err(TextsFault::OutOfMemory),
-        Err(fault) => Err(TextsFault::Document(fault)),
-    }
-}
-
-// The text of a document, kept as the value that is read.
 pub(crate) fn read_document_value(alloc: Global, text: &[u8]) -> Result<Value, TextsFault>
     ensures { MatchResult result (λ v. document_in text.now ≡ Ok (value_document v))
         (λ fault. IsDocumentFault fault text.now) }
@@ -36,7 +21,7 @@ pub(crate) fn read_document_value(alloc: Global, text: &[u8]) -> Result<Value, T
     }
 }
 
-// The text of the patch with that number, kept as the value that is read.
+// The text of the patch with that number.
 pub(crate) fn read_patch_value(
     alloc: Global,
     text: &[u8],

@@ -1,7 +1,7 @@
 -- What the proofs of the crates above may cite: facts about names, about membership in a list and what a loop has passed of one, about what is written, about members as finite maps, about looks, about what is read, about what an `Option` has, and about what a `Doc` or a value of `serde_json` and a change to its map mean.
 pub use Rattle.mp_tree.proofs.Documents.Decisions.{decide_name, decide_path, decide_document, either}
-pub use Rattle.mp_tree.proofs.Documents.Depths.{members_depth-members, members_depth-put, members_depth-without, value-depth}
-pub use Rattle.mp_tree.proofs.Documents.Elements.{all_before, append-documents, append_nothing, count-take, count_of-append, count_of-items, count_of-items-by, count_of-set, depth-append, documents-append, items-append, items-append-by, items-set, items_by, list_of-by, list_of-items, nth-here, nth-items, nth-set, nth_past, nth_split, readable_documents, readable_items, same_parts, set_item}
+pub use Rattle.mp_tree.proofs.Documents.Depths.{members_depth-by, members_depth-members, members_depth-put, members_depth-without, value-depth}
+pub use Rattle.mp_tree.proofs.Documents.Elements.{all_before, append-documents, append_nothing, count-take, count_of-append, count_of-items, count_of-items-by, count_of-set, depth-append, documents-append, items-append, items-append-by, items-set, items-set-by, items_by, list_of-by, list_of-items, nth-here, nth-here-by, nth-items, nth-items-by, nth-set, nth_past, nth_split, readable_documents, readable_items, same_parts, set_item}
 pub use Rattle.mp_tree.proofs.Documents.Meaning.{IsDocument-document, documents_of_docs, document_of_map, document-Null, document-Flag, document-Whole, document-Text, document-Items, document-Members}
 pub use Rattle.mp_tree.proofs.Documents.SameParts.{members_of_object, no_list_is_map, same_elements, same_item, same_text_at}
 pub use Rattle.mp_tree.proofs.Documents.Throughout.{Throughout-find, Throughout-put, Throughout-without}
@@ -17,5 +17,5 @@ pub use Rattle.mp_tree.proofs.Readings.Values.{document_in-read, one_document}
 pub use Rattle.mp_tree.proofs.Texts.IntoData.{members-cons-by}
 pub use Rattle.mp_tree.proofs.Texts.Unescaped.{IsUtf8-ascii}
 pub use Rattle.mp_tree.proofs.Texts.Written.{has_float-data_of}
-pub use Rattle.mp_tree.proofs.Valued.Edits.{IsMap-values, value_looked_up, values-inserted, values-put, values-removed}
+pub use Rattle.mp_tree.proofs.Valued.Edits.{IsMap-values, find-values, value_looked_up, values-inserted, values-put, values-removed}
 pub use Rattle.mp_tree.proofs.Valued.Meaning.{IsDocument-value, value_of_map, value-Null, value-Bool, value-Number, value-String, value-Array, value-Object}

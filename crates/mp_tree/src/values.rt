@@ -3,10 +3,10 @@
 //! its text is read back if the document can be read, as each that was read can.
 ghost use Rattle.std.specs.Prelude.{◌≡◌, ◌≢◌, ◌≤◌, ◌↔◌, All, Some, Ok, Err, IsTrue, IfOk, IfErr, MatchOption, string_bytes};
 ghost use Rattle.std.specs.Borrow.{sem, LendsIf};
-ghost use Rattle.serde_json.specs.Rows.{map_row};
+ghost use Rattle.serde_json.specs.Rows.{list_row, map_row};
 ghost use Rattle.serde_json.specs.contracts.value.Value.{the_row};
-ghost use Rattle.serde_json.specs.declared.value.Value.TheVariants.{Object};
-ghost use Rattle.mp_tree.specs.Document.{object, depth, depth_limit, IsReadable};
+ghost use Rattle.serde_json.specs.declared.value.Value.TheVariants.{Array, Object};
+ghost use Rattle.mp_tree.specs.Document.{list, object, depth, depth_limit, IsReadable};
 ghost use Rattle.mp_tree.specs.Text.{document_in, documents_in, read, text};
 ghost use Rattle.mp_tree.specs.Values.{value_document, value_items};
 ghost use Rattle.mp_tree.specs.View.{document};
@@ -113,6 +113,19 @@ pub fn same_value(value: &Value, other: &Value) -> bool
     ensures same { IsTrue result ↔ (value_document value.now ≡ value_document other.now) }
 {
     is_same(value, other)
+}
+
+/// As `items_mut`: the elements of a value that is an array, borrowed for writing. Takes no memory.
+pub fn value_items_mut(value: &mut Value) -> Option<&mut Vec<Value>>
+    ensures* writes_back { sem 𝓛 (LendsIf the_row list_row value.entry result Array value.old) }
+    ensures value { MatchOption result ((ds : _) → value_document value.old ≢ list ds)
+        (λ v. value.old ≡ Array v.now) }
+{
+    if let Value::Array(elements) = value {
+        Some(elements)
+    } else {
+        None
+    }
 }
 
 /// As `members_mut`: the members of a value that is an object, borrowed for writing. Takes no memory.

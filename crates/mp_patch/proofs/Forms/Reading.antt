@@ -1,5 +1,5 @@
 -- Reading operations from documents that are forms of them, element by element.
-use Rattle.std.proofs.Common.{◌≡◌, ◌≢◌, ◌⊎◌, inl, inr, ◌∷◌, ◌++◌, ℕ, List, [], length, None, Some, option_and_then, suc, append_assoc, append-nil, Result, Ok, Err, MatchResult, refl, sym, ap, ◌∙◌, subst, arith, codes}
+use Rattle.std.proofs.Common.{◌≡◌, ◌≢◌, ◌⊎◌, inl, inr, ◌∷◌, ◌++◌, ℕ, List, [], length, map, None, Some, option_and_then, suc, append_assoc, append-nil, Result, Ok, Err, MatchResult, refl, sym, ap, ◌∙◌, subst, arith, codes}
 use Rattle.std.proofs.lemmas.List.{map-append}
 use Rattle.mp_tree.specs.Document.{Document, object, list, Members}
 use Rattle.mp_pointer.specs.Spelling.{Tokens, spell, IsPointerFault}
@@ -9,10 +9,8 @@ use Rattle.mp_patch.specs.Form.{NamesOp, Need, path_alone, a_value, an_origin, H
 use Rattle.mp_patch.specs.Operation.{Operation}
 use Rattle.mp_patch.specs.Private.Faults.{fault_of_element}
 use Rattle.mp_patch.specs.Private.Reading.{FindsNoPointer, IsMapFault, IsElementFault, IsOriginFault, IsValueFault}
-use Rattle.mp_patch.specs.View.{operation_of, operations_of}
 use Rattle.mp_patch.specs.declared.fault.FormCause.{FormCause}
 use Rattle.mp_patch.specs.declared.fault.FormCause.TheVariants.{NotAnObject, NoOp, UnknownOp, NoPath, NoFrom, BadPointer, NoValue}
-use Rattle.mp_patch.specs.declared.op.Op.{Op}
 use Rattle.mp_patch.specs.declared.fault.Refusal.{Refusal}
 use Rattle.mp_patch.specs.declared.fault.Refusal.TheVariants.{By, OutOfMemory}
 use Rattle.mp_patch.proofs.Forms.Needs.{one_need, value_or_origin}
@@ -75,10 +73,10 @@ module _ (ms : Members) where
       )
   map_fault OutOfMemory found = tt
 
-pub form_of_map : (r : Result Op (Refusal FormCause)) (ms : Members) (d : Document) → d ≡ object ms → MatchResult r (λ op. Carries ms (needed_members (operation_of op))) (λ fault. IsMapFault fault (object ms))
-    → MatchResult r (λ op. IsForm d (operation_of op)) (λ fault. IsElementFault fault d)
-form_of_map (Ok op) ms d is carries = (ms, is, carries)
-form_of_map (Err fault) ms d is found = subst (IsElementFault fault) (sym is) (map_fault ms fault found)
+pub form_of_map : {O : Type 0} (g : O → Operation) (r : Result O (Refusal FormCause)) (ms : Members) (d : Document) → d ≡ object ms → MatchResult r (λ op. Carries ms (needed_members (g op))) (λ fault. IsMapFault fault (object ms))
+    → MatchResult r (λ op. IsForm d (g op)) (λ fault. IsElementFault fault d)
+form_of_map g (Ok op) ms d is carries = (ms, is, carries)
+form_of_map g (Err fault) ms d is found = subst (IsElementFault fault) (sym is) (map_fault ms fault found)
 
 module _ {V : Type 0} (f : V → Document) where
   EachForm-more : (vs : List V) (operations : List Operation) (v : V) (o : Operation) → EachForm (items_by f vs) operations → IsForm (f v) o → EachForm (items_by f (vs ++ v ∷ [])) (operations ++ o ∷ [])
@@ -87,31 +85,31 @@ module _ {V : Type 0} (f : V → Document) where
   EachForm-more (x ∷ vs) [] v o forms form = absurd forms
   EachForm-more (x ∷ vs) (p ∷ operations) v o forms form = (forms.0, EachForm-more vs operations v o forms.1 form)
 
-  as_many : (vs : List V) (ops : List Op) → EachForm (items_by f vs) (operations_of ops) → length ops ≡ length vs
-  as_many [] [] forms = refl
-  as_many [] (op ∷ ops) forms = absurd forms
-  as_many (v ∷ vs) [] forms = absurd forms
-  as_many (v ∷ vs) (op ∷ ops) forms = ap suc (as_many vs ops forms.1)
+  as_many : {O : Type 0} (g : O → Operation) (vs : List V) (ops : List O) → EachForm (items_by f vs) (map g ops) → length ops ≡ length vs
+  as_many g [] [] forms = refl
+  as_many g [] (op ∷ ops) forms = absurd forms
+  as_many g (v ∷ vs) [] forms = absurd forms
+  as_many g (v ∷ vs) (op ∷ ops) forms = ap suc (as_many g vs ops forms.1)
 
 -- ---- reading a list that is taken apart, each element as the document that it means
 
-pub record AreReadTo {V : Type 0} (f : V → Document) (vs left : List V) (ops : List Op) : Type 0 where
+pub record AreReadTo {V O : Type 0} (f : V → Document) (g : O → Operation) (vs left : List V) (ops : List O) : Type 0 where
   pub passed : List V
   pub all : vs ≡ passed ++ left
-  pub forms : EachForm (items_by f passed) (operations_of ops)
+  pub forms : EachForm (items_by f passed) (map g ops)
 
-module _ {V : Type 0} (f : V → Document) (vs left : List V) (ops : List Op) (r : AreReadTo f vs left ops) where
-  pub read_more : (v : V) (more : List V) (op : Op) (new : List Op) → left ≡ v ∷ more → IsForm (f v) (operation_of op) → new ≡ ops ++ op ∷ [] → AreReadTo f vs more new
+module _ {V O : Type 0} (f : V → Document) (g : O → Operation) (vs left : List V) (ops : List O) (r : AreReadTo f g vs left ops) where
+  pub read_more : (v : V) (more : List V) (op : O) (new : List O) → left ≡ v ∷ more → IsForm (f v) (g op) → new ≡ ops ++ op ∷ [] → AreReadTo f g vs more new
   read_more v more op new next form pushed =
-      let grown : operations_of new ≡ operations_of ops ++ operation_of op ∷ [] = ap operations_of pushed ∙ map-append operation_of ops (op ∷ []) in
+      let grown : map g new ≡ map g ops ++ g op ∷ [] = ap (map g) pushed ∙ map-append g ops (op ∷ []) in
       record {
         passed = r.passed ++ v ∷ [];
         all = r.all ∙ ap (λ ws. r.passed ++ ws) next ∙ sym (append_assoc r.passed (v ∷ []) more);
-        forms = subst (λ os. EachForm (items_by f (r.passed ++ v ∷ [])) os) (sym grown) (EachForm-more f r.passed (operations_of ops) v (operation_of op) r.forms form);
+        forms = subst (λ os. EachForm (items_by f (r.passed ++ v ∷ [])) os) (sym grown) (EachForm-more f r.passed (map g ops) v (g op) r.forms form);
       }
 
-  pub read_end : length left ≡ 0 → EachForm (items_by f vs) (operations_of ops)
-  read_end none = subst (λ ws. EachForm (items_by f ws) (operations_of ops)) (sym (r.all ∙ ap (λ ws. r.passed ++ ws) (empty left none) ∙ append-nil r.passed)) r.forms
+  pub read_end : length left ≡ 0 → EachForm (items_by f vs) (map g ops)
+  read_end none = subst (λ ws. EachForm (items_by f ws) (map g ops)) (sym (r.all ∙ ap (λ ws. r.passed ++ ws) (empty left none) ∙ append-nil r.passed)) r.forms
     where
       empty : (ws : List V) → length ws ≡ 0 → ws ≡ []
       empty [] none = refl
@@ -124,8 +122,8 @@ module _ {V : Type 0} (f : V → Document) (vs left : List V) (ops : List Op) (r
     element = f v;
     back = items_by f more;
     is = ap list (ap (items_by f) (r.all ∙ ap (λ ws. r.passed ++ ws) next) ∙ items-append-by f r.passed (v ∷ more));
-    numbered = as_many f r.passed ops r.forms ∙ sym (count_of-items-by f r.passed);
-    operations = operations_of ops;
+    numbered = as_many f g r.passed ops r.forms ∙ sym (count_of-items-by f r.passed);
+    operations = map g ops;
     forms = r.forms;
     faulty = faulty;
   }

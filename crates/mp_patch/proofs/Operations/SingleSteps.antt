@@ -1,12 +1,13 @@
 -- What an operation does, from what was done to the container of its place.
 use Rattle.std.proofs.Common.{◌≡◌, ◌≢◌, ◌<◌, ◌≤◌, ◌+◌, ◌⊎◌, inl, inr, ℕ, suc, List, [], ◌∷◌, ◌++◌, length, get_or, take, drop, Bool, Option, None, Some, option_and_then, option_map, Result, Ok, Err, IsTrue, Vec, BTreeMap, String, Global, refl, sym, ap, ap₂, ◌∙◌, subst, arith, true≢false, add-one, MatchResult, MatchOption, IsFalse}
-use Rattle.std.proofs.lemmas.List.{take-append-drop, drop_more}
+use Rattle.std.proofs.lemmas.List.{take-append-drop, drop_more, length-take-le}
 use Rattle.mp_tree.specs.Document.{Document, list, object, find, put, without, depth, depth_limit}
-use Rattle.mp_tree.specs.View.{document, items}
-use Rattle.mp_tree.specs.Private.Entries.{members}
+use Rattle.mp_tree.specs.View.{document}
+use Rattle.mp_tree.specs.Private.Entries.{members, members_by}
 use Rattle.mp_tree.specs.declared.doc.Doc
 use Rattle.mp_tree.specs.declared.doc.Doc.{Doc}
-use Rattle.mp_tree.proofs.Facts.{document-Items, document-Members, count_of-items, nth-here, items-append, count-take}
+use Rattle.mp_tree.specs.Elements.{count_of}
+use Rattle.mp_tree.proofs.Facts.{document-Items, document-Members, count_of-items-by, items_by, nth-here-by, items-append-by}
 use Rattle.mp_pointer.specs.Difference.{DifferOnlyAt}
 use Rattle.mp_pointer.specs.Part.{part, child, numeral}
 use Rattle.mp_pointer.specs.Spelling.{Tokens}
@@ -22,39 +23,59 @@ use Rattle.mp_patch.specs.declared.fault.Cause.TheVariants.{IntoItself, RemoveRo
 use Rattle.mp_patch.specs.declared.fault.Refusal.{Refusal}
 use Rattle.mp_patch.specs.declared.fault.Refusal.TheVariants.{By, OutOfMemory}
 
--- ---- elements
+-- ---- elements, of what means a document by f
+
+module _ {V : Type 0} (f : V → Document) (array : Vec V Global → V) (means : (v : Vec V Global) → f (array v) ≡ list (items_by f v.items)) where
+  count_to : (i : ℕ) (vs : List V) → i ≤ length vs → count_of (items_by f (take i vs)) ≡ i
+  count_to i vs within = count_of-items-by f (take i vs) ∙ length-take-le i vs within
+
+  pub element_removed-by : (token : List ℕ) (i : ℕ) (v w : Vec V Global) (x : V) → token ≡ numeral i → i < length v.items → x ≡ get_or v.items i x → w.items ≡ take i v.items ++ drop (suc i) v.items
+      → (child token (f (array v)) ≡ Some (f x)) × RemovesFrom token (f (array v)) (f (array w))
+  element_removed-by token i v w x names_it within is left =
+      let split : v.items ≡ take i v.items ++ x ∷ drop (suc i) v.items = sym (take-append-drop i v.items) ∙ ap (λ r. take i v.items ++ r) (drop_more v.items i x within ∙ ap₂ (λ a n. a ∷ drop n v.items) (sym is) (add-one i)) in (
+        ap (child token) (means v) ∙ child-numeral token i (items_by f v.items) names_it ∙ nth-here-by f v.items i x within is,
+        from_list (items_by f (take i v.items)) (items_by f (drop (suc i) v.items)) (f x) (names_it ∙ ap numeral (sym (count_to i v.items (omega arith))))
+            (means v ∙ ap (λ ds. list (items_by f ds)) split ∙ ap list (items-append-by f (take i v.items) (x ∷ drop (suc i) v.items)))
+            (means w ∙ ap (λ ds. list (items_by f ds)) left ∙ ap list (items-append-by f (take i v.items) (drop (suc i) v.items))),
+      )
+
+  drop_whole : (xs : List V) → drop (length xs) xs ≡ []
+  drop_whole [] = refl
+  drop_whole (x ∷ xs) = drop_whole xs
+
+  named_place : (token : List ℕ) (i : ℕ) (vs : List V) → i ≤ length vs → (token ≡ numeral i) ⊎ ((token ≡ dash) × (i ≡ length vs)) → NamesPlace token (items_by f (take i vs)) (items_by f (drop i vs))
+  named_place token i vs within (inl e) = inl (e ∙ ap numeral (sym (count_to i vs within)))
+  named_place token i vs within (inr e) = inr (e.0, ap (items_by f) (ap (λ n. drop n vs) e.1 ∙ drop_whole vs))
+
+  pub element_inserted-by : (token : List ℕ) (i : ℕ) (v w : Vec V Global) (x : V) → (token ≡ numeral i) ⊎ ((token ≡ dash) × (i ≡ length v.items)) → i ≤ length v.items → w.items ≡ take i v.items ++ x ∷ drop i v.items
+      → AddsTo (f x) token (f (array v)) (f (array w))
+  element_inserted-by token i v w x names_it within now =
+      to_list (items_by f (take i v.items)) (items_by f (drop i v.items)) (named_place token i v.items within names_it)
+      (means v ∙ ap (λ ds. list (items_by f ds)) (sym (take-append-drop i v.items)) ∙ ap list (items-append-by f (take i v.items) (drop i v.items)))
+      (means w ∙ ap (λ ds. list (items_by f ds)) now ∙ ap list (items-append-by f (take i v.items) (x ∷ drop i v.items)))
+
+  pub element_place-by : (token : List ℕ) (i : ℕ) (v : Vec V Global) → (token ≡ numeral i) ⊎ ((token ≡ dash) × (i ≡ length v.items)) → i ≤ length v.items → ¬ LacksPlace token (Some (f (array v)))
+  element_place-by token i v (inl e) within lacks = let there = subst (λ d. LacksPlace token (Some d)) (means v) lacks in omega (arith, there.1 i e, count_of-items-by f v.items, within)
+  element_place-by token i v (inr e) within lacks = let there = subst (λ d. LacksPlace token (Some d)) (means v) lacks in there.0 e.0
+
+  pub no_element_place-by : (token : List ℕ) (v : Vec V Global) → token ≢ dash → ((i : ℕ) → token ≡ numeral i → length v.items < i) → LacksPlace token (Some (f (array v)))
+  no_element_place-by token v other past = subst (λ d. LacksPlace token (Some d)) (sym (means v)) (other, λ i e. omega (arith, past i e, count_of-items-by f v.items))
+
+-- ---- elements, of documents
 
 pub element_removed : (token : List ℕ) (i : ℕ) (v w : Vec Doc Global) (x : Doc) → token ≡ numeral i → i < length v.items → x ≡ get_or v.items i x → w.items ≡ take i v.items ++ drop (suc i) v.items
     → (child token (document (Doc.Items v)) ≡ Some (document x)) × RemovesFrom token (document (Doc.Items v)) (document (Doc.Items w))
-element_removed token i v w x names_it within is left =
-    let split : v.items ≡ take i v.items ++ x ∷ drop (suc i) v.items = sym (take-append-drop i v.items) ∙ ap (λ r. take i v.items ++ r) (drop_more v.items i x within ∙ ap₂ (λ a n. a ∷ drop n v.items) (sym is) (add-one i)) in (
-      ap (child token) (document-Items v) ∙ child-numeral token i (items v.items) names_it ∙ nth-here v.items i x within is,
-      from_list (items (take i v.items)) (items (drop (suc i) v.items)) (document x) (names_it ∙ ap numeral (sym (count-take i v.items (omega arith))))
-          (document-Items v ∙ ap (λ ds. list (items ds)) split ∙ ap list (items-append (take i v.items) (x ∷ drop (suc i) v.items)))
-          (document-Items w ∙ ap (λ ds. list (items ds)) left ∙ ap list (items-append (take i v.items) (drop (suc i) v.items))),
-    )
+element_removed = element_removed-by document Doc.Items document-Items
 
 pub element_inserted : (token : List ℕ) (i : ℕ) (v w : Vec Doc Global) (x : Doc) → (token ≡ numeral i) ⊎ ((token ≡ dash) × (i ≡ length v.items)) → i ≤ length v.items → w.items ≡ take i v.items ++ x ∷ drop i v.items
     → AddsTo (document x) token (document (Doc.Items v)) (document (Doc.Items w))
-element_inserted token i v w x names_it within now =
-    to_list (items (take i v.items)) (items (drop i v.items)) (named names_it)
-    (document-Items v ∙ ap (λ ds. list (items ds)) (sym (take-append-drop i v.items)) ∙ ap list (items-append (take i v.items) (drop i v.items)))
-    (document-Items w ∙ ap (λ ds. list (items ds)) now ∙ ap list (items-append (take i v.items) (x ∷ drop i v.items)))
-  where
-    named : (token ≡ numeral i) ⊎ ((token ≡ dash) × (i ≡ length v.items)) → NamesPlace token (items (take i v.items)) (items (drop i v.items))
-    named (inl e) = inl (e ∙ ap numeral (sym (count-take i v.items within)))
-    named (inr e) = inr (e.0, ap items (ap (λ n. drop n v.items) e.1 ∙ drop_whole v.items))
-      where
-        drop_whole : (xs : List Doc) → drop (length xs) xs ≡ []
-        drop_whole [] = refl
-        drop_whole (x ∷ xs) = drop_whole xs
+element_inserted = element_inserted-by document Doc.Items document-Items
 
 pub element_place : (token : List ℕ) (i : ℕ) (v : Vec Doc Global) → (token ≡ numeral i) ⊎ ((token ≡ dash) × (i ≡ length v.items)) → i ≤ length v.items → ¬ LacksPlace token (Some (document (Doc.Items v)))
-element_place token i v (inl e) within lacks = let there = subst (λ d. LacksPlace token (Some d)) (document-Items v) lacks in omega (arith, there.1 i e, count_of-items v.items, within)
-element_place token i v (inr e) within lacks = let there = subst (λ d. LacksPlace token (Some d)) (document-Items v) lacks in there.0 e.0
+element_place = element_place-by document Doc.Items document-Items
 
 pub no_element_place : (token : List ℕ) (v : Vec Doc Global) → token ≢ dash → ((i : ℕ) → token ≡ numeral i → length v.items < i) → LacksPlace token (Some (document (Doc.Items v)))
-no_element_place token v other past = subst (λ d. LacksPlace token (Some d)) (sym (document-Items v)) (other, λ i e. omega (arith, past i e, count_of-items v.items))
+no_element_place = no_element_place-by document Doc.Items document-Items
 
 -- ---- an operation from what was done in the container
 
@@ -122,28 +143,39 @@ replaced (Ok done) fits t v d e x y to_fit from_fit stood stands only set = (rep
 replaced (Err fault) fits t v d e x y to_fit from_fit stood stands only set =
     subst (λ f. Answers (Err f) d (replace t v) e) (sym set.1) (inr (some_missing d x t stood, inl (refl, over_limit fits t v from_fit set.0)))
 
--- ---- in a map
+-- ---- in a map, of what means a document by f
+
+module _ {V : Type 0} (f : V → Document) (map_of : BTreeMap (String Global) V → V) (means : (m : BTreeMap (String Global) V) → f (map_of m) ≡ object (members_by f m.entries)) where
+  pub value_removed-by : (r : Option V) (token : List ℕ) (m n : BTreeMap (String Global) V) → find token (members_by f m.entries) ≡ option_map f r → members_by f n.entries ≡ without token (members_by f m.entries)
+      → MatchOption r (child token (f (map_of m)) ≡ None) (λ x. (child token (f (map_of m)) ≡ Some (f x)) × RemovesFrom token (f (map_of m)) (f (map_of n)))
+  value_removed-by None token m n found left = ap (child token) (means m) ∙ child-object token (members_by f m.entries) ∙ found
+  value_removed-by (Some x) token m n found left = (
+    ap (child token) (means m) ∙ child-object token (members_by f m.entries) ∙ found,
+    from_map (members_by f m.entries) (f x) found (means m) (means n ∙ ap object left),
+  )
+
+  pub value_inserted-by : (token : List ℕ) (v : Document) (m n : BTreeMap (String Global) V) → members_by f n.entries ≡ put token v (members_by f m.entries)
+      → (¬ LacksPlace token (Some (f (map_of m)))) × AddsTo v token (f (map_of m)) (f (map_of n))
+  value_inserted-by token v m n now = (
+    λ lacks. subst (λ d. LacksPlace token (Some d)) (means m) lacks,
+    to_map (members_by f m.entries) (means m) (means n ∙ ap object now),
+  )
+
+-- ---- in a map, of documents
 
 pub value_removed : (r : Option Doc) (token : List ℕ) (m n : BTreeMap (String Global) Doc) → find token (members m.entries) ≡ option_map document r → members n.entries ≡ without token (members m.entries)
     → MatchOption r (child token (document (Doc.Members m)) ≡ None) (λ x. (child token (document (Doc.Members m)) ≡ Some (document x)) × RemovesFrom token (document (Doc.Members m)) (document (Doc.Members n)))
-value_removed None token m n found left = ap (child token) (document-Members m) ∙ child-object token (members m.entries) ∙ found
-value_removed (Some x) token m n found left = (
-  ap (child token) (document-Members m) ∙ child-object token (members m.entries) ∙ found,
-  from_map (members m.entries) (document x) found (document-Members m) (document-Members n ∙ ap object left),
-)
+value_removed = value_removed-by document Doc.Members document-Members
 
 pub value_inserted : (token : List ℕ) (v : Document) (m n : BTreeMap (String Global) Doc) → members n.entries ≡ put token v (members m.entries)
     → (¬ LacksPlace token (Some (document (Doc.Members m)))) × AddsTo v token (document (Doc.Members m)) (document (Doc.Members n))
-value_inserted token v m n now = (
-  λ lacks. subst (λ d. LacksPlace token (Some d)) (document-Members m) lacks,
-  to_map (members m.entries) (document-Members m) (document-Members n ∙ ap object now),
-)
+value_inserted = value_inserted-by document Doc.Members document-Members
 
 pub in_list : (token : List ℕ) (i n m : ℕ) → n ≡ m → (token ≡ numeral i) ⊎ ((token ≡ dash) × (i ≡ n)) → (token ≡ numeral i) ⊎ ((token ≡ dash) × (i ≡ m))
 in_list token i n m same (inl e) = inl e
 in_list token i n m same (inr e) = inr (e.0, e.1 ∙ same)
 
-pub set_means : (r : Result (Unit {0}) (Refusal Cause)) (fits : Bool) (y v : Doc) → MatchResult r (λ _. IsTrue fits × (y ≡ v)) (λ fault. IsFalse fits × (fault ≡ By TooDeep))
-    → MatchResult r (λ _. IsTrue fits × (document y ≡ document v)) (λ fault. IsFalse fits × (fault ≡ By TooDeep))
-set_means (Ok done) fits y v set = (set.0, ap document set.1)
-set_means (Err fault) fits y v set = set
+pub set_means : {V : Type 0} (f : V → Document) (r : Result (Unit {0}) (Refusal Cause)) (fits : Bool) (y v : V) → MatchResult r (λ _. IsTrue fits × (y ≡ v)) (λ fault. IsFalse fits × (fault ≡ By TooDeep))
+    → MatchResult r (λ _. IsTrue fits × (f y ≡ f v)) (λ fault. IsFalse fits × (fault ≡ By TooDeep))
+set_means f (Ok done) fits y v set = (set.0, ap f set.1)
+set_means f (Err fault) fits y v set = set

@@ -1,5 +1,5 @@
 -- Runs of a patch that grow at their end.
-use Rattle.std.proofs.Common.{◌≡◌, ◌<◌, ◌+◌, ℕ, List, [], ◌∷◌, ◌++◌, length, get_or, take, option_map, Some, Err, refl, sym, ap, ap₂, ◌∙◌, subst, arith, append_assoc, append-nil, length-append}
+use Rattle.std.proofs.Common.{◌≡◌, ◌<◌, ◌+◌, ℕ, List, [], ◌∷◌, ◌++◌, length, get_or, map, take, option_map, Some, Err, refl, sym, ap, ap₂, ◌∙◌, subst, arith, append_assoc, append-nil, length-append}
 use Rattle.std.proofs.lemmas.List.{take_more, map-append, length-map}
 use Rattle.std.proofs.lemmas.Option.{slice_get-map, slice_get_read, slice_get_within, get_or_from_slice_get}
 use Rattle.std.specs.List.{slice_get}
@@ -31,11 +31,11 @@ take_next operations i o there = take_more operations i o (slice_get_within oper
 
 -- ---- a list of operations that is taken apart
 
-pub record HasRunTo (d : Document) (ops left : List Op) (done : ℕ) (e : Document) : Type 0 where
-  pub passed : List Op
+pub record HasRunTo {O : Type 0} (g : O → Operation) (d : Document) (ops left : List O) (done : ℕ) (e : Document) : Type 0 where
+  pub passed : List O
   pub all : ops ≡ passed ++ left
   pub numbered : done ≡ length passed
-  pub run : Runs d (operations_of passed) e
+  pub run : Runs d (map g passed) e
 
 take_front : (xs ys : List Operation) → take (length xs) (xs ++ ys) ≡ xs
 take_front [] ys = refl
@@ -45,38 +45,38 @@ get_next : (xs ys : List Operation) (y : Operation) → slice_get (xs ++ y ∷ y
 get_next [] ys y = refl
 get_next (x ∷ xs) ys y = get_next xs ys y
 
-module _ (d : Document) (ops left : List Op) (done : ℕ) (m : Document) (r : HasRunTo d ops left done m) where
-  pub run_end : length left ≡ 0 → Runs d (operations_of ops) m
-  run_end none = subst (λ os. Runs d (operations_of os) m) (sym (r.all ∙ ap (λ os. r.passed ++ os) (empty left none) ∙ append-nil r.passed)) r.run
+module _ {O : Type 0} (g : O → Operation) (d : Document) (ops left : List O) (done : ℕ) (m : Document) (r : HasRunTo g d ops left done m) where
+  pub run_end : length left ≡ 0 → Runs d (map g ops) m
+  run_end none = subst (λ os. Runs d (map g os) m) (sym (r.all ∙ ap (λ os. r.passed ++ os) (empty left none) ∙ append-nil r.passed)) r.run
     where
-      empty : (os : List Op) → length os ≡ 0 → os ≡ []
+      empty : (os : List O) → length os ≡ 0 → os ≡ []
       empty [] none = refl
       empty (o ∷ os) none = absurd (omega (arith, none))
 
-  module _ (op : Op) (more : List Op) (next : left ≡ op ∷ more) where
-    split : operations_of ops ≡ operations_of r.passed ++ operation_of op ∷ operations_of more
-    split = ap operations_of (r.all ∙ ap (λ os. r.passed ++ os) next) ∙ map-append operation_of r.passed (op ∷ more)
+  module _ (op : O) (more : List O) (next : left ≡ op ∷ more) where
+    split : map g ops ≡ map g r.passed ++ g op ∷ map g more
+    split = ap (map g) (r.all ∙ ap (λ os. r.passed ++ os) next) ∙ map-append g r.passed (op ∷ more)
 
-    long : done ≡ length (operations_of r.passed)
-    long = r.numbered ∙ sym (length-map r.passed operation_of)
+    long : done ≡ length (map g r.passed)
+    long = r.numbered ∙ sym (length-map r.passed g)
 
-    pub run_further : (e : Document) → ¬ IsRefused m (operation_of op) → Step m (operation_of op) e → HasRunTo d ops more (done + 1) e
+    pub run_further : (e : Document) → ¬ IsRefused m (g op) → Step m (g op) e → HasRunTo g d ops more (done + 1) e
     run_further e free step = record {
       passed = r.passed ++ op ∷ [];
       all = r.all ∙ ap (λ os. r.passed ++ os) next ∙ sym (append_assoc r.passed (op ∷ []) more);
       numbered = ap (λ n. n + 1) r.numbered ∙ sym (length-append r.passed (op ∷ []));
-      run = subst (λ os. Runs d os e) (sym (map-append operation_of r.passed (op ∷ []))) (Runs-more (operations_of r.passed) d m e (operation_of op) r.run free step);
+      run = subst (λ os. Runs d os e) (sym (map-append g r.passed (op ∷ []))) (Runs-more (map g r.passed) d m e (g op) r.run free step);
     }
 
     pub few_done : done < length ops
     few_done = omega (arith, r.numbered, ap length (r.all ∙ ap (λ os. r.passed ++ os) next), length-append r.passed (op ∷ more))
 
-    pub fault_next : (fault : Refusal Cause) (e : Document) → Answers (Err fault) m (operation_of op) e → IsApplyFault (fault_of_operation done fault) d (operations_of ops)
+    pub fault_next : (fault : Refusal Cause) (e : Document) → Answers (Err fault) m (g op) e → IsApplyFault (fault_of_operation done fault) d (map g ops)
     fault_next (By cause) e refused = (
       m,
-      subst (λ os. Runs d os m) (sym (ap₂ take long split ∙ take_front (operations_of r.passed) (operation_of op ∷ operations_of more))) r.run,
-      operation_of op,
-      ap₂ slice_get split long ∙ get_next (operations_of r.passed) (operations_of more) (operation_of op),
+      subst (λ os. Runs d os m) (sym (ap₂ take long split ∙ take_front (map g r.passed) (g op ∷ map g more))) r.run,
+      g op,
+      ap₂ slice_get split long ∙ get_next (map g r.passed) (map g more) (g op),
       refused,
     )
     fault_next OutOfMemory e refused = tt

@@ -5,12 +5,12 @@ use Rattle.mp_tree.specs.Look.{at_name}
 use Rattle.mp_pointer.specs.Spelling.{Tokens, spell}
 use Rattle.mp_patch.specs.Form.{Carries, IsFaulty, IsNoPointer, HasOp, Need, path_alone, a_value, an_origin, NamesOp}
 use Rattle.mp_patch.specs.Form.{needed_members, op_member, path_member, text_at}
-use Rattle.mp_patch.specs.View.{operation_of}
+use Rattle.mp_patch.specs.Operation.{remove, move, copy}
 use Rattle.mp_patch.specs.declared.fault.FormCause.TheVariants.{NotAnObject, NoOp, UnknownOp, NoPath, NoFrom}
 use Rattle.mp_patch.specs.declared.fault.FormCause.TheVariants.{BadPointer, NoValue}
 use Rattle.mp_patch.specs.declared.fault.FormCause.{FormCause}
 use Rattle.mp_patch.specs.declared.reading.Draft.{Draft}
-use Rattle.mp_patch.specs.declared.reading.Draft.TheVariants.{Whole, Add, Replace, Test}
+use Rattle.mp_patch.specs.declared.reading.Draft.TheVariants.{Add, Remove, Replace, Move, Copy, Test}
 use Rattle.mp_patch.specs.declared.fault.Refusal.{Refusal}
 use Rattle.mp_patch.specs.declared.fault.Refusal.TheVariants.{By, OutOfMemory}
 
@@ -75,7 +75,9 @@ IsValueFault OutOfMemory d = ⊤
 
 -- the object carries what the draft has
 abbrev pub Drafts : Draft → Members → Type 0
-Drafts (Whole op) ms = Carries ms (needed_members (operation_of op))
 Drafts (Add path) ms = Carries ms (op_member (codes "add") ∷ path_member path ∷ [])
+Drafts (Remove path) ms = Carries ms (needed_members (remove path))
 Drafts (Replace path) ms = Carries ms (op_member (codes "replace") ∷ path_member path ∷ [])
+Drafts (Move origin path) ms = Carries ms (needed_members (move origin path))
+Drafts (Copy origin path) ms = Carries ms (needed_members (copy origin path))
 Drafts (Test path) ms = Carries ms (op_member (codes "test") ∷ path_member path ∷ [])

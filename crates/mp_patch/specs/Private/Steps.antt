@@ -27,8 +27,11 @@ Inserts (Err (By TooDeep)) fits token v before after = (¬ LacksPlace token (Som
 Inserts (Err (By cause)) fits token v before after = ⊥
 Inserts (Err OutOfMemory) fits token v before after = ⊤
 
--- the part that the token named was taken out of the container, or there was none
-pub record TakesOut (taken : Option Doc) (token : List ℕ) (before after : Document) : Type 0 where
+-- the part that the token named, which means a document by f, was taken out of the container, or there was none
+pub record TakesOutBy {V : Type 0} (f : V → Document) (taken : Option V) (token : List ℕ) (before after : Document) : Type 0 where
   pub says :
       MatchOption taken (child token before ≡ None)
-      (λ x. (child token before ≡ Some (document x)) × RemovesFrom token before after)
+      (λ x. (child token before ≡ Some (f x)) × RemovesFrom token before after)
+
+abbrev pub TakesOut : Option Doc → List ℕ → Document → Document → Type 0
+TakesOut = TakesOutBy document

@@ -1,15 +1,16 @@
 -- What the editing of one part says of the document around it.
 use Rattle.std.proofs.Common.{◌≡◌, ◌<◌, ◌+◌, ◌-◌, ℕ, suc, List, [], ◌∷◌, take, Option, None, Some, option_and_then, MatchOption, refl, sym, ap, ap₂, ◌∙◌, subst, arith}
 use Rattle.std.specs.List.{slice_get, slice_range}
-use Rattle.mp_tree.specs.Document.{Document}
+use Rattle.mp_tree.specs.Document.{Document, IsDocument}
 use Rattle.mp_tree.specs.View.{document}
 use Rattle.mp_tree.specs.declared.doc.Doc.{Doc}
-use Rattle.mp_pointer.specs.Editing.{EditsAt}
+use Rattle.mp_pointer.specs.Editing.{EditsAt, EditsBy}
 use Rattle.mp_pointer.specs.Borrowing.{PartBecomes}
 use Rattle.mp_pointer.specs.Difference.{DifferOnlyAt}
 use Rattle.mp_pointer.specs.Part.{part, child}
 use Rattle.mp_pointer.specs.Spelling.{Tokens}
 use Rattle.mp_pointer.proofs.Parts.Along.{part-push, DifferOnlyAt-root}
+use Rattle.mp_pointer.proofs.Parts.Kinds.{equals_by_part}
 use Rattle.mp_pointer.proofs.Tokens.Lists.{drop_token}
 use Rattle.mp_pointer.proofs.Changes.Written.{becomes_deeper, nothing_changed}
 
@@ -63,3 +64,39 @@ edited_child Edited (Some o) token s t d e x y is here outer edits = subst (λ u
 -- from the first token on
 pub from_first : (t : Tokens) (count : ℕ) → slice_range t 0 count ≡ take count t
 from_first t count = let e : count - 0 ≡ count = omega arith in rw e refl
+
+-- ---- the same of what means a document by f
+
+module _ {V : Type 0} (f : V → Document) (good : (v : V) → IsDocument (f v)) where
+  pub edits_here-by : (Edited : V → V → Type 0) (t : Tokens) (d e : V) → t ≡ [] → Edited d e → EditsBy f Edited t d e
+  edits_here-by Edited t d e none edited = record {
+    before = d;
+    after = e;
+    edited = edited;
+    stood = ap (part (f d)) none;
+    stands = ap (part (f e)) none;
+    only = subst (λ s. DifferOnlyAt s (f d) (f e)) (sym none) (DifferOnlyAt-root (f d) (f e));
+  }
+
+  edits_deeper-by : (Edited : V → V → Type 0) (token : List ℕ) (t : Tokens) (d e x y : V) → child token (f d) ≡ Some (f x) → PartBecomes (token ∷ []) (f y) (f d) (f e) → EditsBy f Edited t x y
+      → EditsBy f Edited (token ∷ t) d e
+  edits_deeper-by Edited token t d e x y here outer edits =
+      let both = becomes_deeper (token ∷ []) t (f edits.after) (f y) (f d) (f x) (f e) (part-push (f d) [] token ∙ here) outer (record { stands = edits.stands; only = edits.only }) in
+      record {
+        before = edits.before;
+        after = edits.after;
+        edited = edits.edited;
+        stood = ap (option_and_then (λ g. part g t)) here ∙ edits.stood;
+        stands = both.stands;
+        only = both.only;
+      }
+
+  unchanged : (s : Tokens) (d e x y : V) → part (f d) s ≡ Some (f x) → PartBecomes s (f y) (f d) (f e) → f y ≡ f x → f e ≡ f d
+  unchanged s d e x y stood made same = sym (equals_by_part s (f d) (f e) (f x) (good d) (good e) made.only stood (made.stands ∙ ap Some same))
+
+  pub edited_child-by : {R : Type 0} (Edited : R → V → V → Type 0) (r : Option R) (token : List ℕ) (s t : Tokens) (d e x y : V) → s ≡ token ∷ t → child token (f d) ≡ Some (f x) → PartBecomes (token ∷ []) (f y) (f d) (f e)
+      → MatchOption r ((part (f x) t ≡ None) × (f y ≡ f x)) (λ o. EditsBy f (Edited o) t x y)
+      → MatchOption r ((part (f d) s ≡ None) × (f e ≡ f d)) (λ o. EditsBy f (Edited o) s d e)
+  edited_child-by Edited None token s t d e x y is here outer edits =
+      (ap (part (f d)) is ∙ ap (option_and_then (λ g. part g t)) here ∙ edits.0, unchanged (token ∷ []) d e x y (part-push (f d) [] token ∙ here) outer edits.1)
+  edited_child-by Edited (Some o) token s t d e x y is here outer edits = subst (λ u. EditsBy f (Edited o) u d e) (sym is) (edits_deeper-by (Edited o) token t d e x y here outer edits)

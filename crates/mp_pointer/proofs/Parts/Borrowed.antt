@@ -31,7 +31,7 @@ one_token-is t number token here =
 pub part-at : (d : Document) (t : Tokens) (number : ℕ) (token : List ℕ) → slice_get t number ≡ Some token → part d (one_token t number) ≡ child token d
 part-at d t number token here = ap (part d) (one_token-is t number token here) ∙ part-push d [] token
 
-becomes : (token : List ℕ) (d e d' e' x v : Document) → d ≡ d' → e ≡ e' → ChildChanges token d' e' x v → PartBecomes (token ∷ []) v d e
+pub becomes : (token : List ℕ) (d e d' e' x v : Document) → d ≡ d' → e ≡ e' → ChildChanges token d' e' x v → PartBecomes (token ∷ []) v d e
 becomes token d e d' e' x v is will changes =
     subst (λ a. PartBecomes (token ∷ []) v a e) (sym is)
     (subst (λ a. PartBecomes (token ∷ []) v d' a) (sym will)

@@ -33,15 +33,21 @@ list_of-items = list_of-by document
 
 -- ---- at an index
 
+pub nth-items-by : {V : Type 0} (f : V → Document) (i : ℕ) (vs : List V) → nth i (items_by f vs) ≡ option_map f (slice_get vs i)
+nth-items-by f i [] = refl
+nth-items-by f zero (v ∷ vs) = refl
+nth-items-by f (suc i) (v ∷ vs) = nth-items-by f i vs
+
 pub nth-items : (i : ℕ) (docs : List Doc) → nth i (items docs) ≡ option_map document (slice_get docs i)
-nth-items i [] = refl
-nth-items zero (d ∷ docs) = refl
-nth-items (suc i) (d ∷ docs) = nth-items i docs
+nth-items = nth-items-by document
+
+pub nth-here-by : {V : Type 0} (f : V → Document) (vs : List V) (i : ℕ) (x : V) → i < length vs → x ≡ get_or vs i x → nth i (items_by f vs) ≡ Some (f x)
+nth-here-by f [] i x less is = absurd (omega arith)
+nth-here-by f (v ∷ vs) zero x less is = ap (λ z. Some (f z)) (sym is)
+nth-here-by f (v ∷ vs) (suc i) x less is = nth-here-by f vs i x (omega arith) is
 
 pub nth-here : (ds : List Doc) (i : ℕ) (x : Doc) → i < length ds → x ≡ get_or ds i x → nth i (items ds) ≡ Some (document x)
-nth-here [] i x less is = absurd (omega arith)
-nth-here (d ∷ ds) zero x less is = ap (λ z. Some (document z)) (sym is)
-nth-here (d ∷ ds) (suc i) x less is = nth-here ds i x (omega arith) is
+nth-here = nth-here-by document
 
 pub nth_past : (i : ℕ) (ds : Items) → count_of ds ≤ i → nth i ds ≡ None
 nth_past i no_items past = refl
@@ -65,10 +71,13 @@ nth-set i x y no_items is = cc
 nth-set zero x y (item d ds) is = refl
 nth-set (suc i) x y (item d ds) is = nth-set i x y ds is
 
+pub items-set-by : {V : Type 0} (f : V → Document) (vs : List V) (i : ℕ) (y : V) → items_by f (set vs i y) ≡ set_item i (f y) (items_by f vs)
+items-set-by f [] i y = refl
+items-set-by f (v ∷ vs) zero y = refl
+items-set-by f (v ∷ vs) (suc i) y = ap (item (f v)) (items-set-by f vs i y)
+
 pub items-set : (ds : List Doc) (i : ℕ) (y : Doc) → items (set ds i y) ≡ set_item i (document y) (items ds)
-items-set [] i y = refl
-items-set (d ∷ ds) zero y = refl
-items-set (d ∷ ds) (suc i) y = ap (item (document d)) (items-set ds i y)
+items-set = items-set-by document
 
 -- ---- one list after another
 

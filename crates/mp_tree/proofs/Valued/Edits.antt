@@ -6,11 +6,14 @@ use Rattle.serde_json.specs.declared.value.Value.{Value}
 use Rattle.mp_tree.specs.Document.{Document, name_cmp, find, put, without, IsMap}
 use Rattle.mp_tree.specs.Private.Entries.{value_members}
 use Rattle.mp_tree.specs.Values.{value_document}
-use Rattle.mp_tree.proofs.Maps.Edits.{IsMap-by, looked_up-by, inserted-by, removed-by, put-by}
+use Rattle.mp_tree.proofs.Maps.Edits.{IsMap-by, find-by, looked_up-by, inserted-by, removed-by, put-by}
 use Rattle.mp_tree.proofs.Valued.Meaning.{IsDocument-value}
 
 pub IsMap-values : (es : List (String Global × Value)) → IsMap (value_members es)
 IsMap-values = IsMap-by value_document IsDocument-value
+
+pub find-values : (q : List ℕ) (es : List (String Global × Value)) → find q (value_members es) ≡ option_map value_document (lookup (is_at (λ k. name_cmp q (string_bytes k))) es)
+find-values = find-by value_document IsDocument-value
 
 pub values-inserted : (k : List ℕ) (m n : BTreeMap (String Global) Value) (v : Value) → UpdatesBy string_cmp (λ l. name_cmp k (string_bytes l)) m n (Some v)
     → value_members n.entries ≡ put k (value_document v) (value_members m.entries)

@@ -23,7 +23,7 @@ pub overflow_add-done : goal.overflow_add-done
 overflow_add-done c =
     let l = c.loop-op in
     let ops = c.into_ops-op-items.result in
-    let few : l.done < length c.args.patch = few_done (document c.args.doc) c.args.patch (into_iter_items l.op-iterator) l.done (document l.result) l.invariant.ran c.in-Some.op (into_iter_items c.next.new.self) c.in-Some.ensures.steps.0 in
+    let few : l.done < length c.args.patch = few_done operation_of (document c.args.doc) c.args.patch (into_iter_items l.op-iterator) l.done (document l.result) l.invariant.ran c.in-Some.op (into_iter_items c.next.new.self) c.in-Some.ensures.steps.0 in
     let all : length ops.items ≡ length c.args.patch = ap length c.into_ops-op-items.ensures in
     omega (arith, few, all, ops.ok.0, ops.ok.1, ops.small)
 
@@ -32,7 +32,7 @@ loop-op-preserved c =
     let l = c.loop-op in
     let answer = c.in_default.ensures.answer in
     record {
-      ran = run_further (document c.args.doc) c.args.patch (into_iter_items l.op-iterator) l.done (document l.result) l.invariant.ran c.in-Some.op (into_iter_items c.next.new.self) c.in-Some.ensures.steps.0 (document c.step_owned.new.doc) answer.0 answer.1;
+      ran = run_further operation_of (document c.args.doc) c.args.patch (into_iter_items l.op-iterator) l.done (document l.result) l.invariant.ran c.in-Some.op (into_iter_items c.next.new.self) c.in-Some.ensures.steps.0 (document c.step_owned.new.doc) answer.0 answer.1;
       bounds = c.in_default.ensures.bounds;
       shallow = λ shallow. Step-depth (document l.result) (operation_of c.in-Some.op) (document c.step_owned.new.doc) answer.0 answer.1 (IsDocument-document l.result) (IsDocument-document c.step_owned.new.doc) (l.invariant.shallow shallow);
       can_next = tt;
@@ -43,9 +43,9 @@ pub returns-in-Err-clause-runs : goal.returns-in-Err-clause-runs
 returns-in-Err-clause-runs c =
     let l = c.loop-op in
     subst (λ (fault : ApplyFault). IsApplyFault fault (document c.args.doc) (operations_of c.args.patch)) (sym c.of_operation.ensures)
-    (fault_next (document c.args.doc) c.args.patch (into_iter_items l.op-iterator) l.done (document l.result) l.invariant.ran c.in-Some.op (into_iter_items c.next.new.self) c.in-Some.ensures.steps.0 c.in-Err.refusal (document c.step_owned.new.doc) c.in-Err.ensures.answer)
+    (fault_next operation_of (document c.args.doc) c.args.patch (into_iter_items l.op-iterator) l.done (document l.result) l.invariant.ran c.in-Some.op (into_iter_items c.next.new.self) c.in-Some.ensures.steps.0 c.in-Err.refusal (document c.step_owned.new.doc) c.in-Err.ensures.answer)
 
 pub returns-clause-runs : goal.returns-clause-runs
 returns-clause-runs c =
     let l = c.loop-op in
-    run_end (document c.args.doc) c.args.patch (into_iter_items l.op-iterator) l.done (document l.result) l.invariant.ran (sym l.op-iterator.rest.ok.0 ∙ c.in-None.ensures.steps.0)
+    run_end operation_of (document c.args.doc) c.args.patch (into_iter_items l.op-iterator) l.done (document l.result) l.invariant.ran (sym l.op-iterator.rest.ok.0 ∙ c.in-None.ensures.steps.0)

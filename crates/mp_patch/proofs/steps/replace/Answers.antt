@@ -24,7 +24,7 @@ returns-in-Some-clause-answer c =
     replaced r fits path (document c.args.value) (document c.args.doc.now) (document c.edit_part.new.doc) (document edits.before) (document edits.edited.left.now)
     (λ h. omega (arith, admits.fits.0 h, c.len.ensures)) (λ h. admits.fits.1 (omega (arith, h, c.len.ensures)))
     (ap (part (document c.args.doc.now)) (sym all) ∙ edits.stood) (ap (part (document c.edit_part.new.doc)) (sym all) ∙ edits.stands ∙ ap Some will)
-    (subst (λ (t : Tokens). DifferOnlyAt t (document c.args.doc.now) (document c.edit_part.new.doc)) all edits.only) (set_means r fits edits.edited.left.now c.args.value set)
+    (subst (λ (t : Tokens). DifferOnlyAt t (document c.args.doc.now) (document c.edit_part.new.doc)) all edits.only) (set_means document r fits edits.edited.left.now c.args.value set)
 
 pub returns-in-Some-clause-bounds : goal.returns-in-Some-clause-bounds
 returns-in-Some-clause-bounds c =

@@ -1,22 +1,30 @@
 use Rattle.std.proofs.Common.{string_bytes}
 use Rattle.mp_tree.specs.Values.{value_document}
-use Rattle.mp_tree.specs.View.{document}
-use Rattle.mp_patch.specs.View.{operations_of}
+use Rattle.mp_patch.specs.View.{value_operations}
+use Rattle.mp_texts.proofs.Patched.{patched_readable}
 use Rattle.mp_texts.proofs.Readings.{text_written}
 use Rattle.mp_texts.proofs.documents.patch_text.Goals as goal
 
+-- what the operations leave can be read, since the document and the patch can
 pub returns : goal.returns
 returns c =
-    let end = document c.in_ok-patched.patched in
-    let written = c.in_ok-write_doc in
+    let d = value_document c.in_ok-doc.doc in
+    let form = value_document c.in_ok-form.form in
+    let operations = value_operations c.in_ok-operations.operations.items in
+    let end = value_document c.in_ok-patched.patched in
+    let written = c.in_ok-write_value in
+    let readable = c.readings_are_documents.ensures.document in
+    let forms = c.in_ok-operations.ensures in
+    let runs = c.in_ok-patched.ensures.runs in
+    let good = patched_readable c.run_laws.ensures d form end operations (readable c.args.document.now d c.in_ok-doc.ensures) (readable c.args.json_patch.now form c.in_ok-form.ensures) forms runs in
     record {
-      from = document c.in_ok-doc.doc;
-      document_read = c.in_ok-doc.ensures.read;
-      form = value_document c.in_ok-form.form;
+      from = d;
+      document_read = c.in_ok-doc.ensures;
+      form = form;
       patch_read = c.in_ok-form.ensures;
-      operations = operations_of c.in_ok-operations.operations;
-      forms = c.in_ok-operations.ensures;
+      operations = operations;
+      forms = forms;
       end = end;
-      runs = c.in_ok-patched.ensures.runs;
-      text = text_written end (string_bytes written.field-0) written.ensures.text written.ensures.reads_back (c.in_ok-patched.ensures.depth c.in_ok-doc.ensures.depth);
+      runs = runs;
+      text = text_written end (string_bytes written.field-0) written.ensures.text (λ within. written.ensures.reads_back good) good.within;
     }

@@ -3,14 +3,7 @@ use Rattle.mp_texts.proofs.laws.existence_laws.Goals as goal
 pub returns : goal.returns
 returns c = record {
   joins = c.join_laws.ensures;
-  runs = record {
-    documents = c.forms_have_documents.ensures;
-    one_end = c.one_end.ensures;
-    taken = c.operations_are_taken.ensures;
-    runs_or_refused = c.runs_or_is_refused.ensures;
-    unrefused = c.runs_are_not_refused.ensures;
-    shallow = c.runs_stay_shallow.ensures;
-  };
+  runs = c.run_laws.ensures;
   spelled_or_faulty = c.spells_or_is_faulty.ensures;
   readable_parts = c.parts_are_readable.ensures;
   form_or_faulty = c.is_form_or_faulty.ensures;

@@ -1,0 +1,56 @@
+use Rattle.std.proofs.Common.{◌≡◌, ◌≢◌, rules, true≢false, sym, ◌∙◌, subst}
+use Rattle.std.proofs.lemmas.Result.{err_from_is_err_and}
+use Rattle.std.proofs.lemmas.Bool.Decides.{Decides-at}
+use Rattle.mp_tree.specs.Values.{value_document}
+use Rattle.mp_tree.proofs.Facts.{IsDocument-value}
+use Rattle.mp_pointer.specs.Spelling.{IsProperPrefix}
+use Rattle.mp_pointer.proofs.Facts.{are_same_tokens-Decides}
+use Rattle.mp_patch.specs.Private.Bounds.{Bounds}
+use Rattle.mp_patch.proofs.Operations.Bounds.{part-bounds, Removes-bounds, added-bounds}
+use Rattle.mp_patch.proofs.Operations.Moves.{moved, not_moved, stays}
+use Rattle.mp_patch.proofs.value_steps.move_part.Goals as goal
+
+pub returns-in-Some-clause-answer : goal.returns-in-Some-clause-answer
+returns-in-Some-clause-answer c =
+    let f = c.args.origin.now in
+    let t = c.args.path.now in
+    let apart : ¬ IsProperPrefix f t = λ h. true≢false (sym (c.is_proper_prefix_of.ensures.1 h) ∙ c.if-is_proper_prefix_of.false) in
+    let same : f ≡ t = (Decides-at _ _ c.eq.ensures (are_same_tokens-Decides f t)).0 c.if-eq.true in
+    stays (value_document c.args.doc.now) (value_document c.in-Some.field-0.now) f t apart same (search rules)
+
+pub returns-in_err-part-clause-answer : goal.returns-in_err-part-clause-answer
+returns-in_err-part-clause-answer c =
+    let f = c.args.origin.now in
+    let t = c.args.path.now in
+    let apart : ¬ IsProperPrefix f t = λ h. true≢false (sym (c.is_proper_prefix_of.ensures.1 h) ∙ c.if-is_proper_prefix_of.false) in
+    let other : f ≢ t = λ h. true≢false (sym ((Decides-at _ _ c.eq.ensures (are_same_tokens-Decides f t)).1 h) ∙ c.if-eq.false) in
+    let p = err_from_is_err_and c.from_residual.result c.from_residual.ensures.1 in
+    rw (p.1, p.2) (not_moved c.in_err-part.field-0.0 f t (value_document c.args.doc.now) (value_document c.remove.new.doc) (value_document c.remove.new.doc) apart other c.in_err-part.ensures)
+
+pub returns-clause-answer : goal.returns-clause-answer
+returns-clause-answer c =
+    let f = c.args.origin.now in
+    let t = c.args.path.now in
+    let d = c.args.doc.now in
+    let apart : ¬ IsProperPrefix f t = λ h. true≢false (sym (c.is_proper_prefix_of.ensures.1 h) ∙ c.if-is_proper_prefix_of.false) in
+    let other : f ≢ t = λ h. true≢false (sym ((Decides-at _ _ c.eq.ensures (are_same_tokens-Decides f t)).1 h) ∙ c.if-eq.false) in
+    moved f t (value_document c.in_ok-part.part) (value_document d) (value_document c.remove.new.doc) (IsDocument-value d) apart other c.in_ok-part.ensures.1 c.in_ok-part.ensures.2 c.put.result (value_document c.put.new.doc) c.put.ensures
+
+-- the part is as much less deep than the document as it stood below it
+pub admit_value_part-fits-requires-clause-part : goal.admit_value_part-fits-requires-clause-part
+admit_value_part-fits-requires-clause-part c =
+    let most = c.args.bound.now.most in
+    let x = value_document c.in_ok-part.part in
+    subst (λ n. Bounds most n x) (sym c.len.ensures) (part-bounds most c.args.origin.now (value_document c.args.doc.now) x c.in_ok-part.ensures.1 c.requires)
+
+pub admit_value_part-fits-requires-clause-rest : goal.admit_value_part-fits-requires-clause-rest
+admit_value_part-fits-requires-clause-rest c =
+    let left = c.remove.new.doc in
+    Removes-bounds c.args.bound.now.most c.args.origin.now (value_document c.args.doc.now) (value_document left) c.in_ok-part.ensures.2 (IsDocument-value left) c.requires
+
+pub returns-clause-bounds : goal.returns-clause-bounds
+returns-clause-bounds c =
+    let end = c.put.new.doc in
+    let admits = c.admit_value_part-fits.ensures in
+    added-bounds c.admit_value_part-fits.result c.admit_value_part-fits.new.self.most c.len-2.result c.args.path.now (value_document c.in_ok-part.part) (value_document c.remove.new.doc) (value_document end)
+    c.len-2.ensures admits.fits.1 admits.bounds (IsDocument-value end) admits.kept c.put.result c.put.ensures
