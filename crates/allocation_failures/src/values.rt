@@ -6,7 +6,7 @@ use crate::merges::{
 use crate::preparing::{doc_of, two_docs_of};
 use crate::seen::{Seen, are_pointers};
 use mp_merge::ListFault;
-use mp_tree::{DocsFault, ReadFault, read_value, read_values, same_value};
+use mp_tree::{Doc, DocsFault, ReadFault, read_value, read_values, same_value};
 use serde_json::Value;
 use std::alloc::{AllocError, Global};
 
@@ -147,21 +147,30 @@ fn watch_copy_value_of_wide(alloc: Global) -> Option<Seen> {
     watch_copy(alloc, WIDE_JOIN)
 }
 
-/// Of a value, which is as it was, and the document that is a copy of it.
-fn watch_doc_copied(alloc: Global, text: &str) -> Option<Seen> {
-    let values = two_values_of(alloc, [text, text])?;
+fn watch_copy_to_doc(alloc: Global) -> Option<Seen> {
+    let values = two_values_of(alloc, [TEXT, TEXT])?;
     let [value, before] = &values;
-    let wanted = doc_of(alloc, text)?;
+    let wanted = doc_of(alloc, TEXT)?;
     let seen = Seen::of_doc(mp_tree::copy_to_doc(alloc, value), &wanted);
     Some(seen.with(same_value(value, before)))
 }
 
-fn watch_copy_to_doc(alloc: Global) -> Option<Seen> {
-    watch_doc_copied(alloc, TEXT)
+/// Whether the document has as many names as `WIDE_JOIN`, and its last one. It takes no memory.
+fn is_wide(doc: &Doc) -> bool {
+    match doc {
+        Doc::Members(entries) => entries.len() == 9 && entries.contains_key("i"),
+        _ => false,
+    }
 }
 
 fn watch_copy_to_doc_of_wide(alloc: Global) -> Option<Seen> {
-    watch_doc_copied(alloc, WIDE_JOIN)
+    let values = two_values_of(alloc, [WIDE_JOIN, WIDE_JOIN])?;
+    let [value, before] = &values;
+    let seen = match mp_tree::copy_to_doc(alloc, value) {
+        Ok(doc) => Seen::answer_if(is_wide(&doc)),
+        Err(_) => Seen::NoMemory,
+    };
+    Some(seen.with(same_value(value, before)))
 }
 
 fn watch_doc_of_value(alloc: Global) -> Option<Seen> {
