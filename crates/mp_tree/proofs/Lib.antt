@@ -7,5 +7,7 @@ pub mod Membership
 pub mod Options
 pub mod Passed
 pub mod Readings
+pub mod Standing
 pub mod Texts
+pub mod Parsed
 pub mod Valued

@@ -2,3 +2,4 @@
 pub mod Entries
 pub mod Faults
 pub mod Readings
+pub mod Trees

@@ -1,0 +1,30 @@
+-- The data that trees of any kind stand for, part by part. Only private clauses cite it.
+use Rattle.std.specs.Prelude.{◌≡◌, ℕ, Option, List, [], ◌∷◌, ⊤, String}
+use Rattle.std.specs.declared.alloc.Global.{Global}
+use Rattle.json.specs.Json.{members, value}
+use Rattle.json.specs.Token.{Token}
+use Rattle.serde_json.specs.Read.{of_members, converted}
+use Rattle.mp_tree.specs.View.{byte_entries}
+use Rattle.serde_json.specs.Data.{Data, Items, no_items, item, Members, no_members, member}
+
+-- each tree of a list stands for the element at its place
+abbrev pub AreOf : {T : Type 0} → (Data → T → Type 0) → Items → List T → Type 0
+AreOf IsOf no_items [] = ⊤
+AreOf IsOf no_items (t ∷ ts) = ⊥
+AreOf IsOf (item x xs) [] = ⊥
+AreOf IsOf (item x xs) (t ∷ ts) = IsOf x t × AreOf IsOf xs ts
+
+-- each tree that a name has stands for the member at its place
+abbrev pub MembersAreOf : {T : Type 0} → (Data → T → Type 0) → Members → List (List ℕ × T) → Type 0
+MembersAreOf IsOf no_members [] = ⊤
+MembersAreOf IsOf no_members (e ∷ es) = ⊥
+MembersAreOf IsOf (member n x ms) [] = ⊥
+MembersAreOf IsOf (member n x ms) (e ∷ es) = (n ≡ e.0) × IsOf x e.1 × MembersAreOf IsOf ms es
+
+-- the same of a map's entries
+abbrev pub EntriesAreOf : {T : Type 0} → (Data → T → Type 0) → Members → List (String Global × T) → Type 0
+EntriesAreOf IsOf ms es = MembersAreOf IsOf ms (byte_entries es)
+
+-- what the rest of an object is read as, if it has the old members already; n is at least the number of tokens
+abbrev pub members_after : Members → ℕ → ℕ → List Token → Option (Members × List Token)
+members_after old depth n ts = converted (λ ms. of_members ms old) (members (value depth) n ts)
