@@ -78,18 +78,18 @@ fn read_any(alloc: Global, bytes: &[u8]) -> Result<Doc, Unread>
         → (IsSome (data_in bytes.now) × (read bytes.now ≡ None)) }
 {
     let mut scratch = Scratch::new(alloc);
-    match read_parts(alloc, bytes, &mut scratch) {
+    match read_by_tokens(alloc, bytes, &mut scratch) {
         Ok(doc) => Ok(doc),
         Err(Unread::NotWhole) => {
-            let Tree { value, fits: _ } = read_tree(alloc, bytes, DEPTH_LIMIT, &mut scratch)?;
-            Ok(doc_of(value, alloc)?)
+            let whole = read_whole(alloc, bytes, DEPTH_LIMIT, &mut scratch)?;
+            Ok(doc_of(whole.value, alloc)?)
         }
         Err(unread) => Err(unread),
     }
 }
 
 // `NotWhole` says nothing of the document: see above.
-fn read_parts(alloc: Global, bytes: &[u8], scratch: &mut Scratch) -> Result<Doc, Unread>
+fn read_by_tokens(alloc: Global, bytes: &[u8], scratch: &mut Scratch) -> Result<Doc, Unread>
     ensures ok { IfOk result (λ d. read bytes.now ≡ Some (document d)) }
     ensures nests { IfOk result (λ d. depth (document d) ≤ max_depth) }
     ensures not_json { result ≡ Err Unread.NotJson → data_in bytes.now ≡ None }
@@ -102,17 +102,17 @@ fn read_parts(alloc: Global, bytes: &[u8], scratch: &mut Scratch) -> Result<Doc,
 
 // What was read: a value whose numbers are whole, and whether it is as shallow as asked.
 #[derive(Drop)]
-pub(crate) struct Tree {
+pub(crate) struct WholeValue {
     pub(crate) value: Value,
     pub(crate) fits: bool,
 }
 
-pub(crate) fn read_tree(
+pub(crate) fn read_whole(
     alloc: Global,
     bytes: &[u8],
     limit: u32,
     scratch: &mut Scratch,
-) -> Result<Tree, Unread>
+) -> Result<WholeValue, Unread>
     ensures ok { IfOk result (λ t. read bytes.now ≡ Some (value_document t.value)) }
     ensures fits { IfOk result (λ t. IsTrue t.fits ↔ (depth (value_document t.value) ≤ limit)) }
     ensures nests { IfOk result (λ t. depth (value_document t.value) ≤ max_depth) }
@@ -122,8 +122,8 @@ pub(crate) fn read_tree(
 {
     let value = read_json(alloc, bytes, scratch)?;
     match reading_of(&value, limit) {
-        Reading::Fits => Ok(Tree { value, fits: true }),
-        Reading::TooDeep => Ok(Tree { value, fits: false }),
+        Reading::Fits => Ok(WholeValue { value, fits: true }),
+        Reading::TooDeep => Ok(WholeValue { value, fits: false }),
         Reading::NotWhole => Err(Unread::NotWhole),
     }
 }

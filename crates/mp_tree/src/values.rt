@@ -15,7 +15,7 @@ use crate::converting::doc_of;
 use crate::copying::doc_copied;
 use crate::doc::Doc;
 use crate::fault::{DocsFault, ReadFault};
-use crate::reading::{DEPTH_LIMIT, Tree, read_tree};
+use crate::reading::{DEPTH_LIMIT, WholeValue, read_whole};
 use crate::value_copying::copy_of;
 use crate::value_walks::is_same;
 use crate::value_writing::Written;
@@ -67,7 +67,7 @@ impl ValueReader {
             → document_in bytes.now ≡ Err fault) }
         ensures depth { IfOk result (λ v. depth (value_document v) ≤ depth_limit) }
     {
-        let Tree { value, fits } = read_tree(alloc, bytes, DEPTH_LIMIT, &mut self.scratch)?;
+        let WholeValue { value, fits } = read_whole(alloc, bytes, DEPTH_LIMIT, &mut self.scratch)?;
         if fits {
             Ok(value)
         } else {
@@ -89,7 +89,8 @@ pub fn read_values(alloc: Global, bytes: &[u8]) -> Result<Vec<Value>, DocsFault>
     ensures depth { IfOk result (λ vs.
         All (λ v. depth (value_document v) ≤ depth_limit) vs.items) }
 {
-    let Tree { value, fits: _ } = read_tree(alloc, bytes, DEPTH_LIMIT, &mut Scratch::new(alloc))?;
+    let WholeValue { value, fits: _ } =
+        read_whole(alloc, bytes, DEPTH_LIMIT, &mut Scratch::new(alloc))?;
     match value {
         Value::Array(values) => Ok(values),
         _ => Err(DocsFault::NotAnArray),

@@ -5,7 +5,7 @@ use Rattle.serde_json.proofs.Nesting.{depth-read}
 use Rattle.mp_tree.specs.Text.{from_data}
 use Rattle.mp_tree.specs.View.{document}
 use Rattle.mp_tree.proofs.Readings.Values.{data_in-some, data_in-none, depth-from}
-use Rattle.mp_tree.proofs.reading.read_parts.Goals as goal
+use Rattle.mp_tree.proofs.reading.read_by_tokens.Goals as goal
 
 pub returns-in-Ok-clause-ok : goal.returns-in-Ok-clause-ok
 returns-in-Ok-clause-ok c =
