@@ -1,8 +1,8 @@
 -- What an array and an object of values lend of one child, and what a token names in them.
-use Rattle.std.proofs.Common.{false, true, ◌≡◌, ◌<◌, ◌≤◌, ◌^◌, ℕ, List, [], ◌∷◌, length, get_or, Option, None, Some, option_map, Vec, BTreeMap, String, Global, string_bytes, string_cmp, Bor, MutBor, refl, sym, ap, ◌∙◌, arith}
+use Rattle.std.proofs.Common.{◌≡◌, ◌<◌, ◌≤◌, ◌^◌, ℕ, List, [], ◌∷◌, length, get_or, Option, None, Some, option_map, Vec, BTreeMap, String, Global, string_bytes, string_cmp, Bor, refl, sym, ap, ◌∙◌, arith}
 use Rattle.std.proofs.lemmas.Option.{slice_get_past}
 use Rattle.std.specs.BTreeMap.{UpdatesBy, get_by_text}
-use Rattle.std.specs.Option.{OnSome, IfSome, IsSome, option_copied, option_copied_mut}
+use Rattle.std.specs.Option.{IsSome, option_copied}
 use Rattle.std.specs.Vec.{with_item}
 use Rattle.serde_json.specs.declared.value.Value.{Value, Array, Object}
 use Rattle.mp_tree.specs.Document.{list, object, name_cmp, find, put}
