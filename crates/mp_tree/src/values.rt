@@ -89,8 +89,8 @@ pub fn read_values(alloc: Global, bytes: &[u8]) -> Result<Vec<Value>, DocsFault>
     ensures depth { IfOk result (λ vs.
         All (λ v. depth (value_document v) ≤ depth_limit) vs.items) }
 {
-    let WholeValue { value, fits: _ } =
-        read_whole(alloc, bytes, DEPTH_LIMIT, &mut Scratch::new(alloc))?;
+    let mut scratch = Scratch::new(alloc);
+    let WholeValue { value, fits: _ } = read_whole(alloc, bytes, DEPTH_LIMIT, &mut scratch)?;
     match value {
         Value::Array(values) => Ok(values),
         _ => Err(DocsFault::NotAnArray),
