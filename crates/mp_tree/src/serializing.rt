@@ -37,7 +37,7 @@ fn send<S: Serializer>(doc: &Doc, out: &mut S) -> Result<(), S::Error>
     }
 }
 
-pub(crate) fn send_whole<S: Serializer>(whole: &Whole, out: &mut S) -> Result<(), S::Error>
+fn send_whole<S: Serializer>(whole: &Whole, out: &mut S) -> Result<(), S::Error>
     ensures { OnOk result (SendsValue (number (of_integer (number_of whole.now)))
         (S.written out.old) (S.written out.new)) }
 {
