@@ -10,7 +10,7 @@ use Rattle.json.specs.Token.{Token}
 use Rattle.json.proofs.Grammar.{items_end, items_fail, items_more, members_end, members_fail, members_more, members_no_key, value_is, value-begin_array, value-begin_object}
 use Rattle.serde_json.specs.Data.{Data, null, boolean, number, string, array, object, Items, no_items, item, Members, no_members, member, put}
 use Rattle.serde_json.specs.Read.{number_of, of_json, of_items, of_members, converted}
-use Rattle.mp_tree.specs.Private.Trees.{AreOf, EntriesAreOf}
+use Rattle.mp_tree.specs.Private.Trees.{AreOf, EntriesAreOf, Gathers}
 use Rattle.mp_tree.proofs.Options.{some_same}
 
 -- ---- what is converted
@@ -178,6 +178,19 @@ module _ {T : Type 0} (IsOf : Data → T → Type 0) where
   EntriesAreOf-put (member n y ms) (e ∷ es) k x t are is =
       let same : slice_cmp nat_cmp (string_bytes k) n ≡ string_cmp k e.0 = ap (slice_cmp nat_cmp (string_bytes k)) are.0 in
       rw same (put_at (string_cmp k e.0) k x t n y ms e es are.0 are.1 are.2 is (EntriesAreOf-put ms es k x t are.2 is))
+
+  -- what is gathered is in the list if that has some
+  pub gathered_list : (ms : Members) (es ps : List (String Global × T)) → 0 < length ps → Gathers IsOf ms es ps → EntriesAreOf IsOf ms ps
+  gathered_list ms es [] some are = absurd (omega (arith, some))
+  gathered_list ms es (p ∷ ps) some are = are
+
+  pub gathered_pushed : (ms : Members) (es ps : List (String Global × T)) (p : String Global × T) → EntriesAreOf IsOf ms (ps ++ p ∷ []) → Gathers IsOf ms es (ps ++ p ∷ [])
+  gathered_pushed ms es [] p are = are
+  gathered_pushed ms es (q ∷ ps) p are = are
+
+  pub gathered_only : (ms : Members) (ps : List (String Global × T)) → EntriesAreOf IsOf ms ps → Gathers IsOf ms [] ps
+  gathered_only ms [] are = are
+  gathered_only ms (p ∷ ps) are = are
 
 -- ---- the whole text
 

@@ -4,13 +4,13 @@ ghost use Rattle.std.specs.List.Sorted.{IsStrictlySortedBy};
 ghost use Rattle.std.specs.Map.{keys_of};
 ghost use Rattle.std.specs.declared.cmp.Ordering.TheVariants.{Less};
 ghost use Rattle.std.specs.String.{string_cmp};
-ghost use Rattle.std.specs.Prelude.{◌≡◌, ◌≤◌, ◌<◌, [], ◌∷◌, ◌++◌, ℕ, false, true, IsTrue, IfSome, slice_get, ◌-◌, length, None, Some, Err, OnOk, IfOk, option_map};
+ghost use Rattle.std.specs.Prelude.{◌≡◌, ◌≤◌, ◌<◌, [], ◌∷◌, ◌++◌, false, true, IsTrue, IfSome, slice_get, ◌-◌, length, string_bytes, None, Some, Err, OnOk, IfOk, option_map};
 ghost use Rattle.json.specs.Json.{value};
 ghost use Rattle.json.specs.Token.{begin_array, begin_object};
-ghost use Rattle.serde_json.specs.Data.{Data, Items, Members, array, object};
+ghost use Rattle.serde_json.specs.Data.{Data, Items, Members, array, object, put};
 ghost use Rattle.serde_json.specs.Read.{number_of, number_from, of_json, converted, read};
 ghost use Rattle.serde_json.specs.View.{number_view};
-ghost use Rattle.mp_tree.specs.Private.Trees.{AreOf, EntriesAreOf, members_after};
+ghost use Rattle.mp_tree.specs.Private.Trees.{AreOf, EntriesAreOf, Gathers};
 
 use crate::building::map_of;
 use crate::converting::Unread;
@@ -20,6 +20,7 @@ use json::{Reader, Scratch, Token};
 use serde_json::{Number, Value};
 use std::alloc::{AllocError, Global};
 use std::collections::BTreeMap;
+use std::mem;
 
 // How deep arrays and objects may nest in a text.
 const NESTING: usize = 127;
@@ -121,82 +122,62 @@ fn rest_of_object<T: Tree>(
         return Err(Unread::NotJson);
     }
     let mut entries = BTreeMap::new(alloc);
-    let mut ascends = false;
-    'members: while entries.len() < MANY {
-        let Some(text) = reader.next_key()? else {
-            return Ok(entries);
-        };
-        let name = String::from_str(alloc, text)?;
-        let member = next_tree(reader, depth - 1, alloc)?;
-        ascends = entries.len() + 1 == MANY && is_above(&entries, &name);
-        drop(entries.insert(name, member)?);
-    }
-    if ascends {
-        many_members(reader, depth - 1, entries, alloc)
-    } else {
-        other_members(reader, depth - 1, entries, alloc)
-    }
-}
-
-// The members of an object that has these already. While their names ascend they wait in a list: a map that is built whole of it
-// costs less than an insertion each, which looks for the place of the name.
-#[cycle(next_tree)]
-#[inline(never)]
-fn many_members<T: Tree>(
-    reader: &mut Reader<'_>,
-    depth: usize,
-    entries: BTreeMap<String, T>,
-    alloc: Global,
-) -> Result<BTreeMap<String, T>, Unread>
-    ensures ok { (old : Members) → (n : ℕ) → length reader.old ≤ n
-        → EntriesAreOf T.IsOf old entries.entries
-        → IfOk result (λ m. (ms : Members) × (members_after old depth n reader.old
-        ≡ Some (ms, reader.new)) × EntriesAreOf T.IsOf ms m.entries) }
-    ensures no_longer { OnOk result (length reader.new ≤ length reader.old) }
-    ensures not_json { (old : Members) → (n : ℕ) → length reader.old ≤ n
-        → EntriesAreOf T.IsOf old entries.entries → result ≡ Err Unread.NotJson
-        → members_after old depth n reader.old ≡ None }
-    ensures not_whole { result ≡ Err Unread.NotWhole → T.Refuses }
-{
-    let mut pairs = listed(entries, alloc)?;
-    'ascending: while let Some(text) = reader.next_key()? {
-        let name = String::from_str(alloc, text)?;
-        let member = next_tree(reader, depth, alloc)?;
-        if !goes_last(&pairs, &name) {
-            let mut entries = map_of(alloc, pairs)?;
-            drop(entries.insert(name, member)?);
-            return other_members(reader, depth, entries, alloc);
-        }
-        pairs.push((name, member))?;
-    }
-    Ok(map_of(alloc, pairs)?)
-}
-
-// The same with an insertion each.
-#[cycle(next_tree)]
-#[inline(never)]
-fn other_members<T: Tree>(
-    reader: &mut Reader<'_>,
-    depth: usize,
-    mut entries: BTreeMap<String, T>,
-    alloc: Global,
-) -> Result<BTreeMap<String, T>, Unread>
-    ensures ok { (old : Members) → (n : ℕ) → length reader.old ≤ n
-        → EntriesAreOf T.IsOf old entries.entries
-        → IfOk result (λ m. (ms : Members) × (members_after old depth n reader.old
-        ≡ Some (ms, reader.new)) × EntriesAreOf T.IsOf ms m.entries) }
-    ensures no_longer { OnOk result (length reader.new ≤ length reader.old) }
-    ensures not_json { (old : Members) → (n : ℕ) → length reader.old ≤ n
-        → EntriesAreOf T.IsOf old entries.entries → result ≡ Err Unread.NotJson
-        → members_after old depth n reader.old ≡ None }
-    ensures not_whole { result ≡ Err Unread.NotWhole → T.Refuses }
-{
+    let mut pairs = Vec::new(alloc);
     'members: while let Some(text) = reader.next_key()? {
         let name = String::from_str(alloc, text)?;
-        let member = next_tree(reader, depth, alloc)?;
-        drop(entries.insert(name, member)?);
+        let member = next_tree(reader, depth - 1, alloc)?;
+        gather(&mut entries, &mut pairs, name, member, alloc)?;
     }
+    unlist(&mut entries, &mut pairs, alloc)?;
     Ok(entries)
+}
+
+// Takes a member to those of its object so far. They are in the map. From the 64th on, they are in the list while their names ascend:
+// a map that is built whole of it costs less than an insertion each, which looks for the place of the name.
+#[inline(never)]
+fn gather<T: Tree>(
+    entries: &mut BTreeMap<String, T>,
+    pairs: &mut Vec<(String, T)>,
+    name: String,
+    member: T,
+    alloc: Global,
+) -> Result<(), AllocError>
+    requires { IsStrictlySortedBy string_cmp (keys_of pairs.old.items) }
+    ensures ascend { OnOk result (IsStrictlySortedBy string_cmp (keys_of pairs.new.items)) }
+    ensures gathered { (ms : Members) → (x : Data) → T.IsOf x member
+        → Gathers T.IsOf ms entries.old.entries pairs.old.items → OnOk result
+        (Gathers T.IsOf (put (string_bytes name) x ms) entries.new.entries pairs.new.items) }
+{
+    if goes_last(pairs, &name) {
+        pairs.push((name, member))?;
+        return Ok(());
+    }
+    unlist(entries, pairs, alloc)?;
+    let ascends = entries.len() + 1 == MANY && is_above(entries, &name);
+    drop(entries.insert(name, member)?);
+    if ascends {
+        let before = mem::replace(entries, BTreeMap::new(alloc));
+        *pairs = listed(before, alloc)?;
+    }
+    Ok(())
+}
+
+// What is in the list, if it has something, becomes the map.
+fn unlist<T: Tree>(
+    entries: &mut BTreeMap<String, T>,
+    pairs: &mut Vec<(String, T)>,
+    alloc: Global,
+) -> Result<(), AllocError>
+    requires { IsStrictlySortedBy string_cmp (keys_of pairs.old.items) }
+    ensures unlisted { OnOk result (pairs.new.items ≡ []) }
+    ensures mapped { (ms : Members) → Gathers T.IsOf ms entries.old.entries pairs.old.items
+        → OnOk result (EntriesAreOf T.IsOf ms entries.new.entries) }
+{
+    if !pairs.is_empty() {
+        let ascending = mem::replace(pairs, Vec::new(alloc));
+        *entries = map_of(alloc, ascending)?;
+    }
+    Ok(())
 }
 
 // A map's entries, in a list with capacity for as many again.
@@ -226,10 +207,11 @@ fn is_above<T>(entries: &BTreeMap<String, T>, name: &String) -> bool
     }
 }
 
-// Whether the name is above those of the pairs, of which there are some, and which ascend.
+// Whether there are pairs, and the name is above theirs, which ascend.
 fn goes_last<T>(pairs: &Vec<(String, T)>, name: &String) -> bool
     requires { IsStrictlySortedBy string_cmp (keys_of pairs.now.items) }
-    ensures { IsTrue result → (t : T)
+    ensures some { IsTrue result → 0 < length pairs.now.items }
+    ensures ascend { IsTrue result → (t : T)
         → IsStrictlySortedBy string_cmp (keys_of (pairs.now.items ++ (name.now, t) ∷ [])) }
 {
     match pairs.last() {

@@ -1,5 +1,5 @@
 -- A map built from pairs whose names ascend has just those pairs as its entries.
-use Rattle.std.proofs.Common.{◌≡◌, ◌⊎◌, inl, inr, ℕ, ◌-◌, zero, suc, List, [], ◌∷◌, length, map, Ordering, Less, Equal, Greater, is_lt, slice_get, true, true≢false, cond, Some, None, String, BTreeMap, Global, string_bytes, string_cmp, refl, sym, ap, ◌∙◌, subst, ◌++◌, arith}
+use Rattle.std.proofs.Common.{◌≡◌, ◌<◌, ◌⊎◌, inl, inr, ℕ, ◌-◌, zero, suc, List, [], ◌∷◌, length, map, Ordering, Less, Equal, Greater, is_lt, slice_get, true, true≢false, cond, Some, None, String, BTreeMap, Global, string_bytes, string_cmp, refl, sym, ap, ◌∙◌, subst, ◌++◌, arith}
 use Rattle.std.proofs.lemmas.Cmp.{nat_list_cmp_total, on_total, eq_by_cmp_equiv}
 use Rattle.std.proofs.lemmas.Map.Keys.{IsDistinct-from_sorted}
 use Rattle.std.proofs.lemmas.Map.Made.{update_all_none}
@@ -123,6 +123,10 @@ all_at P (d ∷ es) (suc i) e is all = all_at P es i e is all.1
 all_push : {V : Type 0} (P : String Global → Type 0) (es : List (String Global × V)) (k : String Global) (v : V) → AllByRecursion P (keys_of es) → P k → AllByRecursion P (keys_of (es ++ (k, v) ∷ []))
 all_push P [] k v all here = (here, tt)
 all_push P (e ∷ es) k v all here = (all.0, all_push P es k v all.1 here)
+
+pub some_last : {A : Type 0} (xs : List A) (x : A) → slice_get xs (length xs - 1) ≡ Some x → 0 < length xs
+some_last [] x is = absurd (cc)
+some_last (y ∷ xs) x is = omega arith
 
 -- a name that is above the last of ascending entries goes after them
 pub ascend_push : {V : Type 0} (es : List (String Global × V)) (last : String Global × V) (k : String Global) (v : V) → slice_get es (length es - 1) ≡ Some last → string_cmp last.0 k ≡ Less

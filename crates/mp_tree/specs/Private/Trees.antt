@@ -1,9 +1,6 @@
 -- The data that trees of any kind stand for, part by part. Only private clauses cite it.
-use Rattle.std.specs.Prelude.{◌≡◌, ℕ, Option, List, [], ◌∷◌, ⊤, String}
+use Rattle.std.specs.Prelude.{◌≡◌, ℕ, List, [], ◌∷◌, ⊤, String}
 use Rattle.std.specs.declared.alloc.Global.{Global}
-use Rattle.json.specs.Json.{members, value}
-use Rattle.json.specs.Token.{Token}
-use Rattle.serde_json.specs.Read.{of_members, converted}
 use Rattle.mp_tree.specs.View.{byte_entries}
 use Rattle.serde_json.specs.Data.{Data, Items, no_items, item, Members, no_members, member}
 
@@ -25,6 +22,7 @@ MembersAreOf IsOf (member n x ms) (e ∷ es) = (n ≡ e.0) × IsOf x e.1 × Memb
 abbrev pub EntriesAreOf : {T : Type 0} → (Data → T → Type 0) → Members → List (String Global × T) → Type 0
 EntriesAreOf IsOf ms es = MembersAreOf IsOf ms (byte_entries es)
 
--- what the rest of an object is read as, if it has the old members already; n is at least the number of tokens
-abbrev pub members_after : Members → ℕ → ℕ → List Token → Option (Members × List Token)
-members_after old depth n ts = converted (λ ms. of_members ms old) (members (value depth) n ts)
+-- the members of an object so far: the pairs of a list if it has some, and else the entries of a map
+abbrev pub Gathers : {T : Type 0} → (Data → T → Type 0) → Members → List (String Global × T) → List (String Global × T) → Type 0
+Gathers IsOf ms es [] = EntriesAreOf IsOf ms es
+Gathers IsOf ms es (p ∷ ps) = EntriesAreOf IsOf ms (p ∷ ps)

@@ -1,6 +1,5 @@
-use Rattle.std.proofs.Common.{◌≡◌, ◌-◌, ◌<◌, [], ◌∷◌, ◌++◌, length, None, Some, string_bytes, string_cmp, refl, sym, ap, ◌∙◌, subst, arith, rules}
+use Rattle.std.proofs.Common.{◌≡◌, ◌-◌, ◌<◌, [], ◌∷◌, length, None, Some, string_bytes, string_cmp, refl, sym, ap, ◌∙◌, subst, arith, rules}
 use Rattle.std.proofs.lemmas.Result.{IfOk-weaker}
-use Rattle.std.specs.BTreeMap.{insert_entry}
 use Rattle.std.specs.List.Sorted.{IsStrictlySortedBy}
 use Rattle.std.specs.Map.{keys_of}
 use Rattle.json.specs.Token as token
@@ -11,9 +10,8 @@ use Rattle.serde_json.specs.Data.{null, boolean, number, string, array, object, 
 use Rattle.serde_json.specs.Read.{of_json, of_items, converted}
 use Rattle.serde_json.specs.View.{view, number_view}
 use Rattle.serde_json.specs.declared.value.Value.{String, Number, Bool, Null, the_lemmas}
-use Rattle.mp_tree.specs.Private.Trees.{AreOf, EntriesAreOf, MembersAreOf}
-use Rattle.mp_tree.proofs.Maps.Building.{insert-last}
-use Rattle.mp_tree.proofs.Parsed.{array-opened, object-opened, array-too_deep, object-too_deep, element_read, element_refused, array_closed, member_read, member_refused, name_refused, object_closed, null-read, boolean-read, string-read, number-read, before, before-none, pushed, nothing_before, AreOf-push, EntriesAreOf-put}
+use Rattle.mp_tree.specs.Private.Trees.{AreOf, EntriesAreOf, Gathers}
+use Rattle.mp_tree.proofs.Parsed.{array-opened, object-opened, array-too_deep, object-too_deep, element_read, element_refused, array_closed, member_read, member_refused, name_refused, object_closed, null-read, boolean-read, string-read, number-read, before, before-none, pushed, nothing_before, AreOf-push}
 use Rattle.mp_tree.proofs.tokens.+next_tree.Goals as goal
 
 pub next_tree-returns-in_default-clause-not_json : goal.next_tree-returns-in_default-clause-not_json
@@ -129,14 +127,18 @@ rest_of_object-returns-then-depth-eq0-clause-not_json g t c never =
     rw none (object-too_deep c.args.reader.now)
 
 pub rest_of_object-members-init : goal.rest_of_object-members-init
-rest_of_object-members-init g t c = record {
-  turns = length c.args.reader.now;
-  parts = no_members;
-  enough = omega arith;
-  are = subst (EntriesAreOf g.T.Tree.IsOf no_members) (sym c.new-entries.ensures.empty) tt;
-  read = refl;
-  no_longer = omega arith;
-}
+unfolding IsStrictlySortedBy
+rest_of_object-members-init g t c =
+    let no_pairs = sym c.new-pairs.ensures.items in
+    record {
+      turns = length c.args.reader.now;
+      parts = no_members;
+      enough = omega arith;
+      ascend = subst (λ ps. IsStrictlySortedBy string_cmp (keys_of ps)) no_pairs tt;
+      are = subst (Gathers g.T.Tree.IsOf no_members c.new-entries.result.entries) no_pairs (subst (EntriesAreOf g.T.Tree.IsOf no_members) (sym c.new-entries.ensures.empty) tt);
+      read = refl;
+      no_longer = omega arith;
+    }
 
 pub rest_of_object-returns-in_err-text-clause-not_json : goal.rest_of_object-returns-in_err-text-clause-not_json
 rest_of_object-returns-in_err-text-clause-not_json g t c refused =
@@ -168,207 +170,20 @@ rest_of_object-members-preserved g t c =
     let less = read_key-shorter l.reader (Some k) s named in
     let lesser = c.in_ok-member.ensures.shorter in
     let copied : string_bytes c.in_ok-name.name ≡ k = search rules in
-    let put_there = EntriesAreOf-put g.T.Tree.IsOf parts l.entries.entries c.in_ok-name.name x c.in_ok-member.member l.invariant.are found.2 in
     record {
       turns = turns - 1;
       parts = put k x parts;
       enough = omega (arith, l.invariant.enough);
-      are = subst (λ es. EntriesAreOf g.T.Tree.IsOf (put k x parts) es) (sym c.in_ok-insert.ensures.entries)
-          (subst (λ name. EntriesAreOf g.T.Tree.IsOf (put name x parts) (insert_entry string_cmp l.entries.entries c.in_ok-name.name c.in_ok-member.member)) copied put_there);
+      ascend = c.in_ok-gather.ensures.ascend;
+      are = subst (λ name. Gathers g.T.Tree.IsOf (put name x parts) c.gather.new.entries.entries c.gather.new.pairs.items) copied (c.in_ok-gather.ensures.gathered parts x found.2 l.invariant.are);
       read = l.invariant.read ∙ member_read p parts turns k l.reader s r x (omega (arith, l.invariant.enough)) named found.1;
       no_longer = omega (arith, l.invariant.no_longer);
     }
 
-pub rest_of_object-returns-in_default-clause-ok : goal.rest_of_object-returns-in_default-clause-ok
-rest_of_object-returns-in_default-clause-ok g t c =
+pub rest_of_object-returns-clause-ok : goal.rest_of_object-returns-clause-ok
+rest_of_object-returns-clause-ok g t c =
     let p = value (c.args.depth - 1) in
     let l = c.members in
     let closed = l.invariant.read ∙ object_closed p l.invariant.parts l.invariant.turns l.reader c.next_key.new.self l.invariant.enough (grind arith) in
     let whole = object-opened c.args.depth c.args.reader.now (omega arith) ∙ ap (parse_map object) closed in
-    (l.invariant.parts, whole, l.invariant.are)
-
-pub rest_of_object-returns-then-ascends-clause-ok : goal.rest_of_object-returns-then-ascends-clause-ok
-rest_of_object-returns-then-ascends-clause-ok g t c =
-    let l = c.members in
-    IfOk-weaker c.many_members.result _ _
-    (λ m found. (found.0, object-opened c.args.depth c.args.reader.now (omega arith) ∙ ap (parse_map object) (l.invariant.read ∙ found.1), found.2))
-    (c.many_members.ensures.ok l.invariant.parts l.invariant.turns l.invariant.enough l.invariant.are)
-
-pub rest_of_object-returns-then-ascends-clause-not_json : goal.rest_of_object-returns-then-ascends-clause-not_json
-rest_of_object-returns-then-ascends-clause-not_json g t c refused =
-    let l = c.members in
-    object-opened c.args.depth c.args.reader.now (omega arith)
-    ∙ ap (parse_map object) (l.invariant.read ∙ c.many_members.ensures.not_json l.invariant.parts l.invariant.turns l.invariant.enough l.invariant.are refused)
-
-pub rest_of_object-returns-else-ascends-clause-ok : goal.rest_of_object-returns-else-ascends-clause-ok
-rest_of_object-returns-else-ascends-clause-ok g t c =
-    let l = c.members in
-    IfOk-weaker c.other_members.result _ _
-    (λ m found. (found.0, object-opened c.args.depth c.args.reader.now (omega arith) ∙ ap (parse_map object) (l.invariant.read ∙ found.1), found.2))
-    (c.other_members.ensures.ok l.invariant.parts l.invariant.turns l.invariant.enough l.invariant.are)
-
-pub rest_of_object-returns-else-ascends-clause-not_json : goal.rest_of_object-returns-else-ascends-clause-not_json
-rest_of_object-returns-else-ascends-clause-not_json g t c refused =
-    let l = c.members in
-    object-opened c.args.depth c.args.reader.now (omega arith)
-    ∙ ap (parse_map object) (l.invariant.read ∙ c.other_members.ensures.not_json l.invariant.parts l.invariant.turns l.invariant.enough l.invariant.are refused)
-
-pub other_members-members-init : goal.other_members-members-init
-other_members-members-init g t c = record {
-  no_longer = omega arith;
-  read = λ old n enough are. (n, old, enough, are, refl);
-}
-
-pub other_members-returns-in_err-text-clause-not_json : goal.other_members-returns-in_err-text-clause-not_json
-other_members-returns-in_err-text-clause-not_json g t c = λ old n enough are refused.
-    let l = c.members in
-    let so_far = l.invariant.read old n enough are in
-    so_far.4 ∙ name_refused (value c.args.depth) so_far.1 so_far.0 l.reader c.in_err-text.ensures.value
-
-pub other_members-returns-in_err-member-clause-not_json : goal.other_members-returns-in_err-member-clause-not_json
-other_members-returns-in_err-member-clause-not_json g t c = λ old n enough are refused.
-    let l = c.members in
-    let so_far = l.invariant.read old n enough are in
-    let k = c.in-Some.text.now in
-    let s = c.next_key.new.self in
-    let named : read_key l.reader ≡ Some (Some k, s) = grind arith in
-    so_far.4 ∙ member_refused (value c.args.depth) so_far.1 so_far.0 k l.reader s named (c.next_tree.ensures.not_json (grind arith))
-
-pub other_members-members-preserved : goal.other_members-members-preserved
-other_members-members-preserved g t c =
-    let l = c.members in
-    let k = c.in-Some.text.now in
-    let s = c.next_key.new.self in
-    let named : read_key l.reader ≡ Some (Some k, s) = grind arith in
-    let found = c.in_ok-member.ensures.ok in
-    let x = found.0 in
-    let r = c.next_tree.new.reader in
-    let less = read_key-shorter l.reader (Some k) s named in
-    let lesser = c.in_ok-member.ensures.shorter in
-    let copied : string_bytes c.in_ok-name.name ≡ k = search rules in
-    record {
-      no_longer = omega (arith, l.invariant.no_longer);
-      read = λ old n enough are.
-          let so_far = l.invariant.read old n enough are in
-          let turns = so_far.0 in
-          let parts = so_far.1 in
-          let put_there = EntriesAreOf-put g.T.Tree.IsOf parts l.entries.entries c.in_ok-name.name x c.in_ok-member.member so_far.3 found.2 in
-          let here = subst (λ name. EntriesAreOf g.T.Tree.IsOf (put name x parts) (insert_entry string_cmp l.entries.entries c.in_ok-name.name c.in_ok-member.member)) copied put_there in (
-            turns - 1,
-            put k x parts,
-            omega (arith, so_far.2),
-            subst (λ es. EntriesAreOf g.T.Tree.IsOf (put k x parts) es) (sym c.in_ok-insert.ensures.entries) here,
-            so_far.4 ∙ member_read (value c.args.depth) parts turns k l.reader s r x (omega (arith, so_far.2)) named found.1,
-          );
-    }
-
-pub other_members-returns-clause-ok : goal.other_members-returns-clause-ok
-other_members-returns-clause-ok g t c = λ old n enough are.
-    let l = c.members in
-    let so_far = l.invariant.read old n enough are in
-    (so_far.1, so_far.4 ∙ object_closed (value c.args.depth) so_far.1 so_far.0 l.reader c.next_key.new.self so_far.2 (grind arith), so_far.3)
-
-pub many_members-ascending-init : goal.many_members-ascending-init
-many_members-ascending-init g t c = record {
-  ascend = c.in_ok-pairs.ensures.ascend;
-  no_longer = omega arith;
-  read = λ old n enough are. (n, old, enough, subst (EntriesAreOf g.T.Tree.IsOf old) (sym c.in_ok-pairs.ensures.same) are, refl);
-}
-
-pub many_members-returns-in_err-text-clause-not_json : goal.many_members-returns-in_err-text-clause-not_json
-many_members-returns-in_err-text-clause-not_json g t c = λ old n enough are refused.
-    let l = c.ascending in
-    let so_far = l.invariant.read old n enough are in
-    so_far.4 ∙ name_refused (value c.args.depth) so_far.1 so_far.0 l.reader c.in_err-text.ensures.value
-
-pub many_members-returns-in_err-member-clause-not_json : goal.many_members-returns-in_err-member-clause-not_json
-many_members-returns-in_err-member-clause-not_json g t c = λ old n enough are refused.
-    let l = c.ascending in
-    let so_far = l.invariant.read old n enough are in
-    let k = c.in-Some.text.now in
-    let s = c.next_key.new.self in
-    let named : read_key l.reader ≡ Some (Some k, s) = grind arith in
-    so_far.4 ∙ member_refused (value c.args.depth) so_far.1 so_far.0 k l.reader s named (c.next_tree.ensures.not_json (grind arith))
-
-pub many_members-returns-then-not-goes_last-clause-ok : goal.many_members-returns-then-not-goes_last-clause-ok
-many_members-returns-then-not-goes_last-clause-ok g t c = λ old n enough are.
-    let l = c.ascending in
-    let so_far = l.invariant.read old n enough are in
-    let parts = so_far.1 in
-    let k = c.in-Some.text.now in
-    let s = c.next_key.new.self in
-    let named : read_key l.reader ≡ Some (Some k, s) = grind arith in
-    let found = c.in_ok-member.ensures.ok in
-    let x = found.0 in
-    let r = c.next_tree.new.reader in
-    let less = read_key-shorter l.reader (Some k) s named in
-    let lesser = c.in_ok-member.ensures.shorter in
-    let copied : string_bytes c.in_ok-name.name ≡ k = search rules in
-    let built = c.in_ok-entries.entries.entries in
-    let are_built : EntriesAreOf g.T.Tree.IsOf parts built = subst (MembersAreOf g.T.Tree.IsOf parts) (sym c.in_ok-entries.ensures) so_far.3 in
-    let put_there = EntriesAreOf-put g.T.Tree.IsOf parts built c.in_ok-name.name x c.in_ok-member.member are_built found.2 in
-    let here = subst (λ name. EntriesAreOf g.T.Tree.IsOf (put name x parts) (insert_entry string_cmp built c.in_ok-name.name c.in_ok-member.member)) copied put_there in
-    let now = subst (λ es. EntriesAreOf g.T.Tree.IsOf (put k x parts) es) (sym c.in_ok-insert.ensures.entries) here in
-    IfOk-weaker c.other_members.result _ _
-    (λ m rest. (rest.0, so_far.4 ∙ member_read (value c.args.depth) parts so_far.0 k l.reader s r x (omega (arith, so_far.2)) named found.1 ∙ rest.1, rest.2))
-    (c.other_members.ensures.ok (put k x parts) (so_far.0 - 1) (omega (arith, so_far.2)) now)
-
-pub many_members-returns-then-not-goes_last-clause-not_json : goal.many_members-returns-then-not-goes_last-clause-not_json
-many_members-returns-then-not-goes_last-clause-not_json g t c = λ old n enough are refused.
-    let l = c.ascending in
-    let so_far = l.invariant.read old n enough are in
-    let parts = so_far.1 in
-    let k = c.in-Some.text.now in
-    let s = c.next_key.new.self in
-    let named : read_key l.reader ≡ Some (Some k, s) = grind arith in
-    let found = c.in_ok-member.ensures.ok in
-    let x = found.0 in
-    let r = c.next_tree.new.reader in
-    let less = read_key-shorter l.reader (Some k) s named in
-    let lesser = c.in_ok-member.ensures.shorter in
-    let copied : string_bytes c.in_ok-name.name ≡ k = search rules in
-    let built = c.in_ok-entries.entries.entries in
-    let are_built : EntriesAreOf g.T.Tree.IsOf parts built = subst (MembersAreOf g.T.Tree.IsOf parts) (sym c.in_ok-entries.ensures) so_far.3 in
-    let put_there = EntriesAreOf-put g.T.Tree.IsOf parts built c.in_ok-name.name x c.in_ok-member.member are_built found.2 in
-    let here = subst (λ name. EntriesAreOf g.T.Tree.IsOf (put name x parts) (insert_entry string_cmp built c.in_ok-name.name c.in_ok-member.member)) copied put_there in
-    let now = subst (λ es. EntriesAreOf g.T.Tree.IsOf (put k x parts) es) (sym c.in_ok-insert.ensures.entries) here in
-    so_far.4 ∙ member_read (value c.args.depth) parts so_far.0 k l.reader s r x (omega (arith, so_far.2)) named found.1
-    ∙ c.other_members.ensures.not_json (put k x parts) (so_far.0 - 1) (omega (arith, so_far.2)) now refused
-
-pub many_members-ascending-preserved : goal.many_members-ascending-preserved
-many_members-ascending-preserved g t c =
-    let l = c.ascending in
-    let k = c.in-Some.text.now in
-    let s = c.next_key.new.self in
-    let named : read_key l.reader ≡ Some (Some k, s) = grind arith in
-    let found = c.in_ok-member.ensures.ok in
-    let x = found.0 in
-    let r = c.next_tree.new.reader in
-    let less = read_key-shorter l.reader (Some k) s named in
-    let lesser = c.in_ok-member.ensures.shorter in
-    let copied : string_bytes c.in_ok-name.name ≡ k = search rules in
-    let longer : IsStrictlySortedBy string_cmp (keys_of (l.pairs.items ++ (c.in_ok-name.name, c.in_ok-member.member) ∷ [])) = c.goes_last.ensures (search rules) c.in_ok-member.member in
-    record {
-      ascend = subst (λ es. IsStrictlySortedBy string_cmp (keys_of es)) (sym c.in_ok-push.ensures.items) longer;
-      no_longer = omega (arith, l.invariant.no_longer);
-      read = λ old n enough are.
-          let so_far = l.invariant.read old n enough are in
-          let turns = so_far.0 in
-          let parts = so_far.1 in
-          let put_there = EntriesAreOf-put g.T.Tree.IsOf parts l.pairs.items c.in_ok-name.name x c.in_ok-member.member so_far.3 found.2 in
-          let here = subst (λ name. EntriesAreOf g.T.Tree.IsOf (put name x parts) (insert_entry string_cmp l.pairs.items c.in_ok-name.name c.in_ok-member.member)) copied put_there in
-          let last = insert-last l.pairs.items c.in_ok-name.name c.in_ok-member.member [] longer in (
-            turns - 1,
-            put k x parts,
-            omega (arith, so_far.2),
-            subst (λ es. EntriesAreOf g.T.Tree.IsOf (put k x parts) es) (last ∙ sym c.in_ok-push.ensures.items) here,
-            so_far.4 ∙ member_read (value c.args.depth) parts turns k l.reader s r x (omega (arith, so_far.2)) named found.1,
-          );
-    }
-
-pub many_members-returns-clause-ok : goal.many_members-returns-clause-ok
-many_members-returns-clause-ok g t c = λ old n enough are.
-    let l = c.ascending in
-    let so_far = l.invariant.read old n enough are in
-    let closed = object_closed (value c.args.depth) so_far.1 so_far.0 l.reader c.next_key.new.self so_far.2 (grind arith) in
-    (so_far.1, so_far.4 ∙ closed, subst (MembersAreOf g.T.Tree.IsOf so_far.1) (sym c.in_ok-map_of.ensures) so_far.3)
+    (l.invariant.parts, whole, c.in_ok-unlist.ensures.mapped l.invariant.parts l.invariant.are)

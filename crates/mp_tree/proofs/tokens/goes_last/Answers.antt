@@ -1,11 +1,17 @@
 use Rattle.std.proofs.Common.{◌≡◌, ◌-◌, length, Some, string_cmp, nat_cmp, is_lt, slice_get, sym, ap, ap₂, ◌∙◌}
 use Rattle.std.specs.Cmp.Lexicographic.{slice_cmp}
 use Rattle.std.specs.Option.{option_copied}
-use Rattle.mp_tree.proofs.Maps.Building.{ascend_push, less_from_is_lt}
+use Rattle.mp_tree.proofs.Maps.Building.{ascend_push, less_from_is_lt, some_last}
 use Rattle.mp_tree.proofs.tokens.goes_last.Goals as goal
 
-pub returns-in-Some : goal.returns-in-Some
-returns-in-Some g c = λ above t.
+pub returns-in-Some-clause-some : goal.returns-in-Some-clause-some
+returns-in-Some-clause-some g c = λ above.
+    let es = c.args.pairs.now.items in
+    let last = c.in-Some.field-0.now in
+    some_last es last (ap (λ xs. slice_get xs (length xs - 1)) (sym c.deref.ensures.value) ∙ sym c.last.ensures.value ∙ ap option_copied c.in-Some.is)
+
+pub returns-in-Some-clause-ascend : goal.returns-in-Some-clause-ascend
+returns-in-Some-clause-ascend g c = λ above t.
     let es = c.args.pairs.now.items in
     let last = c.in-Some.field-0.now in
     let end : slice_get es (length es - 1) ≡ Some last = ap (λ xs. slice_get xs (length xs - 1)) (sym c.deref.ensures.value) ∙ sym c.last.ensures.value ∙ ap option_copied c.in-Some.is in
