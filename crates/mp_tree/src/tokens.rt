@@ -134,7 +134,7 @@ fn rest_of_object<T: Tree>(
 
 // Takes a member to those of its object so far. They are in the map. From the 64th on, they are in the list while their names ascend:
 // a map that is built whole of it costs less than an insertion each, which looks for the place of the name.
-#[inline(never)]
+#[inline(always)]
 fn gather<T: Tree>(
     entries: &mut BTreeMap<String, T>,
     pairs: &mut Vec<(String, T)>,
@@ -163,6 +163,7 @@ fn gather<T: Tree>(
 }
 
 // What is in the list, if it has something, becomes the map.
+#[inline(always)]
 fn unlist<T: Tree>(
     entries: &mut BTreeMap<String, T>,
     pairs: &mut Vec<(String, T)>,
@@ -181,6 +182,7 @@ fn unlist<T: Tree>(
 }
 
 // A map's entries, in a list with capacity for as many again.
+#[inline(never)]
 fn listed<T: Drop>(
     entries: BTreeMap<String, T>,
     alloc: Global,
