@@ -13,7 +13,6 @@ pub const CALLS: &[&str] = &[
     "copy",
     "read_doc",
     "read_docs",
-    "read_fraction_replaced",
     "read_too_deep",
     "write_doc",
     "write_text",
@@ -25,7 +24,6 @@ pub fn watch(alloc: Global, name: &str) -> Option<Option<Seen>> {
         "copy" => watch_copy(alloc),
         "read_doc" => watch_read_doc(alloc),
         "read_docs" => watch_read_docs(alloc),
-        "read_fraction_replaced" => watch_read_fraction_replaced(alloc),
         "read_too_deep" => watch_read_too_deep(alloc),
         "write_doc" => watch_write_doc(alloc),
         "write_text" => Some(watch_write_text(alloc)),
@@ -42,17 +40,6 @@ fn watch_copy(alloc: Global) -> Option<Seen> {
 fn watch_read_doc(alloc: Global) -> Option<Seen> {
     let wanted = doc_of(alloc, TEXT)?;
     Some(match mp_tree::read_doc(alloc, DOC.as_bytes()) {
-        Ok(doc) => Seen::answer_if(doc.same(&wanted)),
-        Err(ReadFault::OutOfMemory) => Seen::NoMemory,
-        Err(_) => Seen::Wrong,
-    })
-}
-
-/// Where a number is not whole the text is read again, since a later value of its name may take its place.
-fn watch_read_fraction_replaced(alloc: Global) -> Option<Seen> {
-    let wanted = doc_of(alloc, TEXT)?;
-    let text = br#"{"b":1.5,"a":[null,{"c":0.5,"c":"text"}],"b":1}"#;
-    Some(match mp_tree::read_doc(alloc, text) {
         Ok(doc) => Seen::answer_if(doc.same(&wanted)),
         Err(ReadFault::OutOfMemory) => Seen::NoMemory,
         Err(_) => Seen::Wrong,

@@ -6,7 +6,7 @@ use crate::merges::{
 use crate::preparing::{doc_of, two_docs_of};
 use crate::seen::{Seen, are_pointers};
 use mp_merge::ListFault;
-use mp_tree::{Doc, DocsFault, ReadFault, ValueReader, read_value, read_values, same_value};
+use mp_tree::{Doc, DocsFault, ReadFault, read_value, read_values, same_value};
 use serde_json::Value;
 use std::alloc::{AllocError, Global};
 
@@ -32,7 +32,6 @@ pub const CALLS: &[&str] = &[
     "join_value",
     "merge_value",
     "merge_value_into_nothing",
-    "read_by_reader",
     "read_value",
     "read_values",
     "replay_values",
@@ -55,7 +54,6 @@ pub fn watch(alloc: Global, name: &str) -> Option<Option<Seen>> {
         "join_value" => watch_join_value(alloc),
         "merge_value" => watch_merge_value(alloc),
         "merge_value_into_nothing" => watch_merge_value_into_nothing(alloc),
-        "read_by_reader" => watch_read_by_reader(alloc),
         "read_value" => watch_read_value(alloc),
         "read_values" => watch_read_values(alloc),
         "replay_values" => watch_replay_values(alloc),
@@ -113,18 +111,6 @@ fn of_list(given: Result<Value, ListFault>, wanted: &Value) -> Seen {
 fn watch_read_value(alloc: Global) -> Option<Seen> {
     let wanted = value_of(alloc, TEXT)?;
     Some(match read_value(alloc, TEXT.as_bytes()) {
-        Ok(value) => Seen::answer_if(same_value(&value, &wanted)),
-        Err(ReadFault::OutOfMemory) => Seen::NoMemory,
-        Err(_) => Seen::Wrong,
-    })
-}
-
-/// Of a reader that has read a shorter text, and that reads another after this.
-fn watch_read_by_reader(alloc: Global) -> Option<Seen> {
-    let wanted = value_of(alloc, TEXT)?;
-    let mut reader = ValueReader::new(alloc);
-    drop(reader.read(alloc, b"1").ok()?);
-    Some(match reader.read(alloc, TEXT.as_bytes()) {
         Ok(value) => Seen::answer_if(same_value(&value, &wanted)),
         Err(ReadFault::OutOfMemory) => Seen::NoMemory,
         Err(_) => Seen::Wrong,

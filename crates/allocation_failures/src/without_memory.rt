@@ -7,7 +7,7 @@ use crate::seen::{Seen, has_tokens};
 use mp_cli::{Counted, RunFault};
 use mp_patch::JsonPatch;
 use mp_pointer::Pointer;
-use mp_tree::{Doc, ValueReader, Whole, read_value, read_values, same_value};
+use mp_tree::{Doc, Whole, read_value, read_values, same_value};
 use serde_json::Value;
 use std::alloc::Global;
 use std::mem;
@@ -46,7 +46,6 @@ pub const CALLS: &[&str] = &[
     "members_mut",
     "merge_into",
     "new_patch",
-    "new_reader",
     "ops",
     "pop",
     "same",
@@ -78,7 +77,6 @@ pub fn watch(alloc: Global, name: &str) -> Option<Option<Seen>> {
         "members_mut" => watch_members_mut(alloc),
         "merge_into" => watch_merge_into(alloc),
         "new_patch" => Some(watch_new_patch(alloc)),
-        "new_reader" => Some(watch_new_reader(alloc)),
         "ops" => watch_ops(alloc),
         "pop" => watch_pop(alloc),
         "same" => watch_same(alloc),
@@ -302,12 +300,6 @@ fn watch_edit_part(alloc: Global) -> Option<Seen> {
 
 fn watch_new_patch(alloc: Global) -> Seen {
     Seen::answer_if(JsonPatch::new(alloc).ops().is_empty())
-}
-
-/// No byte is read, so that the reader asks for no memory.
-fn watch_new_reader(alloc: Global) -> Seen {
-    let mut reader = ValueReader::new(alloc);
-    Seen::answer_if(reader.read(alloc, b"").is_err())
 }
 
 fn watch_ops(alloc: Global) -> Option<Seen> {

@@ -12,13 +12,11 @@ use crate::fault::TextsFault;
 use crate::reading::read_patch_value;
 use mp_merge::{compatible_values, conflict_values};
 use mp_pointer::Pointer;
-use mp_tree::ValueReader;
 use std::alloc::Global;
 
 // The patch that `second` is reported with, and where the two conflict. A later text that is not a document is reported first.
 pub(crate) fn clash_at(
     alloc: Global,
-    reader: &mut ValueReader,
     patches: &[&[u8]],
     second: usize,
 ) -> Result<(usize, Vec<Pointer>), TextsFault>
@@ -29,27 +27,22 @@ pub(crate) fn clash_at(
         × IsReportedPair ds c.0 second c.1.items)
         (λ fault. IsPatchesFault fault (given patches.now)) }
 {
-    read_from(alloc, reader, patches, second + 1)?;
-    let Some(found) = clash_before(alloc, reader, patches, second)? else {
+    read_from(alloc, patches, second + 1)?;
+    let Some(found) = clash_before(alloc, patches, second)? else {
         unreachable!();
     };
     Ok(found)
 }
 
 // Whether the texts from that number on are documents.
-fn read_from(
-    alloc: Global,
-    reader: &mut ValueReader,
-    patches: &[&[u8]],
-    from: usize,
-) -> Result<(), TextsFault>
+fn read_from(alloc: Global, patches: &[&[u8]], from: usize) -> Result<(), TextsFault>
     requires read { (ds : List Document) × AreRead (take from (given patches.now)) ds }
     ensures { MatchResult result
         (λ done. (ds : List Document) × AreRead (given patches.now) ds)
         (λ fault. IsPatchesFault fault (given patches.now)) }
 {
     for number in from..patches.len() {
-        drop(read_patch_value(alloc, reader, patches[number], number)?);
+        drop(read_patch_value(alloc, patches[number], number)?);
     }
     Ok(())
 }
@@ -57,7 +50,6 @@ fn read_from(
 // The first of the patches below number `second` that conflicts with it, and all conflicts of the two.
 fn clash_before(
     alloc: Global,
-    reader: &mut ValueReader,
     patches: &[&[u8]],
     second: usize,
 ) -> Result<Option<(usize, Vec<Pointer>)>, TextsFault>
@@ -68,9 +60,9 @@ fn clash_before(
         → MatchOption found (IsFreeBelow ds second) (λ c. IsClashBelow ds c.0 second c.1.items))
         (λ fault. IsPatchesFault fault (given patches.now)) }
 {
-    let patch = read_patch_value(alloc, reader, patches[second], second)?;
+    let patch = read_patch_value(alloc, patches[second], second)?;
     for first in 0..second {
-        let other = read_patch_value(alloc, reader, patches[first], first)?;
+        let other = read_patch_value(alloc, patches[first], first)?;
         if !compatible_values(&other, &patch) {
             let places = conflict_values(alloc, &other, &patch)?;
             return Ok(Some((first, places)));

@@ -10,7 +10,7 @@ use crate::reading::{read_document_value, read_patch_value};
 use mp_merge::{laws as merging, rewrite_value};
 use mp_patch::{apply_to_value, laws as patching, ops_of_value, write_patch};
 use mp_pointer::{Pointer, get_value, laws as pointing};
-use mp_tree::{Doc, ValueReader, laws as reading, write_doc, write_value};
+use mp_tree::{Doc, laws as reading, write_doc, write_value};
 use std::alloc::{AllocError, Global};
 
 /// The text of a merge patch as a JSON Patch for the document, as `mp_merge::rewrite` makes it: tests of what the patch
@@ -31,9 +31,8 @@ pub fn rewrite_text(alloc: Global, document: &[u8], patch: &[u8]) -> Result<Stri
     reading::readings_are_documents();
     merging::rewritings_are_writable();
     patching::shapes_are_readable();
-    let mut reader = ValueReader::new(alloc);
-    let doc = read_document_value(alloc, &mut reader, document)?;
-    let patch = read_patch_value(alloc, &mut reader, patch, 0)?;
+    let doc = read_document_value(alloc, document)?;
+    let patch = read_patch_value(alloc, patch, 0)?;
     let edits = rewrite_value(alloc, &doc, &patch)?;
     Ok(write_patch(alloc, &edits)?)
 }
@@ -54,9 +53,8 @@ pub fn patch_text(alloc: Global, document: &[u8], json_patch: &[u8]) -> Result<S
 {
     reading::readings_are_documents();
     run_laws();
-    let mut reader = ValueReader::new(alloc);
-    let doc = read_document_value(alloc, &mut reader, document)?;
-    let form = read_patch_value(alloc, &mut reader, json_patch, 0)?;
+    let doc = read_document_value(alloc, document)?;
+    let form = read_patch_value(alloc, json_patch, 0)?;
     let operations = ops_of_value(alloc, form)?;
     let patched = apply_to_value(alloc, doc, operations)?;
     Ok(write_value(alloc, &patched)?)
@@ -77,7 +75,7 @@ pub fn part_text(alloc: Global, document: &[u8], pointer: &str) -> Result<String
 {
     reading::readings_are_documents();
     pointing::parts_are_readable();
-    let doc = read_document_value(alloc, &mut ValueReader::new(alloc), document)?;
+    let doc = read_document_value(alloc, document)?;
     let pointer = Pointer::parse(alloc, pointer)?;
     match get_value(&doc, &pointer) {
         Some(part) => Ok(write_value(alloc, part)?),

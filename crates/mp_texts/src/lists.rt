@@ -12,7 +12,7 @@ use crate::fault::TextsFault;
 use crate::reading::{read_document_value, read_patch_value};
 use crate::valued::joined_value;
 use mp_merge::{laws as merging, merge_value};
-use mp_tree::{ValueReader, laws as reading, write_value};
+use mp_tree::{laws as reading, write_value};
 use serde_json::Value;
 use std::alloc::Global;
 
@@ -34,7 +34,7 @@ pub fn join_texts(alloc: Global, patches: &[&[u8]]) -> Result<String, TextsFault
 {
     reading::readings_are_documents();
     merging::join_is_readable();
-    let joined = joined_value(alloc, &mut ValueReader::new(alloc), patches)?;
+    let joined = joined_value(alloc, patches)?;
     Ok(write_value(alloc, &joined)?)
 }
 
@@ -56,12 +56,11 @@ pub fn replay_texts(alloc: Global, start: &[u8], patches: &[&[u8]]) -> Result<St
     merging::join_is_readable();
     merging::join_gives_outcome();
     merging::merged_is_readable();
-    let mut reader = ValueReader::new(alloc);
-    let from = read_document_value(alloc, &mut reader, start)?;
+    let from = read_document_value(alloc, start)?;
     if patches.is_empty() {
         return Ok(write_value(alloc, &from)?);
     }
-    let joined = joined_value(alloc, &mut reader, patches)?;
+    let joined = joined_value(alloc, patches)?;
     let outcome = merge_value(alloc, Some(from), joined)?;
     Ok(write_value(alloc, &outcome)?)
 }
@@ -83,26 +82,20 @@ pub fn merge_texts(alloc: Global, document: &[u8], patches: &[&[u8]]) -> Result<
 {
     reading::readings_are_documents();
     merging::merged_is_readable();
-    let mut reader = ValueReader::new(alloc);
-    let doc = read_document_value(alloc, &mut reader, document)?;
-    let merged = merge_each(alloc, &mut reader, doc, patches)?;
+    let doc = read_document_value(alloc, document)?;
+    let merged = merge_each(alloc, doc, patches)?;
     Ok(write_value(alloc, &merged)?)
 }
 
 // Each patch is read and applied to what those before it left.
-fn merge_each(
-    alloc: Global,
-    reader: &mut ValueReader,
-    mut value: Value,
-    patches: &[&[u8]],
-) -> Result<Value, TextsFault>
+fn merge_each(alloc: Global, mut value: Value, patches: &[&[u8]]) -> Result<Value, TextsFault>
     ensures { MatchResult result
         (λ v. (ds : List Document) × AreRead (given patches.now) ds
         × (value_document v ≡ in_turn (value_document value) ds))
         (λ fault. IsPatchesFault fault (given patches.now)) }
 {
     for (number, text) in patches.iter().enumerate() {
-        let patch = read_patch_value(alloc, reader, text, number)?;
+        let patch = read_patch_value(alloc, text, number)?;
         value = merge_value(alloc, Some(value), patch)?;
     }
     Ok(value)

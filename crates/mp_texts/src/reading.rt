@@ -5,20 +5,16 @@ ghost use Rattle.mp_tree.specs.Values.{value_document};
 ghost use Rattle.mp_texts.specs.Private.Unread.{IsDocumentFault, IsPatchFault};
 
 use crate::fault::TextsFault;
-use mp_tree::{ReadFault, ValueReader};
+use mp_tree::{ReadFault, read_value};
 use serde_json::Value;
 use std::alloc::Global;
 
 // The text of a document, or of a start.
-pub(crate) fn read_document_value(
-    alloc: Global,
-    reader: &mut ValueReader,
-    text: &[u8],
-) -> Result<Value, TextsFault>
+pub(crate) fn read_document_value(alloc: Global, text: &[u8]) -> Result<Value, TextsFault>
     ensures { MatchResult result (λ v. document_in text.now ≡ Ok (value_document v))
         (λ fault. IsDocumentFault fault text.now) }
 {
-    match reader.read(alloc, text) {
+    match read_value(alloc, text) {
         Ok(value) => Ok(value),
         Err(ReadFault::OutOfMemory) => Err(TextsFault::OutOfMemory),
         Err(fault) => Err(TextsFault::Document(fault)),
@@ -28,14 +24,13 @@ pub(crate) fn read_document_value(
 // The text of the patch with that number.
 pub(crate) fn read_patch_value(
     alloc: Global,
-    reader: &mut ValueReader,
     text: &[u8],
     number: usize,
 ) -> Result<Value, TextsFault>
     ensures { MatchResult result (λ v. document_in text.now ≡ Ok (value_document v))
         (λ fault. IsPatchFault fault text.now number) }
 {
-    match reader.read(alloc, text) {
+    match read_value(alloc, text) {
         Ok(value) => Ok(value),
         Err(ReadFault::OutOfMemory) => Err(TextsFault::OutOfMemory),
         Err(fault) => Err(TextsFault::Patch { number, fault }),

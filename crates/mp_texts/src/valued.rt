@@ -14,7 +14,6 @@ use crate::clashing::clash_at;
 use crate::fault::TextsFault;
 use crate::reading::read_patch_value;
 use mp_merge::{ListFault, join_all_values, join_value, laws};
-use mp_tree::ValueReader;
 use serde_json::Value;
 use std::alloc::Global;
 
@@ -22,66 +21,50 @@ use std::alloc::Global;
 const FEW: usize = 32;
 
 // The join of the patches.
-pub(crate) fn joined_value(
-    alloc: Global,
-    reader: &mut ValueReader,
-    patches: &[&[u8]],
-) -> Result<Value, TextsFault>
+pub(crate) fn joined_value(alloc: Global, patches: &[&[u8]]) -> Result<Value, TextsFault>
     ensures { MatchResult result
         (λ j. (ds : List Document) × AreRead (given patches.now) ds × IsJoin ds (value_document j))
         (λ fault. IsJoinTextFault fault (given patches.now)) }
 {
     if patches.len() <= FEW {
-        joined_of_few(alloc, reader, patches)
+        joined_of_few(alloc, patches)
     } else {
-        joined_of_many(alloc, reader, patches)
+        joined_of_many(alloc, patches)
     }
 }
 
-fn joined_of_few(
-    alloc: Global,
-    reader: &mut ValueReader,
-    patches: &[&[u8]],
-) -> Result<Value, TextsFault>
+fn joined_of_few(alloc: Global, patches: &[&[u8]]) -> Result<Value, TextsFault>
     ensures { MatchResult result
         (λ j. (ds : List Document) × AreRead (given patches.now) ds × IsJoin ds (value_document j))
         (λ fault. IsJoinTextFault fault (given patches.now)) }
 {
-    let patches = read_patches(alloc, reader, patches)?;
+    let patches = read_patches(alloc, patches)?;
     Ok(join_all_values(alloc, patches.as_slice())?)
 }
 
 // All are read before they are joined: a text that is not a document is reported first.
-fn read_patches(
-    alloc: Global,
-    reader: &mut ValueReader,
-    patches: &[&[u8]],
-) -> Result<Vec<Value>, TextsFault>
+fn read_patches(alloc: Global, patches: &[&[u8]]) -> Result<Vec<Value>, TextsFault>
     ensures { MatchResult result
         (λ values. AreRead (given patches.now) (map value_document values.items))
         (λ fault. IsPatchesFault fault (given patches.now)) }
 {
     let mut values = Vec::with_capacity(alloc, patches.len())?;
     for (number, text) in patches.iter().enumerate() {
-        values.push(read_patch_value(alloc, reader, text, number)?)?;
+        values.push(read_patch_value(alloc, text, number)?)?;
     }
     Ok(values)
 }
 
-fn joined_of_many(
-    alloc: Global,
-    reader: &mut ValueReader,
-    patches: &[&[u8]],
-) -> Result<Value, TextsFault>
+fn joined_of_many(alloc: Global, patches: &[&[u8]]) -> Result<Value, TextsFault>
     requires { 0 < length patches.now }
     ensures { MatchResult result
         (λ j. (ds : List Document) × AreRead (given patches.now) ds × IsJoin ds (value_document j))
         (λ fault. IsJoinTextFault fault (given patches.now)) }
 {
-    match joined_in_turn(alloc, reader, patches)? {
+    match joined_in_turn(alloc, patches)? {
         Turns::Joined(joined) => Ok(joined),
         Turns::Clash(second) => {
-            let (first, places) = clash_at(alloc, reader, patches, second)?;
+            let (first, places) = clash_at(alloc, patches, second)?;
             Err(TextsFault::List(ListFault::ConflictOf {
                 first,
                 second,
@@ -98,11 +81,7 @@ pub(crate) enum Turns {
     Clash(usize),
 }
 
-fn joined_in_turn(
-    alloc: Global,
-    reader: &mut ValueReader,
-    patches: &[&[u8]],
-) -> Result<Turns, TextsFault>
+fn joined_in_turn(alloc: Global, patches: &[&[u8]]) -> Result<Turns, TextsFault>
     requires { 0 < length patches.now }
     ensures { MatchResult result (λ turns. IsTurns turns (given patches.now))
         (λ fault. IsPatchesFault fault (given patches.now)) }
@@ -111,9 +90,9 @@ fn joined_in_turn(
     let Some(first) = patches.first() else {
         unreachable!();
     };
-    let mut joined = read_patch_value(alloc, reader, first, 0)?;
+    let mut joined = read_patch_value(alloc, first, 0)?;
     for number in 1..patches.len() {
-        let patch = read_patch_value(alloc, reader, patches[number], number)?;
+        let patch = read_patch_value(alloc, patches[number], number)?;
         if !join_value(alloc, &mut joined, patch)? {
             return Ok(Turns::Clash(number));
         }

@@ -7,7 +7,5 @@ pub mod Membership
 pub mod Options
 pub mod Passed
 pub mod Readings
-pub mod Standing
 pub mod Texts
-pub mod Parsed
 pub mod Valued

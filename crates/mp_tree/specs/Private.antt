@@ -2,4 +2,3 @@
 pub mod Entries
 pub mod Faults
 pub mod Readings
-pub mod Trees

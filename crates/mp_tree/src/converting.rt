@@ -9,7 +9,6 @@ ghost use Rattle.mp_tree.specs.Values.{number_in, value_document, value_items};
 use crate::building::{FEW, map_of};
 use crate::doc::Doc;
 use crate::whole::Whole;
-use json::Invalid;
 use serde_json::{Map, Number, Value};
 use std::alloc::{AllocError, AllocFailed, Global};
 use std::collections::BTreeMap;
@@ -29,16 +28,6 @@ impl From<AllocError> for Unread {
 
     fn from(_refused: AllocError) -> Unread {
         Unread::OutOfMemory
-    }
-}
-
-impl From<Invalid> for Unread {
-    ghost use Rattle.mp_tree.specs.declared.converting.Unread.TheVariants.{NotJson};
-
-    ghost from_gives = { λ _ e. e ≡ NotJson };
-
-    fn from(_invalid: Invalid) -> Unread {
-        Unread::NotJson
     }
 }
 
@@ -91,7 +80,7 @@ pub(crate) fn whole_or_zero(number: &Number) -> Whole
 }
 
 #[cycle(doc_of)]
-fn docs_of(values: Vec<Value>, alloc: Global) -> Result<Vec<Doc>, AllocError>
+pub(crate) fn docs_of(values: Vec<Value>, alloc: Global) -> Result<Vec<Doc>, AllocError>
     ensures { IfOk result (λ docs. items docs.items ≡ value_items values.items) }
 {
     let mut docs = Vec::with_capacity(alloc, values.len())?;

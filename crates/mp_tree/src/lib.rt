@@ -13,8 +13,6 @@ pub mod borrowing;
 mod measuring;
 mod reading;
 mod serializing;
-mod tokens;
-mod trees;
 mod value_copying;
 mod value_walks;
 mod value_writing;
@@ -27,8 +25,8 @@ pub use doc::Doc;
 pub use fault::{DocsFault, ReadFault};
 pub use reading::{DEPTH_LIMIT, read_doc, read_docs};
 pub use values::{
-    ValueReader, copy_to_doc, copy_value, doc_of_value, read_value, read_values, same_value,
-    value_items_mut, value_members_mut, write_value,
+    copy_to_doc, copy_value, doc_of_value, read_value, read_values, same_value, value_items_mut,
+    value_members_mut, write_value,
 };
 pub use whole::Whole;
 pub use writing::{write_doc, write_text};

@@ -8,14 +8,11 @@ ghost use Rattle.mp_tree.specs.View.{document, items};
 ghost use Rattle.mp_tree.specs.Values.{value_document};
 ghost use Rattle.mp_tree.specs.Text.{data_in, document_in, documents_in, read};
 
-use crate::converting::{Unread, doc_of};
+use crate::converting::{Unread, doc_of, docs_of};
 use crate::doc::Doc;
 use crate::fault::{DocsFault, ReadFault};
-use crate::tokens::tree_of;
 use crate::value_walks::{Reading, reading_of};
-use json::Scratch;
 use serde_json::Value;
-use simdutf8::basic::from_utf8;
 use std::alloc::Global;
 
 /// The depth of the deepest document that is read on its own, so that it may stand in an array
@@ -38,11 +35,13 @@ pub fn read_doc(alloc: Global, bytes: &[u8]) -> Result<Doc, ReadFault>
         → document_in bytes.now ≡ Err fault) }
     ensures depth { IfOk result (λ d. depth (document d) ≤ depth_limit) }
 {
-    let doc = read_any(alloc, bytes)?;
-    if doc.fits(DEPTH_LIMIT) {
-        Ok(doc)
-    } else {
-        Err(ReadFault::TooDeep)
+    let Tree { value, fits } = read_tree(alloc, bytes, DEPTH_LIMIT)?;
+    if !fits {
+        return Err(ReadFault::TooDeep);
+    }
+    match doc_of(value, alloc) {
+        Ok(doc) => Ok(doc),
+        Err(_) => Err(ReadFault::OutOfMemory),
     }
 }
 
@@ -62,57 +61,24 @@ pub fn read_docs(alloc: Global, bytes: &[u8]) -> Result<Vec<Doc>, DocsFault>
         → documents_in bytes.now ≡ Err fault) }
     ensures depth { IfOk result (λ docs. All (λ d. depth (document d) ≤ depth_limit) docs.items) }
 {
-    match read_any(alloc, bytes)? {
-        Doc::Items(docs) => Ok(docs),
+    let Tree { value, fits: _ } = read_tree(alloc, bytes, DEPTH_LIMIT)?;
+    match value {
+        Value::Array(values) => match docs_of(values, alloc) {
+            Ok(docs) => Ok(docs),
+            Err(_) => Err(DocsFault::OutOfMemory),
+        },
         _ => Err(DocsFault::NotAnArray),
-    }
-}
-
-// A document, however deep. It is made of the tokens, and of a value only if one of them is a number that is not whole: that may
-// stand under a name that comes twice, whose last value decides.
-fn read_any(alloc: Global, bytes: &[u8]) -> Result<Doc, Unread>
-    ensures ok { IfOk result (λ d. read bytes.now ≡ Some (document d)) }
-    ensures nests { IfOk result (λ d. depth (document d) ≤ max_depth) }
-    ensures not_json { result ≡ Err Unread.NotJson → data_in bytes.now ≡ None }
-    ensures not_whole { result ≡ Err Unread.NotWhole
-        → (IsSome (data_in bytes.now) × (read bytes.now ≡ None)) }
-{
-    let mut scratch = Scratch::new(alloc);
-    match read_by_tokens(alloc, bytes, &mut scratch) {
-        Ok(doc) => Ok(doc),
-        Err(Unread::NotWhole) => {
-            let whole = read_whole(alloc, bytes, DEPTH_LIMIT, &mut scratch)?;
-            Ok(doc_of(whole.value, alloc)?)
-        }
-        Err(unread) => Err(unread),
-    }
-}
-
-// `NotWhole` says nothing of the document: see above.
-fn read_by_tokens(alloc: Global, bytes: &[u8], scratch: &mut Scratch) -> Result<Doc, Unread>
-    ensures ok { IfOk result (λ d. read bytes.now ≡ Some (document d)) }
-    ensures nests { IfOk result (λ d. depth (document d) ≤ max_depth) }
-    ensures not_json { result ≡ Err Unread.NotJson → data_in bytes.now ≡ None }
-{
-    match from_utf8(bytes) {
-        Ok(text) => tree_of::<Doc>(alloc, text, scratch),
-        Err(_) => Err(Unread::NotJson),
     }
 }
 
 // What was read: a value whose numbers are whole, and whether it is as shallow as asked.
 #[derive(Drop)]
-pub(crate) struct WholeValue {
+pub(crate) struct Tree {
     pub(crate) value: Value,
     pub(crate) fits: bool,
 }
 
-pub(crate) fn read_whole(
-    alloc: Global,
-    bytes: &[u8],
-    limit: u32,
-    scratch: &mut Scratch,
-) -> Result<WholeValue, Unread>
+pub(crate) fn read_tree(alloc: Global, bytes: &[u8], limit: u32) -> Result<Tree, Unread>
     ensures ok { IfOk result (λ t. read bytes.now ≡ Some (value_document t.value)) }
     ensures fits { IfOk result (λ t. IsTrue t.fits ↔ (depth (value_document t.value) ≤ limit)) }
     ensures nests { IfOk result (λ t. depth (value_document t.value) ≤ max_depth) }
@@ -120,23 +86,27 @@ pub(crate) fn read_whole(
     ensures not_whole { result ≡ Err Unread.NotWhole
         → (IsSome (data_in bytes.now) × (read bytes.now ≡ None)) }
 {
-    let value = read_json(alloc, bytes, scratch)?;
+    let value = read_json(alloc, bytes)?;
     match reading_of(&value, limit) {
-        Reading::Fits => Ok(WholeValue { value, fits: true }),
-        Reading::TooDeep => Ok(WholeValue { value, fits: false }),
+        Reading::Fits => Ok(Tree { value, fits: true }),
+        Reading::TooDeep => Ok(Tree { value, fits: false }),
         Reading::NotWhole => Err(Unread::NotWhole),
     }
 }
 
 // Numbers may be of any kind.
-fn read_json(alloc: Global, bytes: &[u8], scratch: &mut Scratch) -> Result<Value, Unread>
+fn read_json(alloc: Global, bytes: &[u8]) -> Result<Value, Unread>
     ensures ok { IfOk result (λ v. data_in bytes.now ≡ Some (view v)) }
     ensures nests { IfOk result (λ v. json_depth (view v) ≤ max_depth) }
     ensures not_json { result ≡ Err Unread.NotJson → data_in bytes.now ≡ None }
     ensures is_json { result ≢ Err Unread.NotWhole }
 {
-    match from_utf8(bytes) {
-        Ok(text) => tree_of::<Value>(alloc, text, scratch),
-        Err(_) => Err(Unread::NotJson),
+    match Value::from_slice(alloc, bytes) {
+        Ok(value) => Ok(value),
+        Err(fault) => if fault.is_memory() {
+            Err(Unread::OutOfMemory)
+        } else {
+            Err(Unread::NotJson)
+        },
     }
 }

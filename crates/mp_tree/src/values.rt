@@ -15,11 +15,10 @@ use crate::converting::doc_of;
 use crate::copying::doc_copied;
 use crate::doc::Doc;
 use crate::fault::{DocsFault, ReadFault};
-use crate::reading::{DEPTH_LIMIT, WholeValue, read_whole};
+use crate::reading::{DEPTH_LIMIT, Tree, read_tree};
 use crate::value_copying::copy_of;
 use crate::value_walks::is_same;
 use crate::value_writing::Written;
-use json::Scratch;
 use serde_json::{Map, Value, to_string};
 use std::alloc::{AllocError, Global};
 
@@ -35,44 +34,11 @@ pub fn read_value(alloc: Global, bytes: &[u8]) -> Result<Value, ReadFault>
         → document_in bytes.now ≡ Err fault) }
     ensures depth { IfOk result (λ v. depth (value_document v) ≤ depth_limit) }
 {
-    ValueReader::new(alloc).read(alloc, bytes)
-}
-
-/// Reads text after text, as `read_value` does, in memory that it keeps: some 16 kB of its own, and on the heap as much as the
-/// longest text that it has read. Many small texts cost less so.
-///
-/// ```text
-/// let mut reader = ValueReader::new(alloc);
-/// reader.read(alloc, b"{\"a\":1}")  // an object with one name
-/// reader.read(alloc, b"[")           // Err(ReadFault::NotJson)
-/// reader.read(alloc, b"[]")          // an array: an error leaves the reader as good as new
-/// ```
-#[derive(Drop)]
-pub struct ValueReader {
-    scratch: Scratch,
-}
-
-impl ValueReader {
-    /// One that has read nothing. It takes no memory from the heap.
-    pub fn new(alloc: Global) -> ValueReader {
-        ValueReader {
-            scratch: Scratch::new(alloc),
-        }
-    }
-
-    /// As `read_value`, whatever was read before.
-    pub fn read(&mut self, alloc: Global, bytes: &[u8]) -> Result<Value, ReadFault>
-        ensures document { IfOk result (λ v. document_in bytes.now ≡ Ok (value_document v)) }
-        ensures faults { IfErr result (λ fault. fault ≢ ReadFault.OutOfMemory
-            → document_in bytes.now ≡ Err fault) }
-        ensures depth { IfOk result (λ v. depth (value_document v) ≤ depth_limit) }
-    {
-        let WholeValue { value, fits } = read_whole(alloc, bytes, DEPTH_LIMIT, &mut self.scratch)?;
-        if fits {
-            Ok(value)
-        } else {
-            Err(ReadFault::TooDeep)
-        }
+    let Tree { value, fits } = read_tree(alloc, bytes, DEPTH_LIMIT)?;
+    if fits {
+        Ok(value)
+    } else {
+        Err(ReadFault::TooDeep)
     }
 }
 
@@ -89,8 +55,7 @@ pub fn read_values(alloc: Global, bytes: &[u8]) -> Result<Vec<Value>, DocsFault>
     ensures depth { IfOk result (λ vs.
         All (λ v. depth (value_document v) ≤ depth_limit) vs.items) }
 {
-    let mut scratch = Scratch::new(alloc);
-    let WholeValue { value, fits: _ } = read_whole(alloc, bytes, DEPTH_LIMIT, &mut scratch)?;
+    let Tree { value, fits: _ } = read_tree(alloc, bytes, DEPTH_LIMIT)?;
     match value {
         Value::Array(values) => Ok(values),
         _ => Err(DocsFault::NotAnArray),

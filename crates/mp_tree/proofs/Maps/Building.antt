@@ -1,5 +1,5 @@
 -- A map built from pairs whose names ascend has just those pairs as its entries.
-use Rattle.std.proofs.Common.{◌≡◌, ◌<◌, ◌⊎◌, inl, inr, ℕ, ◌-◌, zero, suc, List, [], ◌∷◌, length, map, Ordering, Less, Equal, Greater, is_lt, slice_get, true, true≢false, cond, Some, None, String, BTreeMap, Global, string_bytes, string_cmp, refl, sym, ap, ◌∙◌, subst, ◌++◌, arith}
+use Rattle.std.proofs.Common.{◌≡◌, ◌⊎◌, inl, inr, ℕ, List, [], ◌∷◌, map, Less, cond, Some, None, String, BTreeMap, Global, string_bytes, string_cmp, refl, sym, ap, ◌∙◌, subst, ◌++◌}
 use Rattle.std.proofs.lemmas.Cmp.{nat_list_cmp_total, on_total, eq_by_cmp_equiv}
 use Rattle.std.proofs.lemmas.Map.Keys.{IsDistinct-from_sorted}
 use Rattle.std.proofs.lemmas.Map.Made.{update_all_none}
@@ -13,8 +13,7 @@ use Rattle.mp_tree.specs.Document.{name_cmp, is_name}
 use Rattle.mp_tree.specs.View.{byte_entries}
 use Rattle.mp_tree.proofs.Maps.Ascending.{entries_same}
 use Rattle.mp_tree.proofs.Lists.{map-push}
-use Rattle.mp_tree.proofs.Maps.Names.{below-trans, cases_same, below_is_above}
-use Rattle.mp_tree.proofs.Options.{some_same}
+use Rattle.mp_tree.proofs.Maps.Names.{cases_same, below_is_above}
 use Rattle.mp_tree.proofs.Passed.{Passed, Passed-next}
 
 string_cmp_total : IsTotalOrder (string_cmp {Z = Global})
@@ -102,45 +101,13 @@ below_middle : {V : Type 0} (k l : String Global) (es : List (String Global × V
 below_middle k l [] v left h = h.0
 below_middle k l (e ∷ es) v left h = below_middle k l es v left h.1
 
-pub insert-last : {V : Type 0} (es : List (String Global × V)) (k : String Global) (v : V) (left : List (String Global × V)) → IsStrictlySortedBy string_cmp (keys_of (es ++ (k, v) ∷ left))
+insert-last : {V : Type 0} (es : List (String Global × V)) (k : String Global) (v : V) (left : List (String Global × V)) → IsStrictlySortedBy string_cmp (keys_of (es ++ (k, v) ∷ left))
     → insert_entry string_cmp es k v ≡ es ++ (k, v) ∷ []
 unfolding IsStrictlySortedBy
 insert-last [] k v left ascending = refl
 insert-last (e ∷ es) k v left ascending =
     let above = below_is_above (string_bytes e.0) (string_bytes k) (below_middle e.0 k es v left ascending.0) in
     rw above (ap (λ fs. e ∷ fs) (insert-last es k v left ascending.1))
-
-pub less_from_is_lt : (o : Ordering) → is_lt o ≡ true → o ≡ Less
-less_from_is_lt Less lt = refl
-less_from_is_lt Equal lt = absurd (true≢false (sym lt))
-less_from_is_lt Greater lt = absurd (true≢false (sym lt))
-
-all_at : {V : Type 0} (P : String Global → Type 0) (es : List (String Global × V)) (i : ℕ) (e : String Global × V) → slice_get es i ≡ Some e → AllByRecursion P (keys_of es) → P e.0
-all_at P [] i e is all = absurd (cc)
-all_at P (d ∷ es) zero e is all = subst (λ d. P d.0) (some_same d e is) all.0
-all_at P (d ∷ es) (suc i) e is all = all_at P es i e is all.1
-
-all_push : {V : Type 0} (P : String Global → Type 0) (es : List (String Global × V)) (k : String Global) (v : V) → AllByRecursion P (keys_of es) → P k → AllByRecursion P (keys_of (es ++ (k, v) ∷ []))
-all_push P [] k v all here = (here, tt)
-all_push P (e ∷ es) k v all here = (all.0, all_push P es k v all.1 here)
-
-pub some_last : {A : Type 0} (xs : List A) (x : A) → slice_get xs (length xs - 1) ≡ Some x → 0 < length xs
-some_last [] x is = absurd (cc)
-some_last (y ∷ xs) x is = omega arith
-
--- a name that is above the last of ascending entries goes after them
-pub ascend_push : {V : Type 0} (es : List (String Global × V)) (last : String Global × V) (k : String Global) (v : V) → slice_get es (length es - 1) ≡ Some last → string_cmp last.0 k ≡ Less
-    → IsStrictlySortedBy string_cmp (keys_of es) → IsStrictlySortedBy string_cmp (keys_of (es ++ (k, v) ∷ []))
-unfolding IsStrictlySortedBy
-ascend_push [] last k v is less ascending = (tt, tt)
-ascend_push (e ∷ []) last k v is less ascending = ((subst (λ d. string_cmp d.0 k ≡ Less) (sym (some_same e last is)) less, tt), (tt, tt))
-ascend_push (e ∷ f ∷ es) last k v is less ascending =
-    let second : length (e ∷ f ∷ es) - 1 ≡ suc (length es) = omega arith in
-    let later : length es ≡ length (f ∷ es) - 1 = omega arith in
-    let end : slice_get (f ∷ es) (length es) ≡ Some last = subst (λ i. slice_get (e ∷ f ∷ es) i ≡ Some last) second is in
-    let before_last : string_cmp e.0 last.0 ≡ Less = all_at (λ y. string_cmp e.0 y ≡ Less) (f ∷ es) (length es) last end ascending.0 in
-    let before_new : string_cmp e.0 k ≡ Less = below-trans (string_bytes e.0) (string_bytes last.0) (string_bytes k) before_last less in
-    (all_push (λ y. string_cmp e.0 y ≡ Less) (f ∷ es) k v ascending.0 before_new, ascend_push (f ∷ es) last k v (subst (λ i. slice_get (f ∷ es) i ≡ Some last) later end) less ascending.1)
 
 -- the same where the entries that are there are those that a loop has passed, of a list that ascends
 pub insert-last-passed : {V : Type 0} {ps left more : List (String Global × V)} (es new : List (String Global × V)) (k : String Global) (v : V) (p : Passed ps left (λ passed. es ≡ passed)) → left ≡ (k, v) ∷ more

@@ -2,7 +2,7 @@ use Rattle.std.proofs.Common.{arith}
 use Rattle.serde_json.specs.View.{view}
 use Rattle.mp_tree.specs.Values.{value_document}
 use Rattle.mp_tree.proofs.Readings.Values.{depth-from}
-use Rattle.mp_tree.proofs.reading.read_whole.Goals as goal
+use Rattle.mp_tree.proofs.reading.read_tree.Goals as goal
 
 pub returns-in-Fits-clause-nests : goal.returns-in-Fits-clause-nests
 returns-in-Fits-clause-nests c =
