@@ -8,7 +8,7 @@
 #include "mergejoin.h"
 
 enum { JOIN, REPLAY, MERGE, REWRITE, PATCH, GET };
-enum { MOST_TEXTS = 64, MOST_BYTES = 1 << 16, NO_FIT = 64 };
+enum { MOST_TEXTS = 96, MOST_BYTES = 1 << 18, NO_FIT = 64 };
 
 static uint8_t given[MOST_BYTES], buffer[MOST_BYTES];
 static mergejoin_text texts[MOST_TEXTS];

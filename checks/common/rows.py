@@ -37,6 +37,28 @@ ROWS = [
 ]
 
 
+def many(count):
+    """Gives calls with so many patches: a title, the export, the status and the numbers and the document of the reply, and
+    the documents that it is given."""
+    names = [f"n{number:02}" for number in range(count)]
+    apart = [{name: "text"} for name in names]
+    start = {"a": 0}
+    for patches, how in ((apart, ""), ((apart[: count // 2] * 3)[:count], ", each again")):
+        joined = dict(sorted((name, "text") for patch in patches for name in patch))
+        yield f"join of {count} patches{how}", "join", 0, 0, 0, joined, patches
+        yield f"replay of {count} patches{how}", "replay", 0, 0, 0, start | joined, [start, *patches]
+        yield f"merge of {count} patches{how}", "merge", 0, 0, 0, start | joined, [start, *patches]
+    for first, second, which in ((0, 1, "the first two"), (count - 2, count - 1, "the last two"), (0, count - 1, "the first and the last")):
+        patches = [*apart[:second], {names[first]: "other"}, *apart[second + 1 :]]
+        places = [f"/{names[first]}"]
+        yield f"join of {count} patches, {which} conflict", "join", 1, first, second, places, patches
+        yield f"replay of {count} patches, {which} conflict", "replay", 1, first, second, places, [start, *patches]
+
+
+def text_of(document):
+    return json.dumps(document, ensure_ascii=False, separators=(",", ":"))
+
+
 def elements_of(text):
     """Gives the texts of the elements of a JSON array."""
     found, at = [], text.index("[") + 1
@@ -57,8 +79,7 @@ def reply_of(line, status):
     if found := re.fullmatch(r"operation (\d+): (.*)", line):
         return 3 if status == 1 else 7, int(found[1]), 0, found[2]
     if found := re.fullmatch(r"conflict: patches (\d+) and (\d+) at (.*)", line):
-        places = json.dumps(json.loads(f"[{found[3]}]"), ensure_ascii=False, separators=(",", ":"))
-        return 1, int(found[1]), int(found[2]), places
+        return 1, int(found[1]), int(found[2]), text_of(json.loads(f"[{found[3]}]"))
     if found := re.fullmatch(r"pointer: (no slash|bad tilde)(?: at (\d+))?", line):
         return 8, int(found[2] or 0), 0, found[1]
     return {"missing": 4, "no patches": 2}[line], 0, 0, line
