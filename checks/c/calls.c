@@ -9,7 +9,7 @@
 #include "mergejoin.h"
 
 enum { JOIN, REPLAY, MERGE, REWRITE, PATCH, GET };
-enum { MOST_ROWS = 4000, MOST_TEXTS = 12, MOST_BYTES = 1 << 24, STACK = 1 << 20, BEHIND = 16, THREADS = 4 };
+enum { MOST_ROWS = 4000, MOST_TEXTS = 48, MOST_BYTES = 1 << 24, STACK = 1 << 20, BEHIND = 16, THREADS = 4 };
 
 typedef struct row {
   unsigned export;
@@ -134,7 +134,7 @@ static void in_buffers(void) {
 // What is borrowed, and the buffer, in blocks of their own that end where they end.
 static void in_blocks(void) {
   for (row *it = rows; it < rows + row_count; it += 1) {
-    mergejoin_text *given = malloc(sizeof it->given);
+    mergejoin_text *given = malloc(it->count * sizeof *given);
     for (size_t number = 0; number < it->count; number += 1) {
       uint8_t *block = malloc(it->given[number].length);
       memcpy(block, it->given[number].bytes, it->given[number].length);
@@ -265,6 +265,7 @@ static void on_stacks(void) {
     measured here = {.it = it};
     size_t size = stack_of(&here) - none;
     if (!is_same(here.reply, it->reply) || memcmp(stack_buffer, it->text, it->reply.length)) report(it, "stack", size, here.reply);
+    printf("row %zu: %zu bytes\n", (size_t)(it - rows) + 1, size);
     if (size > most) most = size;
   }
   printf("%zu bytes of stack at the most, %zu wrong\n", most, wrong);
@@ -291,8 +292,10 @@ static void read_rows(void) {
     mergejoin_text text = next_text(&at);
     it->text = text.bytes;
     it->reply.length = text.length;
-    while (*at == 'x') it->given[it->count++] = next_text(&at);
+    while (*at == 'x' && it->count < MOST_TEXTS) it->given[it->count++] = next_text(&at);
+    wrong += *at == 'x';
   }
+  if (wrong) printf("%zu rows have too many texts\n", wrong);
 }
 
 int main(int count, char **words) {
