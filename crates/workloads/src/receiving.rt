@@ -1,6 +1,6 @@
 // A server that has a document in memory and takes patches one by one; each thousandth is tried on a copy first.
 use crate::configuration::Configuration;
-use crate::digest::Digest;
+use crate::digest::{Digest, add_parts};
 use crate::flat::read;
 use crate::numbers::Numbers;
 use mp_merge::{merge, merge_into};
@@ -37,7 +37,7 @@ fn receive(
     let patch = read(alloc, text.as_str())?;
     if number % 1_000 == 0 {
         let copy = merge(alloc, Some(doc), &patch)?;
-        digest.add(u64::from(copy.same(doc)));
+        add_parts(digest, &copy);
     }
     merge_into(alloc, doc, &patch)
 }
