@@ -10,6 +10,8 @@ mod fault_texts;
 #[cfg(test)]
 mod merges_in_place;
 #[cfg(test)]
+mod moves;
+#[cfg(test)]
 mod patches;
 #[cfg(test)]
 mod pointers;
