@@ -21,7 +21,10 @@ pub fn run(alloc: Global, count: u64, seed: u64, digest: &mut Digest) -> Result<
         let patches = share_of(alloc, &mut numbers, seed, users)?;
         let answer = join(alloc, patches.as_slice());
         match answer {
-            Ok(text) => joins.push(text)?,
+            Ok(text) => {
+                digest.add_text(text.as_str());
+                joins.push(text)?;
+            }
             Err(fault) => digest.add_text(format!(in alloc; "{fault}")?.as_str()),
         }
     }
