@@ -5,9 +5,10 @@ least and the most in brackets, and the ratio of the medians.
     bench/run OLD NEW [SEED]
 
 In each checkout the proved programs of the workloads have to be there, as `rt run` in their crates leaves them, and none may be
-older than a source of its crate or of a crate below. SEED is a whole number below 2^32, 7396 without it; each gives other inputs
-of the same kind and size. A workload runs once in each before it is timed, and then in nine turns. It stops where the two print
-different things or fail. Nothing else should run on the machine.
+older than a source of its crate or of a crate below; where a source was only touched, `rt run` leaves the program as it is until
+it is removed. SEED is a whole number below 2^32, 7396 without it; each gives other inputs of the same kind and size. A workload
+runs once in each before it is timed, and then in nine turns. It stops where the two print different things or fail. Nothing else
+should run on the machine.
 """
 
 import os
@@ -56,7 +57,7 @@ def fault_of(checkout, crate):
         directories = [checkout / "crates" / name / part for part in ("src", "specs", "proofs")]
         for source in sorted(path for directory in directories for path in directory.rglob("*.*")):
             if source.suffix in (".rt", ".antt") and source.stat().st_mtime > built:
-                return f"{program} is older than {source}: rt run in its crate makes it anew"
+                return f"{program} is older than {source}: remove it, and rt run in its crate makes it anew"
     return None
 
 
