@@ -1,8 +1,8 @@
 //! The calls of mp_patch that take memory.
-use crate::preparing::{doc_of, patch_of, pointer_of, three_docs_of, two_docs_of};
+use crate::preparing::{doc_of, patch_of, pointer_of, three_docs_of, two_docs_of, value_of};
 use crate::seen::{Seen, has_tokens};
 use mp_patch::{ApplyFault, FormFault, JsonPatch, Op, ValueOp, apply_to_value, ops_of_value};
-use mp_tree::{Doc, read_value, same_value};
+use mp_tree::{Doc, same_value};
 use serde_json::Value;
 use std::alloc::Global;
 
@@ -126,19 +126,14 @@ fn is_addition(patch: &JsonPatch, value: &Doc) -> bool {
     }
 }
 
-/// Of the form `VALUED_FORM`.
-fn of_addition(given: Result<JsonPatch, FormFault>, value: &Doc) -> Seen {
-    match given {
-        Ok(patch) => Seen::answer_if(is_addition(&patch, value)),
-        Err(FormFault::OutOfMemory) => Seen::NoMemory,
-        Err(_) => Seen::Wrong,
-    }
-}
-
 fn watch_from_doc_owned(alloc: Global) -> Option<Seen> {
     let form = doc_of(alloc, VALUED_FORM)?;
     let value = doc_of(alloc, "[5]")?;
-    Some(of_addition(JsonPatch::from_doc_owned(alloc, form), &value))
+    Some(match JsonPatch::from_doc_owned(alloc, form) {
+        Ok(patch) => Seen::answer_if(is_addition(&patch, &value)),
+        Err(FormFault::OutOfMemory) => Seen::NoMemory,
+        Err(_) => Seen::Wrong,
+    })
 }
 
 /// Whether the operations are those of `VALUED_FORM`. It takes no memory.
@@ -150,8 +145,8 @@ fn is_value_addition(ops: &[ValueOp], value: &Value) -> bool {
 }
 
 fn watch_ops_of_value(alloc: Global) -> Option<Seen> {
-    let form = read_value(alloc, VALUED_FORM.as_bytes()).ok()?;
-    let value = read_value(alloc, b"[5]").ok()?;
+    let form = value_of(alloc, VALUED_FORM)?;
+    let value = value_of(alloc, "[5]")?;
     Some(match ops_of_value(alloc, form) {
         Ok(ops) => Seen::answer_if(is_value_addition(ops.as_slice(), &value)),
         Err(FormFault::OutOfMemory) => Seen::NoMemory,
@@ -160,10 +155,10 @@ fn watch_ops_of_value(alloc: Global) -> Option<Seen> {
 }
 
 fn watch_apply_to_value(alloc: Global) -> Option<Seen> {
-    let form = read_value(alloc, LONG_FORM.as_bytes()).ok()?;
+    let form = value_of(alloc, LONG_FORM)?;
     let ops = ops_of_value(alloc, form).ok()?;
-    let doc = read_value(alloc, DOC.as_bytes()).ok()?;
-    let end = read_value(alloc, END.as_bytes()).ok()?;
+    let doc = value_of(alloc, DOC)?;
+    let end = value_of(alloc, END)?;
     Some(match apply_to_value(alloc, doc, ops) {
         Ok(value) => Seen::answer_if(same_value(&value, &end)),
         Err(ApplyFault::OutOfMemory) => Seen::NoMemory,

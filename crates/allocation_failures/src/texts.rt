@@ -140,7 +140,7 @@ fn watch_join_texts_of_clashing(alloc: Global) -> Option<Seen> {
     Some(seen_clash(mp_texts::join_texts(alloc, &patches), (0, 1), PLACES))
 }
 
-/// The texts four times over: more than are all kept until they are joined.
+/// The texts four times over.
 fn often(alloc: Global, texts: &'static [&'static [u8]]) -> Option<Vec<&'static [u8]>> {
     let mut many = Vec::new(alloc);
     for _ in 0..4 {
@@ -154,7 +154,7 @@ fn watch_join_texts_of_many(alloc: Global) -> Option<Seen> {
     Some(seen_text(mp_texts::join_texts(alloc, many.as_slice()), MANY_JOIN))
 }
 
-/// All are read again, since what was joined in turn is gone.
+/// The first pair of several that conflict.
 fn watch_join_texts_of_many_clashing(alloc: Global) -> Option<Seen> {
     let many = often(alloc, MANY_CLASHING)?;
     let given = mp_texts::join_texts(alloc, many.as_slice());

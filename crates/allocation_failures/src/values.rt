@@ -3,7 +3,7 @@ use crate::merges::{
     CHANGE, CHANGED, CLASHING, JOIN, MERGED, OUTCOME, PATCHES, PLACES, REWRITTEN, START, TARGET,
     of_clash, of_edits,
 };
-use crate::preparing::{doc_of, two_docs_of};
+use crate::preparing::{doc_of, two_docs_of, value_of, values_of};
 use crate::seen::{Seen, are_pointers};
 use mp_merge::ListFault;
 use mp_tree::{Doc, DocsFault, ReadFault, read_value, read_values, same_value};
@@ -25,11 +25,9 @@ pub const CALLS: &[&str] = &[
     "copy_to_doc_of_wide",
     "copy_value",
     "copy_value_of_wide",
-    "doc_of_value",
     "join_all_values",
     "join_all_values_of_clashing",
     "join_all_values_of_wide",
-    "join_value",
     "merge_value",
     "merge_value_into_nothing",
     "read_value",
@@ -47,11 +45,9 @@ pub fn watch(alloc: Global, name: &str) -> Option<Option<Seen>> {
         "copy_to_doc_of_wide" => watch_copy_to_doc_of_wide(alloc),
         "copy_value" => watch_copy_value(alloc),
         "copy_value_of_wide" => watch_copy_value_of_wide(alloc),
-        "doc_of_value" => watch_doc_of_value(alloc),
         "join_all_values" => watch_join_all_values(alloc),
         "join_all_values_of_clashing" => watch_join_all_values_of_clashing(alloc),
         "join_all_values_of_wide" => watch_join_all_values_of_wide(alloc),
-        "join_value" => watch_join_value(alloc),
         "merge_value" => watch_merge_value(alloc),
         "merge_value_into_nothing" => watch_merge_value_into_nothing(alloc),
         "read_value" => watch_read_value(alloc),
@@ -63,19 +59,11 @@ pub fn watch(alloc: Global, name: &str) -> Option<Option<Seen>> {
     })
 }
 
-fn value_of(alloc: Global, text: &str) -> Option<Value> {
-    read_value(alloc, text.as_bytes()).ok()
-}
-
 fn two_values_of(alloc: Global, texts: [&str; 2]) -> Option<[Value; 2]> {
     let [text, other] = texts;
     let first = value_of(alloc, text)?;
     let second = value_of(alloc, other)?;
     Some([first, second])
-}
-
-fn values_of(alloc: Global, text: &str) -> Option<Vec<Value>> {
-    read_values(alloc, text.as_bytes()).ok()
 }
 
 /// Whether the values are equal, one by one. It takes no memory.
@@ -173,12 +161,6 @@ fn watch_copy_to_doc_of_wide(alloc: Global) -> Option<Seen> {
     Some(seen.with(same_value(value, before)))
 }
 
-fn watch_doc_of_value(alloc: Global) -> Option<Seen> {
-    let value = value_of(alloc, TEXT)?;
-    let wanted = doc_of(alloc, TEXT)?;
-    Some(Seen::of_doc(mp_tree::doc_of_value(alloc, value), &wanted))
-}
-
 fn watch_merge_value(alloc: Global) -> Option<Seen> {
     let wanted = value_of(alloc, MERGED)?;
     let target = value_of(alloc, TARGET)?;
@@ -190,17 +172,6 @@ fn watch_merge_value_into_nothing(alloc: Global) -> Option<Seen> {
     let wanted = value_of(alloc, r#"{"a":{}}"#)?;
     let patch = value_of(alloc, r#"{"a":{"b":null},"c":null}"#)?;
     Some(of_value(mp_merge::merge_value(alloc, None, patch), &wanted))
-}
-
-/// A name that is moved into an empty object takes memory.
-fn watch_join_value(alloc: Global) -> Option<Seen> {
-    let wanted = value_of(alloc, r#"{"a":{"y":null},"k":[0]}"#)?;
-    let mut joined = value_of(alloc, r#"{"a":{}}"#)?;
-    let patch = value_of(alloc, r#"{"a":{"y":null},"k":[0]}"#)?;
-    Some(match mp_merge::join_value(alloc, &mut joined, patch) {
-        Ok(free) => Seen::answer_if(free && same_value(&joined, &wanted)),
-        Err(_) => Seen::NoMemory,
-    })
 }
 
 /// Of patches, which are as they were, and their join.

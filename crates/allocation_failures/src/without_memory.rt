@@ -1,13 +1,14 @@
 //! The calls that take no memory.
 use crate::patches::{FORM, is_move};
 use crate::preparing::{
-    doc_of, docs_of, patch_of, pointer_of, three_docs_of, two_docs_of, two_pointers_of,
+    doc_of, docs_of, patch_of, pointer_of, three_docs_of, two_docs_of, two_pointers_of, value_of,
+    values_of,
 };
 use crate::seen::{Seen, has_tokens};
 use mp_cli::{Counted, RunFault};
 use mp_patch::JsonPatch;
 use mp_pointer::Pointer;
-use mp_tree::{Doc, Whole, read_value, read_values, same_value};
+use mp_tree::{Doc, Whole, same_value};
 use serde_json::Value;
 use std::alloc::Global;
 use std::mem;
@@ -147,9 +148,9 @@ fn watch_members_mut(alloc: Global) -> Option<Seen> {
 }
 
 fn watch_same_value(alloc: Global) -> Option<Seen> {
-    let value = read_value(alloc, br#"{"b":[1,"t"],"a":null}"#).ok()?;
-    let equal = read_value(alloc, br#"{"a":null,"b":[1,"t"]}"#).ok()?;
-    let other = read_value(alloc, br#"{"a":null,"b":[1,"u"]}"#).ok()?;
+    let value = value_of(alloc, r#"{"b":[1,"t"],"a":null}"#)?;
+    let equal = value_of(alloc, r#"{"a":null,"b":[1,"t"]}"#)?;
+    let other = value_of(alloc, r#"{"a":null,"b":[1,"u"]}"#)?;
     Some(Seen::answer_if(same_value(&value, &equal) && !same_value(&value, &other)))
 }
 
@@ -165,8 +166,8 @@ fn reverse_value(value: &mut Value) -> bool {
 }
 
 fn watch_value_items_mut(alloc: Global) -> Option<Seen> {
-    let mut value = read_value(alloc, b"[1,2]").ok()?;
-    let wanted = read_value(alloc, b"[2,1]").ok()?;
+    let mut value = value_of(alloc, "[1,2]")?;
+    let wanted = value_of(alloc, "[2,1]")?;
     Some(Seen::answer_if(reverse_value(&mut value) && same_value(&value, &wanted)))
 }
 
@@ -179,8 +180,8 @@ fn remove_value(value: &mut Value, name: &str) -> bool {
 }
 
 fn watch_value_members_mut(alloc: Global) -> Option<Seen> {
-    let mut value = read_value(alloc, br#"{"a":1,"b":2}"#).ok()?;
-    let wanted = read_value(alloc, br#"{"b":2}"#).ok()?;
+    let mut value = value_of(alloc, r#"{"a":1,"b":2}"#)?;
+    let wanted = value_of(alloc, r#"{"b":2}"#)?;
     Some(Seen::answer_if(remove_value(&mut value, "a") && same_value(&value, &wanted)))
 }
 
@@ -255,8 +256,8 @@ fn set_to_nine(doc: &mut Doc, pointer: &Pointer) -> bool {
 }
 
 fn watch_get_value(alloc: Global) -> Option<Seen> {
-    let value = read_value(alloc, br#"{"a":[1,2]}"#).ok()?;
-    let wanted = read_value(alloc, b"2").ok()?;
+    let value = value_of(alloc, r#"{"a":[1,2]}"#)?;
+    let wanted = value_of(alloc, "2")?;
     let pointers = two_pointers_of(alloc, ["/a/1", "/a/2"])?;
     let [within, past] = &pointers;
     let found = match mp_pointer::get_value(&value, within) {
@@ -267,9 +268,9 @@ fn watch_get_value(alloc: Global) -> Option<Seen> {
 }
 
 fn watch_edit_value_part(alloc: Global) -> Option<Seen> {
-    let mut value = read_value(alloc, br#"{"a":[1,2]}"#).ok()?;
+    let mut value = value_of(alloc, r#"{"a":[1,2]}"#)?;
     let pointer = pointer_of(alloc, "/a/1")?;
-    let wanted = read_values(alloc, br#"[{"a":[1,null]},2]"#).ok()?;
+    let wanted = values_of(alloc, r#"[{"a":[1,null]},2]"#)?;
     let [left, taken] = wanted.as_slice() else {
         return None;
     };
@@ -350,7 +351,7 @@ fn watch_compatible(alloc: Global) -> Option<Seen> {
 }
 
 fn watch_compatible_values(alloc: Global) -> Option<Seen> {
-    let values = read_values(alloc, PATCHES.as_bytes()).ok()?;
+    let values = values_of(alloc, PATCHES)?;
     let [p, q, other] = values.as_slice() else {
         return None;
     };

@@ -4,7 +4,6 @@ ghost use Rattle.mp_tree.specs.Values.{value_document, value_items};
 ghost use Rattle.mp_patch.specs.View.{value_operations};
 ghost use Rattle.mp_cli.specs.Answered.{IsAnswered, IsGetAnswerTo, IsJoinAnswer, IsPatchAnswer, IsPatchAnswerTo, IsReplayAnswerTo, IsRewriteAnswer, IsRewriteAnswerTo, IsRunAnswer, answered_by, merge_answer};
 ghost use Rattle.mp_cli.specs.Private.Answers.{Gives};
-ghost use Rattle.mp_cli.specs.declared.command.Command.TheVariants.{Get, Patch, Merge, Join, Replay, Rewrite};
 
 use crate::answers::Answer;
 use crate::command::Command;
@@ -34,76 +33,19 @@ use std::alloc::{AllocError, Global};
 /// answer(alloc, &Command::Join, b"[1,2]")                     // "conflict: patches 0 and 1 at \"\"\n", status 1
 /// answer(alloc, &Command::Get(pointer), b"[{\"a\":1}]")       // for the text "/a": "1\n", status 0
 /// ```
+#[tactic(auto, unfolding(crate::specs::Answered::IsAnswered))]
 pub fn answer(alloc: Global, command: &Command, input: &[u8]) -> Result<Answer, AllocError>
     ensures { IfOk result (λ a. IsAnswered command.now input.now (answered_by a)) }
 {
-    match command {
-        Command::Get(pointer) => answer_get(alloc, pointer, input),
-        Command::Patch => answer_patch(alloc, input),
-        Command::Merge => answer_merge(alloc, input),
-        Command::Join => answer_join(alloc, input),
-        Command::Replay => answer_replay(alloc, input),
-        Command::Rewrite => answer_rewrite(alloc, input),
-    }
-}
-
-// What is read is kept as the values that `serde_json` reads.
-#[tactic(auto, unfolding(crate::specs::Answered::IsAnswered))]
-fn answer_get(alloc: Global, pointer: &String, input: &[u8]) -> Result<Answer, AllocError>
-    ensures { IfOk result (λ a. IsAnswered (Get pointer.now) input.now (answered_by a)) }
-{
     match read_values(alloc, input) {
-        Ok(values) => get(alloc, pointer.as_str(), values),
-        Err(fault) => input_fault(alloc, fault),
-    }
-}
-
-#[tactic(auto, unfolding(crate::specs::Answered::IsAnswered))]
-fn answer_patch(alloc: Global, input: &[u8]) -> Result<Answer, AllocError>
-    ensures { IfOk result (λ a. IsAnswered Patch input.now (answered_by a)) }
-{
-    match read_values(alloc, input) {
-        Ok(values) => patch(alloc, values),
-        Err(fault) => input_fault(alloc, fault),
-    }
-}
-
-#[tactic(auto, unfolding(crate::specs::Answered::IsAnswered))]
-fn answer_merge(alloc: Global, input: &[u8]) -> Result<Answer, AllocError>
-    ensures { IfOk result (λ a. IsAnswered Merge input.now (answered_by a)) }
-{
-    match read_values(alloc, input) {
-        Ok(values) => merge(alloc, values),
-        Err(fault) => input_fault(alloc, fault),
-    }
-}
-
-#[tactic(auto, unfolding(crate::specs::Answered::IsAnswered))]
-fn answer_join(alloc: Global, input: &[u8]) -> Result<Answer, AllocError>
-    ensures { IfOk result (λ a. IsAnswered Join input.now (answered_by a)) }
-{
-    match read_values(alloc, input) {
-        Ok(values) => join(alloc, values.as_slice()),
-        Err(fault) => input_fault(alloc, fault),
-    }
-}
-
-#[tactic(auto, unfolding(crate::specs::Answered::IsAnswered))]
-fn answer_replay(alloc: Global, input: &[u8]) -> Result<Answer, AllocError>
-    ensures { IfOk result (λ a. IsAnswered Replay input.now (answered_by a)) }
-{
-    match read_values(alloc, input) {
-        Ok(values) => replay(alloc, values),
-        Err(fault) => input_fault(alloc, fault),
-    }
-}
-
-#[tactic(auto, unfolding(crate::specs::Answered::IsAnswered))]
-fn answer_rewrite(alloc: Global, input: &[u8]) -> Result<Answer, AllocError>
-    ensures { IfOk result (λ a. IsAnswered Rewrite input.now (answered_by a)) }
-{
-    match read_values(alloc, input) {
-        Ok(values) => rewrite(alloc, values),
+        Ok(values) => match command {
+            Command::Get(pointer) => get(alloc, pointer.as_str(), values),
+            Command::Patch => patch(alloc, values),
+            Command::Merge => merge(alloc, values),
+            Command::Join => join(alloc, values.as_slice()),
+            Command::Replay => replay(alloc, values),
+            Command::Rewrite => rewrite(alloc, values),
+        },
         Err(fault) => input_fault(alloc, fault),
     }
 }

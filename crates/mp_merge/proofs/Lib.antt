@@ -2,7 +2,6 @@ pub mod Application
 pub mod Clashes
 pub mod Collections
 pub mod Convergence
-pub mod Facts
 pub mod Joins
 pub mod Outcome
 pub mod Paths

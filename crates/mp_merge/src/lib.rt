@@ -13,8 +13,8 @@ mod merging;
 mod rewriting;
 mod value_comparing;
 mod value_lists;
+mod value_merging;
 mod value_rewriting;
-mod valued;
 mod values;
 
 pub use comparing::{compatible, conflict};
@@ -27,5 +27,5 @@ pub use merging::{merge, merge_owned};
 pub use rewriting::rewrite;
 pub use value_comparing::{compatible_values, conflict_values};
 pub use value_lists::{join_all_values, replay_values};
+pub use value_merging::merge_value;
 pub use value_rewriting::rewrite_value;
-pub use valued::{join_value, merge_value};

@@ -12,7 +12,7 @@ ghost use Rattle.mp_merge.specs.Outcome.{IsOutcome};
 
 use crate::fault::ListFault;
 use crate::value_comparing::{compatible_values, conflict_values};
-use crate::valued::merge_value;
+use crate::value_merging::merge_value;
 use mp_pointer::Pointer;
 use mp_tree::{copy_value, same_value, value_members_mut};
 use serde_json::{Map, Value};

@@ -11,7 +11,7 @@ use serde_json::Value;
 use std::alloc::Global;
 
 /// As `Op`, with values as `serde_json` reads them.
-#[derive(Drop)]
+#[derive(Debug, Drop)]
 pub enum ValueOp {
     /// As `Op::Add`.
     Add(Pointer, Value),

@@ -1,6 +1,5 @@
 pub mod Joins
 pub mod Merging
-pub mod Numbered
 pub mod OneAnswer
 pub mod Patched
 pub mod Places

@@ -1,5 +1,5 @@
--- Patches that are applied in turn: one more, and that they leave what can be read.
-use Rattle.std.proofs.Common.{◌≡◌, List, [], ◌∷◌, ◌++◌, Some, refl}
+-- Patches that are applied in turn leave what can be read.
+use Rattle.std.proofs.Common.{List, [], ◌∷◌, Some}
 use Rattle.std.proofs.lemmas.List.Elements.{All-head, All-tail}
 use Rattle.std.specs.List.{All}
 use Rattle.mp_tree.specs.Document.{Document, IsReadable}
@@ -10,7 +10,3 @@ pub in_turn-readable : MergedIsReadable → (d : Document) (ps : List Document) 
 in_turn-readable keeps d [] good all = good
 in_turn-readable keeps d (p ∷ ps) good all =
     in_turn-readable keeps (merge_patch (Some d) p) ps (keeps d p good (All-head IsReadable p ps all)) (All-tail IsReadable p ps all)
-
-pub in_turn-push : (d : Document) (ps : List Document) (p : Document) → in_turn d (ps ++ p ∷ []) ≡ merge_patch (Some (in_turn d ps)) p
-in_turn-push d [] p = refl
-in_turn-push d (q ∷ ps) p = in_turn-push (merge_patch (Some d) q) ps p

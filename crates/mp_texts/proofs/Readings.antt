@@ -1,11 +1,12 @@
 -- Texts that are read, and the documents that they are read as.
-use Rattle.std.proofs.Common.{◌≡◌, ◌≢◌, ◌≤◌, inl, inr, List, [], ◌∷◌, ◌++◌, ℕ, Option, Some, IfSome, Ok, refl, sym, ap, ap₂, subst}
-use Rattle.std.proofs.lemmas.List.Elements.{All-cons, All-nil}
+use Rattle.std.proofs.Common.{◌≡◌, ◌≢◌, ◌≤◌, inl, inr, List, [], ◌∷◌, ◌++◌, ℕ, Some, Ok, refl, sym, ap, ap₂, subst}
+use Rattle.std.proofs.lemmas.List.Elements.{All-cons, All-nil, All-weaker}
 use Rattle.std.specs.List.{All, Contains}
 use Rattle.mp_tree.specs.Document.{Document, IsReadable, depth, depth_limit}
 use Rattle.mp_tree.specs.Laws.{ReadsBack, ReadsReadable}
 use Rattle.mp_tree.specs.Text.{document_in, read, text as compact}
 use Rattle.mp_tree.proofs.Facts.{Contains-nil, Contains-head, Contains-tail, Contains-cases, document_in-read}
+use Rattle.mp_merge.specs.Lists.{AreWithin}
 use Rattle.mp_texts.specs.Answers.{IsTextOf}
 use Rattle.mp_texts.specs.Texts.{AreRead}
 
@@ -78,6 +79,9 @@ all_readable can (t ∷ ts) (d ∷ ds) are =
     let rest : AreRead ts ds = cc in
     All-cons IsReadable d ds (can t d here) (all_readable can ts ds rest)
 
+pub all_within : ReadsReadable → (ts : List (List ℕ)) (ds : List Document) → AreRead ts ds → AreWithin depth_limit ds
+all_within can ts ds are = All-weaker IsReadable (λ d. depth d ≤ depth_limit) (λ d good. good.within) ds (all_readable can ts ds are)
+
 pub some_documents : (ts : List (List ℕ)) (ds : List Document) → AreRead ts ds → ts ≢ [] → ds ≢ []
 some_documents [] ds are some none = some refl
 some_documents (t ∷ ts) [] are some none = cc
@@ -116,7 +120,3 @@ some_read ts ds are (t ∷ some) sub =
       read = AreRead-cons t some here.document rest.documents here.read rest.read;
       among = λ e at. elim (Contains-cases here.document e rest.documents at) [ inl same ↦ subst (λ (x : Document). Contains ds x) same here.at | inr later ↦ rest.among e later ];
     }
-
--- what holds if there is a value holds of the one that there is
-pub of_some : {X : Type 0} (P : X → Type 0) {o : Option X} {x : X} → o ≡ Some x → IfSome o P → P x
-of_some P is has = subst (λ o. IfSome o P) is has

@@ -2,7 +2,7 @@
 use Rattle.std.proofs.Common.{◌≡◌, ℕ, List, [], ◌∷◌, Some, refl, sym, ap, ◌∙◌, subst}
 use Rattle.mp_tree.specs.Document.{Document, IsDocument, IsReadable}
 use Rattle.mp_tree.specs.Text.{text as compact}
-use Rattle.mp_tree.proofs.Facts.{Contains-nil, one_document}
+use Rattle.mp_tree.proofs.Facts.{one_document}
 use Rattle.mp_patch.specs.Form.{AreForms, shapes}
 use Rattle.mp_patch.specs.Operation.{HaveDocuments, Operation}
 use Rattle.mp_patch.specs.Run.{Runs}
@@ -21,15 +21,6 @@ same_text one other equal = one.is ∙ ap compact equal ∙ sym other.is
 
 text_moved : (d e : Document) (a b : List ℕ) → IsTextOf d a → d ≡ e → b ≡ a → IsTextOf e b
 text_moved d e a b text equal same = subst (λ (x : Document). IsTextOf x b) equal (subst (λ (t : List ℕ). IsTextOf d t) (sym same) text)
-
--- the outcome of no patches is the start
-pub outcome_of_none : (d : Document) → IsOutcome d [] d
-outcome_of_none d = record {
-  set = λ p at. absurd (Contains-nil p at);
-  entered = λ p at. absurd (Contains-nil p at);
-  cleared = λ p at. absurd (Contains-nil p at);
-  kept = λ w alone. refl;
-}
 
 module _ (joins : JoinLaws) (laws : ReplayLaws) where
   good_outcome : (s : List ℕ) (ps : List (List ℕ)) (a : List ℕ) → (is : IsReplayText s ps a) → IsDocument is.outcome

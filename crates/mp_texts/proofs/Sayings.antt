@@ -1,5 +1,5 @@
 -- Collections of patches that say the same at each path: they have the same joins, and are compatible together.
-use Rattle.std.proofs.Common.{◌≡◌, ◌≢◌, ◌⊎◌, inl, inr, List, [], ◌∷◌, ◌++◌, refl, sym, ap, ◌∙◌, subst}
+use Rattle.std.proofs.Common.{◌≡◌, ◌≢◌, ◌⊎◌, inl, inr, List, [], ◌∷◌, ◌++◌, refl, sym, ◌∙◌, subst}
 use Rattle.std.proofs.lemmas.List.Elements.{Contains-append_cases, Contains-append_left, Contains-append_right}
 use Rattle.std.specs.List.{Contains}
 use Rattle.mp_tree.specs.Document.{Document}
@@ -93,11 +93,3 @@ same_compatible ds es same free p q one two w clash =
       second = subst (λ (l : Look). l ≢ nothing) (sym second.has) clash.second;
       differ = λ equal. clash.differ (sym first.has ∙ equal ∙ second.has);
     })
-
--- ---- one patch is its own join
-
-pub join_of_one : (j : Document) → IsJoin (j ∷ []) j
-join_of_one j = record {
-  said = λ p at w has. ap (λ (d : Document). look d w) (Contains-one j p at);
-  silent = λ w none. none j (Contains-head j []);
-}

@@ -23,7 +23,7 @@ element_at (p ∷ ps) (suc k) d below = element_at ps k d (omega arith)
 
 -- ---- one more text
 
-pub next_reading : (ps : List (Bor (List ℕ))) (k : ℕ) (p : Bor (List ℕ)) → k < length ps → (ds : List Document) (d : Document) → AreRead (take k (given ps)) ds
+next_reading : (ps : List (Bor (List ℕ))) (k : ℕ) (p : Bor (List ℕ)) → k < length ps → (ds : List Document) (d : Document) → AreRead (take k (given ps)) ds
     → document_in (slice_index_or ps k p).now ≡ Ok d → AreRead (take (k + 1) (given ps)) (ds ++ d ∷ [])
 next_reading ps k p below ds d read here =
     let text = (slice_index_or ps k p).now in
@@ -37,16 +37,6 @@ pub next_read : {V : Type 0} (f : V → Document) (ps : List (Bor (List ℕ))) (
 next_read f ps k d below vs new x read pushed here =
     let moved : map f new ≡ map f vs ++ f x ∷ [] = ap (map f) pushed ∙ map-append f vs (x ∷ []) in
     subst (λ (ds : List Document). AreRead (take (k + 1) (given ps)) ds) (sym moved) (next_reading ps k d below (map f vs) (f x) read here)
-
--- no text
-pub none_given : (ps : List (Bor (List ℕ))) → length ps ≡ 0 → AreRead (given ps) []
-none_given [] none = refl
-none_given (p ∷ ps) none = absurd (omega arith)
-
--- the first text
-pub first_given : (ps : List (Bor (List ℕ))) (p : Bor (List ℕ)) → slice_get ps 0 ≡ Some p → take 1 (given ps) ≡ p.now ∷ []
-first_given [] p is = absurd (cc)
-first_given (q ∷ ps) p is = let same : q ≡ p = cc in ap (λ (x : Bor (List ℕ)). x.now ∷ []) same
 
 -- ---- the first that is not one
 
@@ -65,13 +55,6 @@ unread_at ts k ds read t at (Form fault) is = absurd is
 unread_at ts k ds read t at (Refused fault) is = absurd is
 unread_at ts k ds read t at (Pointer fault) is = absurd is
 unread_at ts k ds read t at Missing is = absurd is
-
--- the first of all
-pub first_unread : (ps : List (Bor (List ℕ))) (p : Bor (List ℕ)) → slice_get ps 0 ≡ Some p → (fault : TextsFault) → IsPatchFault fault p.now 0 → IsPatchesFault fault (given ps)
-first_unread [] p is fault unread = absurd (cc)
-first_unread (q ∷ ps) p is fault unread =
-    let same : q ≡ p = cc in
-    unread_at (given (q ∷ ps)) 0 [] refl q.now refl fault (subst (λ (x : Bor (List ℕ)). IsPatchFault fault x.now 0) (sym same) unread)
 
 -- what a `?` hands on
 pub handed_on : {A : Type 0} {reported : TextsFault} (P : A → Type 0) (Q : TextsFault → Type 0) (r : Result A TextsFault) → IsErrAnd r (λ fault. fault ≡ reported) → Q reported → MatchResult r P Q

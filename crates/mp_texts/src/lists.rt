@@ -1,20 +1,17 @@
 //! Texts of merge patches: their join, and what they make of a document.
-ghost use Rattle.std.specs.Prelude.{◌≡◌, List, MatchResult, string_bytes};
-ghost use Rattle.mp_tree.specs.Document.{Document};
+ghost use Rattle.std.specs.Prelude.{◌≡◌, map, IfOk, MatchResult, string_bytes};
 ghost use Rattle.mp_tree.specs.Values.{value_document};
 ghost use Rattle.mp_merge.specs.Application.{in_turn};
 ghost use Rattle.mp_texts.specs.Answers.{IsJoinText, IsMergeText, IsReplayText};
 ghost use Rattle.mp_texts.specs.Faults.{IsJoinTextFault, IsMergeTextFault, IsReplayTextFault};
-ghost use Rattle.mp_texts.specs.Texts.{AreRead, given};
-ghost use Rattle.mp_texts.specs.Private.Unread.{IsPatchesFault};
+ghost use Rattle.mp_texts.specs.Texts.{given};
 
 use crate::fault::TextsFault;
-use crate::reading::{read_document_value, read_patch_value};
-use crate::valued::joined_value;
-use mp_merge::{laws as merging, merge_value};
+use crate::reading::{read_document_value, read_patch_values};
+use mp_merge::{join_all_values, laws as merging, merge_value, replay_values};
 use mp_tree::{laws as reading, write_value};
 use serde_json::Value;
-use std::alloc::Global;
+use std::alloc::{AllocError, Global};
 
 /// The text of the join of merge patches: of one patch with the effect of all, in any order and with any repeats.
 ///
@@ -33,8 +30,9 @@ pub fn join_texts(alloc: Global, patches: &[&[u8]]) -> Result<String, TextsFault
         (λ fault. IsJoinTextFault fault (given patches.now)) }
 {
     reading::readings_are_documents();
-    merging::join_is_readable();
-    let joined = joined_value(alloc, patches)?;
+    let patches = read_patch_values(alloc, patches)?;
+    let joined = join_all_values(alloc, patches.as_slice())?;
+    drop(patches);
     Ok(write_value(alloc, &joined)?)
 }
 
@@ -53,15 +51,10 @@ pub fn replay_texts(alloc: Global, start: &[u8], patches: &[&[u8]]) -> Result<St
         (λ fault. IsReplayTextFault fault start.now (given patches.now)) }
 {
     reading::readings_are_documents();
-    merging::join_is_readable();
-    merging::join_gives_outcome();
-    merging::merged_is_readable();
-    let from = read_document_value(alloc, start)?;
-    if patches.is_empty() {
-        return Ok(write_value(alloc, &from)?);
-    }
-    let joined = joined_value(alloc, patches)?;
-    let outcome = merge_value(alloc, Some(from), joined)?;
+    let start = read_document_value(alloc, start)?;
+    let patches = read_patch_values(alloc, patches)?;
+    let outcome = replay_values(alloc, start, patches.as_slice())?;
+    drop(patches);
     Ok(write_value(alloc, &outcome)?)
 }
 
@@ -83,19 +76,17 @@ pub fn merge_texts(alloc: Global, document: &[u8], patches: &[&[u8]]) -> Result<
     reading::readings_are_documents();
     merging::merged_is_readable();
     let doc = read_document_value(alloc, document)?;
-    let merged = merge_each(alloc, doc, patches)?;
+    let patches = read_patch_values(alloc, patches)?;
+    let merged = merge_each(doc, patches, alloc)?;
     Ok(write_value(alloc, &merged)?)
 }
 
-// Each patch is read and applied to what those before it left.
-fn merge_each(alloc: Global, mut value: Value, patches: &[&[u8]]) -> Result<Value, TextsFault>
-    ensures { MatchResult result
-        (λ v. (ds : List Document) × AreRead (given patches.now) ds
-        × (value_document v ≡ in_turn (value_document value) ds))
-        (λ fault. IsPatchesFault fault (given patches.now)) }
+// Each patch is applied to what those before it left.
+fn merge_each(mut value: Value, patches: Vec<Value>, alloc: Global) -> Result<Value, AllocError>
+    ensures { IfOk result (λ v. value_document v
+        ≡ in_turn (value_document value) (map value_document patches.items)) }
 {
-    for (number, text) in patches.iter().enumerate() {
-        let patch = read_patch_value(alloc, text, number)?;
+    for patch in patches {
         value = merge_value(alloc, Some(value), patch)?;
     }
     Ok(value)

@@ -1,8 +1,9 @@
 // Texts read, each as the value of a document.
-ghost use Rattle.std.specs.Prelude.{◌≡◌, Ok, MatchResult};
+ghost use Rattle.std.specs.Prelude.{◌≡◌, map, Ok, MatchResult};
 ghost use Rattle.mp_tree.specs.Text.{document_in};
 ghost use Rattle.mp_tree.specs.Values.{value_document};
-ghost use Rattle.mp_texts.specs.Private.Unread.{IsDocumentFault, IsPatchFault};
+ghost use Rattle.mp_texts.specs.Texts.{AreRead, given};
+ghost use Rattle.mp_texts.specs.Private.Unread.{IsDocumentFault, IsPatchFault, IsPatchesFault};
 
 use crate::fault::TextsFault;
 use mp_tree::{ReadFault, read_value};
@@ -35,4 +36,17 @@ pub(crate) fn read_patch_value(
         Err(ReadFault::OutOfMemory) => Err(TextsFault::OutOfMemory),
         Err(fault) => Err(TextsFault::Patch { number, fault }),
     }
+}
+
+// All are read before any work is done: a text that is not a document is reported first.
+pub(crate) fn read_patch_values(alloc: Global, patches: &[&[u8]]) -> Result<Vec<Value>, TextsFault>
+    ensures { MatchResult result
+        (λ values. AreRead (given patches.now) (map value_document values.items))
+        (λ fault. IsPatchesFault fault (given patches.now)) }
+{
+    let mut values = Vec::with_capacity(alloc, patches.len())?;
+    for (number, text) in patches.iter().enumerate() {
+        values.push(read_patch_value(alloc, text, number)?)?;
+    }
+    Ok(values)
 }

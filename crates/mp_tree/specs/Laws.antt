@@ -1,12 +1,14 @@
 -- Laws over documents alone. Each is the contract of a function of the module `laws` that runs nothing.
 use Rattle.std.specs.Prelude.{◌≡◌, ◌≢◌, ◌≤◌, ◌↔◌, ℕ, List, map, true, None, Some, Ok, Err, IsUtf8}
 use Rattle.std.specs.List.{All}
+use Rattle.serde_json.specs.declared.value.Value.{Value}
 use Rattle.mp_tree.specs.Arrays.{IsArrayOf}
 use Rattle.mp_tree.specs.Document.{Document, Items, Members, IsDocument, IsMap, HasTexts, IsInRange, IsReadable}
 use Rattle.mp_tree.specs.Document.{depth, depth_limit, find, is_name, put, without}
 use Rattle.mp_tree.specs.Elements.{items_of, list_of}
 use Rattle.mp_tree.specs.Look.{Path, look}
 use Rattle.mp_tree.specs.Text.{document_in, documents_in, read, text}
+use Rattle.mp_tree.specs.Values.{value_document}
 use Rattle.mp_tree.specs.View.{document, number_of}
 use Rattle.mp_tree.specs.declared.doc.Doc.{Doc}
 use Rattle.mp_tree.specs.declared.fault.DocsFault.TheVariants as elements_fault
@@ -17,6 +19,11 @@ use Rattle.mp_tree.specs.declared.whole.Whole.{Whole}
 -- the number rule
 abbrev pub DocsAreDocuments : Type 0
 DocsAreDocuments = (d : Doc) → IsDocument (document d) × HasTexts (document d) × IsInRange (document d)
+
+-- so does each value of `serde_json`, where a number that is not within the number rule means 0
+abbrev pub ValuesAreDocuments : Type 0
+ValuesAreDocuments =
+    (v : Value) → IsDocument (value_document v) × HasTexts (value_document v) × IsInRange (value_document v)
 
 -- ---- texts
 

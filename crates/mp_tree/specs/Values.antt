@@ -1,6 +1,6 @@
 -- The document that a value of `serde_json` means. It is the document that is read of the value (`Text`), if each number is
--- whole; one that is not means 0.
-use Rattle.std.specs.Prelude.{ℤ, pos, string_bytes, unwrap_or}
+-- whole and from -2^63 to 2^64 - 1; a number that is not means 0.
+use Rattle.std.specs.Prelude.{◌^◌, ◌-◌, ◌&&◌, ℤ, pos, negsuc, int_le, if◌then◌else◌, Option, None, Some, string_bytes}
 use Rattle.std.specs.Prelude.{List, map}
 use Rattle.serde_json.specs.View.{number_view}
 use Rattle.serde_json.specs.declared.number.Number.{Number}
@@ -11,9 +11,14 @@ use Rattle.mp_tree.specs.Elements.{items_of}
 use Rattle.mp_tree.specs.Text.{whole_number}
 use Rattle.mp_tree.specs.View.{byte_entries, members_of}
 
--- the number, or 0 if it is not whole
+-- the number that is there, if it is from -2^63 to 2^64 - 1, and else 0
+unfoldable pub number_or_zero : Option ℤ → ℤ
+number_or_zero None = pos 0
+number_or_zero (Some z) = if int_le (negsuc (2 ^ 63 - 1)) z && int_le z (pos (2 ^ 64 - 1)) then z else pos 0
+
+-- what a number of `serde_json` means
 abbrev pub number_in : Number → ℤ
-number_in n = unwrap_or (whole_number (number_view n)) (pos 0)
+number_in n = number_or_zero (whole_number (number_view n))
 
 -- one level, with each part already seen as its document
 abbrev pub value_step : Value-F Document → Document

@@ -1,10 +1,11 @@
-// From `serde_json`'s value to a document, by value: texts and names are moved.
-ghost use Rattle.std.specs.Prelude.{◌≡◌, ◌≤◌, length, IfOk, option_map};
-ghost use Rattle.serde_json.specs.View.{number_view};
+// From `serde_json`'s value to a document, by value, so that texts and names are moved; and from its number to a
+// `Whole`.
+ghost use Rattle.std.specs.Prelude.{◌≡◌, ◌≢◌, ◌≤◌, length, None, Some, Err, IfOk, option_map};
+ghost use Rattle.serde_json.specs.View.{view, items_view, members_view, number_view};
 ghost use Rattle.mp_tree.specs.View.{document, items, number_of};
-ghost use Rattle.mp_tree.specs.Private.Entries.{members, value_members};
-ghost use Rattle.mp_tree.specs.Text.{whole_number};
-ghost use Rattle.mp_tree.specs.Values.{number_in, value_document, value_items};
+ghost use Rattle.mp_tree.specs.Private.Entries.{members};
+ghost use Rattle.mp_tree.specs.Text.{from_data, items_from_data, members_from_data, whole_number};
+ghost use Rattle.mp_tree.specs.Values.{number_in};
 
 use crate::building::{FEW, map_of};
 use crate::doc::Doc;
@@ -41,16 +42,20 @@ impl<T: Drop> From<AllocFailed<T>> for Unread {
     }
 }
 
-// The document that the value means.
 #[cycle(doc_of)]
 #[inline(always)]
-pub(crate) fn doc_of(value: Value, alloc: Global) -> Result<Doc, AllocError>
-    ensures { IfOk result (λ d. document d ≡ value_document value) }
+pub(crate) fn doc_of(value: Value, alloc: Global) -> Result<Doc, Unread>
+    ensures ok { IfOk result (λ d. from_data (view value) ≡ Some (document d)) }
+    ensures not_whole { result ≡ Err Unread.NotWhole → from_data (view value) ≡ None }
+    ensures is_json { result ≢ Err Unread.NotJson }
 {
     match value {
         Value::Null => Ok(Doc::Null),
         Value::Bool(flag) => Ok(Doc::Flag(flag)),
-        Value::Number(number) => Ok(Doc::Whole(whole_or_zero(&number))),
+        Value::Number(number) => match whole_of(&number) {
+            Some(whole) => Ok(Doc::Whole(whole)),
+            None => Err(Unread::NotWhole),
+        },
         Value::String(text) => Ok(Doc::Text(text)),
         Value::Array(values) => Ok(Doc::Items(docs_of(values, alloc)?)),
         Value::Object(values) => Ok(Doc::Members(members_of(values, alloc)?)),
@@ -69,7 +74,7 @@ pub(crate) fn whole_of(number: &Number) -> Option<Whole>
     }
 }
 
-// The number that the value means: 0 if it is not whole.
+// The number that a value means: 0 if it is not whole.
 pub(crate) fn whole_or_zero(number: &Number) -> Whole
     ensures { number_of result ≡ number_in number.now }
 {
@@ -80,8 +85,12 @@ pub(crate) fn whole_or_zero(number: &Number) -> Whole
 }
 
 #[cycle(doc_of)]
-pub(crate) fn docs_of(values: Vec<Value>, alloc: Global) -> Result<Vec<Doc>, AllocError>
-    ensures { IfOk result (λ docs. items docs.items ≡ value_items values.items) }
+fn docs_of(values: Vec<Value>, alloc: Global) -> Result<Vec<Doc>, Unread>
+    ensures ok { IfOk result (λ docs. items_from_data (items_view values.items)
+        ≡ Some (items docs.items)) }
+    ensures not_whole { result ≡ Err Unread.NotWhole
+        → items_from_data (items_view values.items) ≡ None }
+    ensures is_json { result ≢ Err Unread.NotJson }
 {
     let mut docs = Vec::with_capacity(alloc, values.len())?;
     for value in values {
@@ -92,11 +101,12 @@ pub(crate) fn docs_of(values: Vec<Value>, alloc: Global) -> Result<Vec<Doc>, All
 
 #[cycle(doc_of)]
 #[inline(always)]
-fn members_of(
-    values: Map<String, Value>,
-    alloc: Global,
-) -> Result<BTreeMap<String, Doc>, AllocError>
-    ensures { IfOk result (λ docs. members docs.entries ≡ value_members values.entries) }
+fn members_of(values: Map<String, Value>, alloc: Global) -> Result<BTreeMap<String, Doc>, Unread>
+    ensures ok { IfOk result (λ docs. members_from_data (members_view values.entries)
+        ≡ Some (members docs.entries)) }
+    ensures not_whole { result ≡ Err Unread.NotWhole
+        → members_from_data (members_view values.entries) ≡ None }
+    ensures is_json { result ≢ Err Unread.NotJson }
 {
     if values.len() <= 1 {
         one_member_of(values, alloc)
@@ -111,14 +121,18 @@ fn members_of(
 fn many_members_of(
     values: Map<String, Value>,
     alloc: Global,
-) -> Result<BTreeMap<String, Doc>, AllocError>
-    ensures { IfOk result (λ docs. members docs.entries ≡ value_members values.entries) }
+) -> Result<BTreeMap<String, Doc>, Unread>
+    ensures ok { IfOk result (λ docs. members_from_data (members_view values.entries)
+        ≡ Some (members docs.entries)) }
+    ensures not_whole { result ≡ Err Unread.NotWhole
+        → members_from_data (members_view values.entries) ≡ None }
+    ensures is_json { result ≢ Err Unread.NotJson }
 {
     let mut pairs = Vec::with_capacity(alloc, values.len())?;
     for (name, value) in values {
         pairs.push((name, doc_of(value, alloc)?))?;
     }
-    map_of(alloc, pairs)
+    Ok(map_of(alloc, pairs)?)
 }
 
 // The same with an insertion each, and no list of the pairs.
@@ -126,8 +140,12 @@ fn many_members_of(
 fn few_members_of(
     values: Map<String, Value>,
     alloc: Global,
-) -> Result<BTreeMap<String, Doc>, AllocError>
-    ensures { IfOk result (λ docs. members docs.entries ≡ value_members values.entries) }
+) -> Result<BTreeMap<String, Doc>, Unread>
+    ensures ok { IfOk result (λ docs. members_from_data (members_view values.entries)
+        ≡ Some (members docs.entries)) }
+    ensures not_whole { result ≡ Err Unread.NotWhole
+        → members_from_data (members_view values.entries) ≡ None }
+    ensures is_json { result ≢ Err Unread.NotJson }
 {
     let mut docs = BTreeMap::new(alloc);
     for (name, value) in values {
@@ -141,9 +159,13 @@ fn few_members_of(
 fn one_member_of(
     mut values: Map<String, Value>,
     alloc: Global,
-) -> Result<BTreeMap<String, Doc>, AllocError>
+) -> Result<BTreeMap<String, Doc>, Unread>
     requires { length values.entries ≤ 1 }
-    ensures { IfOk result (λ docs. members docs.entries ≡ value_members values.entries) }
+    ensures ok { IfOk result (λ docs. members_from_data (members_view values.entries)
+        ≡ Some (members docs.entries)) }
+    ensures not_whole { result ≡ Err Unread.NotWhole
+        → members_from_data (members_view values.entries) ≡ None }
+    ensures is_json { result ≢ Err Unread.NotJson }
 {
     let mut docs = BTreeMap::new(alloc);
     if let Some((name, value)) = values.pop_first() {

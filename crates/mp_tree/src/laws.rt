@@ -1,10 +1,17 @@
 //! Laws over documents alone: each function runs nothing, and its contract is the law.
-ghost use Rattle.mp_tree.specs.Laws.{DocsAreDocuments, ReadsReadable, ReadsReadables, FaultsAreOfBytes, FaultsAreOfArrays, ReadsBack, ReadsUtf8Back, ArraysReadBack, EqualTexts, EqualLooks, EqualNumbers, SameNames, SetsOneName, RemovesOneName, EqualMaps};
+ghost use Rattle.mp_tree.specs.Laws.{DocsAreDocuments, ValuesAreDocuments, ReadsReadable, ReadsReadables, FaultsAreOfBytes, FaultsAreOfArrays, ReadsBack, ReadsUtf8Back, ArraysReadBack, EqualTexts, EqualLooks, EqualNumbers, SameNames, SetsOneName, RemovesOneName, EqualMaps};
 
 /// Each `Doc` means a document: each object in it is a finite map, its texts and names are UTF-8, and its numbers are
 /// from -2^63 to 2^64 - 1. So the laws over documents speak of every `Doc`.
 pub fn docs_are_documents()
     ensures { DocsAreDocuments }
+{}
+
+/// Each value of `serde_json` means a document: each object in it is a finite map, its texts and names are UTF-8, and
+/// its numbers are from -2^63 to 2^64 - 1, since one that is not whole or not in that range means 0. So the laws over
+/// documents speak of every value.
+pub fn values_are_documents()
+    ensures { ValuesAreDocuments }
 {}
 
 /// What is read can be read: its objects are finite maps, its texts and names are UTF-8, its numbers are whole and from

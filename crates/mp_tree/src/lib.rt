@@ -13,7 +13,9 @@ pub mod borrowing;
 mod measuring;
 mod reading;
 mod serializing;
+mod trimming;
 mod value_copying;
+mod value_reading;
 mod value_walks;
 mod value_writing;
 mod values;
@@ -25,7 +27,7 @@ pub use doc::Doc;
 pub use fault::{DocsFault, ReadFault};
 pub use reading::{DEPTH_LIMIT, read_doc, read_docs};
 pub use values::{
-    copy_to_doc, copy_value, doc_of_value, read_value, read_values, same_value, value_items_mut,
+    copy_to_doc, copy_value, read_value, read_values, same_value, value_items_mut,
     value_members_mut, write_value,
 };
 pub use whole::Whole;

@@ -1,17 +1,15 @@
 //! Documents from JSON texts.
-ghost use Rattle.std.specs.Prelude.{◌≡◌, ◌≢◌, ◌≤◌, ◌↔◌, All, None, Some, IsSome, IsTrue, Ok, Err, IfOk, IfErr};
+ghost use Rattle.std.specs.Prelude.{◌≡◌, ◌≢◌, ◌≤◌, All, None, Some, IsSome, Ok, Err, IfOk, IfErr};
 ghost use Rattle.serde_json.specs.Data.{depth as json_depth};
 ghost use Rattle.serde_json.specs.Read.{max_depth};
 ghost use Rattle.serde_json.specs.View.{view};
 ghost use Rattle.mp_tree.specs.Document.{depth, depth_limit};
 ghost use Rattle.mp_tree.specs.View.{document, items};
-ghost use Rattle.mp_tree.specs.Values.{value_document};
 ghost use Rattle.mp_tree.specs.Text.{data_in, document_in, documents_in, read};
 
-use crate::converting::{Unread, doc_of, docs_of};
+use crate::converting::{Unread, doc_of};
 use crate::doc::Doc;
 use crate::fault::{DocsFault, ReadFault};
-use crate::value_walks::{Reading, reading_of};
 use serde_json::Value;
 use std::alloc::Global;
 
@@ -35,13 +33,11 @@ pub fn read_doc(alloc: Global, bytes: &[u8]) -> Result<Doc, ReadFault>
         → document_in bytes.now ≡ Err fault) }
     ensures depth { IfOk result (λ d. depth (document d) ≤ depth_limit) }
 {
-    let Tree { value, fits } = read_tree(alloc, bytes, DEPTH_LIMIT)?;
-    if !fits {
-        return Err(ReadFault::TooDeep);
-    }
-    match doc_of(value, alloc) {
-        Ok(doc) => Ok(doc),
-        Err(_) => Err(ReadFault::OutOfMemory),
+    let doc = read_tree(alloc, bytes)?;
+    if doc.fits(DEPTH_LIMIT) {
+        Ok(doc)
+    } else {
+        Err(ReadFault::TooDeep)
     }
 }
 
@@ -61,41 +57,25 @@ pub fn read_docs(alloc: Global, bytes: &[u8]) -> Result<Vec<Doc>, DocsFault>
         → documents_in bytes.now ≡ Err fault) }
     ensures depth { IfOk result (λ docs. All (λ d. depth (document d) ≤ depth_limit) docs.items) }
 {
-    let Tree { value, fits: _ } = read_tree(alloc, bytes, DEPTH_LIMIT)?;
-    match value {
-        Value::Array(values) => match docs_of(values, alloc) {
-            Ok(docs) => Ok(docs),
-            Err(_) => Err(DocsFault::OutOfMemory),
-        },
+    match read_tree(alloc, bytes)? {
+        Doc::Items(docs) => Ok(docs),
         _ => Err(DocsFault::NotAnArray),
     }
 }
 
-// What was read: a value whose numbers are whole, and whether it is as shallow as asked.
-#[derive(Drop)]
-pub(crate) struct Tree {
-    pub(crate) value: Value,
-    pub(crate) fits: bool,
-}
-
-pub(crate) fn read_tree(alloc: Global, bytes: &[u8], limit: u32) -> Result<Tree, Unread>
-    ensures ok { IfOk result (λ t. read bytes.now ≡ Some (value_document t.value)) }
-    ensures fits { IfOk result (λ t. IsTrue t.fits ↔ (depth (value_document t.value) ≤ limit)) }
-    ensures nests { IfOk result (λ t. depth (value_document t.value) ≤ max_depth) }
+fn read_tree(alloc: Global, bytes: &[u8]) -> Result<Doc, Unread>
+    ensures ok { IfOk result (λ d. read bytes.now ≡ Some (document d)) }
+    ensures nests { IfOk result (λ d. depth (document d) ≤ max_depth) }
     ensures not_json { result ≡ Err Unread.NotJson → data_in bytes.now ≡ None }
     ensures not_whole { result ≡ Err Unread.NotWhole
         → (IsSome (data_in bytes.now) × (read bytes.now ≡ None)) }
 {
     let value = read_json(alloc, bytes)?;
-    match reading_of(&value, limit) {
-        Reading::Fits => Ok(Tree { value, fits: true }),
-        Reading::TooDeep => Ok(Tree { value, fits: false }),
-        Reading::NotWhole => Err(Unread::NotWhole),
-    }
+    doc_of(value, alloc)
 }
 
-// Numbers may be of any kind.
-fn read_json(alloc: Global, bytes: &[u8]) -> Result<Value, Unread>
+// What `serde_json` reads, with numbers of any kind.
+pub(crate) fn read_json(alloc: Global, bytes: &[u8]) -> Result<Value, Unread>
     ensures ok { IfOk result (λ v. data_in bytes.now ≡ Some (view v)) }
     ensures nests { IfOk result (λ v. json_depth (view v) ≤ max_depth) }
     ensures not_json { result ≡ Err Unread.NotJson → data_in bytes.now ≡ None }

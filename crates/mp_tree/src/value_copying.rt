@@ -9,6 +9,7 @@ use serde_json::{Map, Value};
 use std::alloc::{AllocError, Global};
 
 #[cycle(copy_value)]
+#[inline(always)]
 pub(crate) fn copy_of(value: &Value, alloc: Global) -> Result<Value, AllocError>
     ensures { IfOk result (λ v. value_document v ≡ value_document value.now) }
 {

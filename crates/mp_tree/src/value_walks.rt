@@ -1,5 +1,5 @@
 // Walks down a value that allocate nothing: whether its numbers are whole and it is as shallow as asked, and whether it means the
-// same as another. The first part that decides ends each.
+// same as another. The first part that decides ends each: a number that is not whole, or a difference.
 ghost use Rattle.std.specs.Prelude.{◌≡◌, ◌↔◌, None, Some, IsTrue, MatchBool};
 ghost use Rattle.serde_json.specs.View.{view, items_view, members_view, number_view};
 ghost use Rattle.mp_tree.specs.Document.{depth, items_depth, members_depth};
@@ -19,9 +19,11 @@ pub(crate) enum Reading {
     NotWhole,
 }
 
-// A number that is not whole decides; depth is looked at in the same walk.
+// A number that is not whole ends the walk; a part that is too deep does not, since such a number may follow. `left` becomes the
+// levels that are left below the deepest array with more places than elements, if that is less.
 #[cycle(reading)]
-pub(crate) fn reading_of(value: &Value, limit: u32) -> Reading
+#[inline(always)]
+pub(crate) fn reading_of(value: &Value, limit: u32, left: &mut u32) -> Reading
     ensures { IsReading result (from_data (view value.now)) (value_document value.now)
         (depth (value_document value.now)) limit }
 {
@@ -32,8 +34,15 @@ pub(crate) fn reading_of(value: &Value, limit: u32) -> Reading
         } else {
             Reading::NotWhole
         },
-        Value::Array(values) => around(items_reading(values, limit.saturating_sub(1)), limit),
-        Value::Object(values) => around(members_reading(values, limit.saturating_sub(1)), limit),
+        Value::Array(values) => {
+            around(items_reading(values, limit.saturating_sub(1), left), limit)
+        }
+        Value::Object(values) => {
+            around(
+                members_reading(values, limit.saturating_sub(1), left),
+                limit,
+            )
+        }
     }
 }
 
@@ -45,7 +54,8 @@ fn is_whole_number(number: &Number) -> bool
     whole_of(number).is_some()
 }
 
-// Of an array or an object, from that of its parts within one level less. At no level it is too deep, whatever its parts.
+// What an array or an object is, given what its parts are within one level less. If no level is left it is too deep, unless a number
+// in it is not whole.
 fn around(parts: Reading, limit: u32) -> Reading
     ensures { result ≡ reading_around parts limit }
 {
@@ -61,13 +71,16 @@ fn around(parts: Reading, limit: u32) -> Reading
 }
 
 #[cycle(reading)]
-fn items_reading(values: &Vec<Value>, limit: u32) -> Reading
+fn items_reading(values: &Vec<Value>, limit: u32, left: &mut u32) -> Reading
     ensures { IsReading result (items_from_data (items_view values.now.items))
         (value_items values.now.items) (items_depth (value_items values.now.items)) limit }
 {
     let mut reading = Reading::Fits;
+    if limit < *left && values.len() < values.capacity() {
+        *left = limit;
+    }
     for value in values {
-        match reading_of(value, limit) {
+        match reading_of(value, limit, left) {
             Reading::Fits => (),
             Reading::TooDeep => reading = Reading::TooDeep,
             Reading::NotWhole => return Reading::NotWhole,
@@ -77,14 +90,14 @@ fn items_reading(values: &Vec<Value>, limit: u32) -> Reading
 }
 
 #[cycle(reading)]
-fn members_reading(values: &Map<String, Value>, limit: u32) -> Reading
+fn members_reading(values: &Map<String, Value>, limit: u32, left: &mut u32) -> Reading
     ensures { IsReading result (members_from_data (members_view values.now.entries))
         (value_members values.now.entries)
         (members_depth (value_members values.now.entries)) limit }
 {
     let mut reading = Reading::Fits;
     for value in values.values() {
-        match reading_of(value, limit) {
+        match reading_of(value, limit, left) {
             Reading::Fits => (),
             Reading::TooDeep => reading = Reading::TooDeep,
             Reading::NotWhole => return Reading::NotWhole,
@@ -94,6 +107,7 @@ fn members_reading(values: &Map<String, Value>, limit: u32) -> Reading
 }
 
 #[cycle(same)]
+#[inline(always)]
 pub(crate) fn is_same(value: &Value, other: &Value) -> bool
     ensures { IsTrue result ↔ (value_document value.now ≡ value_document other.now) }
 {

@@ -27,6 +27,7 @@ impl Serialize for Written<'_> {
 }
 
 #[cycle(send)]
+#[inline(always)]
 fn send<S: Serializer>(value: &Value, out: &mut S) -> Result<(), S::Error>
     ensures { OnOk result (SendsValue (data_of (value_document value.now))
         (S.written out.old) (S.written out.new)) }

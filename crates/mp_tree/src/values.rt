@@ -1,22 +1,22 @@
 //! Documents as `serde_json`'s values, which are what it reads: no second tree is made of them. A value means the document that
-//! would be read of it, so each function here says of a value what its sibling says of a `Doc`. `write_value` alone asks for more:
-//! its text is read back if the document can be read, as each that was read can.
+//! would be read of it, so each function here says of a value what its sibling says of a `Doc`. A number that is not whole means 0:
+//! one that `serde_json` holds as a float, as it does each with a fraction or an exponent, or outside -2^63 to 2^64 - 1.
+//! `read_value` and `read_values` give none.
 ghost use Rattle.std.specs.Prelude.{◌≡◌, ◌≢◌, ◌≤◌, ◌↔◌, All, Some, Ok, Err, IsTrue, IfOk, IfErr, MatchOption, string_bytes};
 ghost use Rattle.std.specs.Borrow.{sem, LendsIf};
 ghost use Rattle.serde_json.specs.Rows.{list_row, map_row};
 ghost use Rattle.serde_json.specs.contracts.value.Value.{the_row};
 ghost use Rattle.serde_json.specs.declared.value.Value.TheVariants.{Array, Object};
-ghost use Rattle.mp_tree.specs.Document.{list, object, depth, depth_limit, IsReadable};
+ghost use Rattle.mp_tree.specs.Document.{list, object, depth, depth_limit};
 ghost use Rattle.mp_tree.specs.Text.{document_in, documents_in, read, text};
 ghost use Rattle.mp_tree.specs.Values.{value_document, value_items};
 ghost use Rattle.mp_tree.specs.View.{document};
 
-use crate::converting::doc_of;
 use crate::copying::doc_copied;
 use crate::doc::Doc;
 use crate::fault::{DocsFault, ReadFault};
-use crate::reading::{DEPTH_LIMIT, Tree, read_tree};
 use crate::value_copying::copy_of;
+use crate::value_reading::{Tree, read_tree};
 use crate::value_walks::is_same;
 use crate::value_writing::Written;
 use serde_json::{Map, Value, to_string};
@@ -34,7 +34,7 @@ pub fn read_value(alloc: Global, bytes: &[u8]) -> Result<Value, ReadFault>
         → document_in bytes.now ≡ Err fault) }
     ensures depth { IfOk result (λ v. depth (value_document v) ≤ depth_limit) }
 {
-    let Tree { value, fits } = read_tree(alloc, bytes, DEPTH_LIMIT)?;
+    let Tree { value, fits } = read_tree(alloc, bytes)?;
     if fits {
         Ok(value)
     } else {
@@ -55,21 +55,22 @@ pub fn read_values(alloc: Global, bytes: &[u8]) -> Result<Vec<Value>, DocsFault>
     ensures depth { IfOk result (λ vs.
         All (λ v. depth (value_document v) ≤ depth_limit) vs.items) }
 {
-    let Tree { value, fits: _ } = read_tree(alloc, bytes, DEPTH_LIMIT)?;
+    let Tree { value, fits: _ } = read_tree(alloc, bytes)?;
     match value {
         Value::Array(values) => Ok(values),
         _ => Err(DocsFault::NotAnArray),
     }
 }
 
-/// As `write_doc`: the compact text of the document that the value means. `AllocError` if memory ran out.
+/// As `write_doc`: the compact text of the document that the value means. For a number that is not whole it has 0.
+/// `AllocError` if memory ran out.
 ///
 /// ```text
 /// write_value(alloc, &value)  // {"a":null,"b":1}
 /// ```
 pub fn write_value(alloc: Global, value: &Value) -> Result<String, AllocError>
     ensures text { IfOk result (λ s. string_bytes s ≡ text (value_document value.now)) }
-    ensures reads_back { IfOk result (λ s. IsReadable (value_document value.now)
+    ensures reads_back { IfOk result (λ s. depth (value_document value.now) ≤ depth_limit
         → read (string_bytes s) ≡ Some (value_document value.now)) }
 {
     match to_string(alloc, &Written { value }) {
@@ -78,14 +79,16 @@ pub fn write_value(alloc: Global, value: &Value) -> Result<String, AllocError>
     }
 }
 
-/// As `Doc::copy`: a value that means an equal document, and shares nothing with this one. `AllocError` if memory ran out.
+/// As `Doc::copy`: a value that means an equal document, and shares nothing with this one. A number that is not whole means 0 in
+/// both. `AllocError` if memory ran out.
 pub fn copy_value(alloc: Global, value: &Value) -> Result<Value, AllocError>
     ensures equal { IfOk result (λ v. value_document v ≡ value_document value.now) }
 {
     copy_of(value, alloc)
 }
 
-/// A document that the value means, and that shares nothing with it. `AllocError` if memory ran out.
+/// The document that the value means, which shares nothing with it. For a number that is not whole it has 0. `AllocError` if
+/// memory ran out.
 ///
 /// ```text
 /// copy_to_doc(alloc, &read_value(alloc, bytes)?)  // as read_doc(alloc, bytes)
@@ -96,19 +99,8 @@ pub fn copy_to_doc(alloc: Global, value: &Value) -> Result<Doc, AllocError>
     doc_copied(value, alloc)
 }
 
-/// The document that the value means, with its texts and names: they are moved. `AllocError` if memory ran out.
-///
-/// ```text
-/// doc_of_value(alloc, read_value(alloc, bytes)?)  // as read_doc(alloc, bytes)
-/// ```
-pub fn doc_of_value(alloc: Global, value: Value) -> Result<Doc, AllocError>
-    ensures equal { IfOk result (λ d. document d ≡ value_document value) }
-{
-    doc_of(value, alloc)
-}
-
-/// As `Doc::same`: whether the two mean equal documents. It takes no memory, looks at each part once at most, and stops at the
-/// first difference.
+/// As `Doc::same`: whether the two mean equal documents, as 1.5 and 2.5 do, which both mean 0. It takes no memory, looks at each
+/// part once at most, and stops at the first difference.
 pub fn same_value(value: &Value, other: &Value) -> bool
     ensures same { IsTrue result ↔ (value_document value.now ≡ value_document other.now) }
 {

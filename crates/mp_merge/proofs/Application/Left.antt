@@ -10,9 +10,6 @@ pub record LeftSoFar (ts left all : Members) : Type 0 where
   pub gives : merge_patch_members no_members all ≡ merge_patch_members ts left
   pub apart : (n : List ℕ) (p : Document) → find n left ≡ Some p → find n ts ≡ None
 
-pub left_at_first : (all : Members) → LeftSoFar no_members all all
-left_at_first all = record { gives = refl; apart = λ n p found. refl }
-
 pub left_of_all : (ts all : Members) → LeftSoFar ts no_members all → ts ≡ merge_patch_members no_members all
 left_of_all ts all so_far = sym so_far.gives
 

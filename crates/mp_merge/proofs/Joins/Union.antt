@@ -1,5 +1,5 @@
 -- The computed union of two compatible patches is their join.
-use Rattle.std.proofs.Common.{◌≡◌, ◌≢◌, ◌≤◌, ◌⊎◌, ◌↔◌, inl, inr, ℕ, Bool, true, false, true≢false, List, [], ◌∷◌, ◌++◌, Option, Some, None, IfSome, MatchBool, max, refl, sym, ap, ◌∙◌, subst, arith}
+use Rattle.std.proofs.Common.{◌≡◌, ◌≢◌, ◌≤◌, ◌⊎◌, ◌↔◌, inl, inr, ℕ, Bool, true, false, true≢false, List, [], ◌∷◌, ◌++◌, Option, Some, None, IfSome, max, refl, sym, ap, ◌∙◌, arith}
 use Rattle.std.proofs.lemmas.List.Elements.{Contains-push, Contains-push_cases, Contains-append_left}
 use Rattle.std.specs.List.{Contains}
 use Rattle.mp_tree.specs.Document.{Document, null, flag, whole, string, list, object, Members, no_members, member, find, put, IsDocument, IsMap, depth, members_depth}
@@ -8,10 +8,10 @@ use Rattle.mp_tree.proofs.Facts.{find-put, find-below, IsMap-put, members_same, 
 use Rattle.mp_merge.specs.Application.{target_members, depth_of}
 use Rattle.mp_merge.specs.Clash.{Compatible}
 use Rattle.mp_merge.specs.Join.{IsJoin}
-use Rattle.mp_merge.specs.Private.Unions.{earlier_or, union_over, union_with, union_members, union, UnitesTo, UnitesAt}
+use Rattle.mp_merge.specs.Private.Unions.{earlier_or, union_over, union_with, union_members, union, UnitesTo}
 use Rattle.mp_merge.proofs.Application.ByName.{IsMap-target_members}
 use Rattle.mp_merge.proofs.Application.Depth.{depth-find}
-use Rattle.mp_merge.proofs.Clashes.ByName.{SameClashes, clash_at_root, clash_of_others, compatible_all, compatible_first, compatible-self, compatible-sym, same_set}
+use Rattle.mp_merge.proofs.Clashes.ByName.{clash_at_root, clash_of_others, compatible-self}
 
 -- ---- the union is a document
 
@@ -208,17 +208,3 @@ no_object j never = refl
 
 pub clash_with_other : (ps : Members) (j : Document) → ((ms : Members) → j ≢ object ms) → ¬ Compatible (object ps) j
 clash_with_other ps j never free = free [] (clash_at_root (object ps) j (λ same. let other : an_object ≡ plain j = same ∙ no_object j never in cc))
-
--- ---- a patch of one name
-
-pub unites_one : (united : Bool) (n : List ℕ) (p : Document) (js now : Members) → IsMap (member n p no_members) → UnitesAt united n p js now → UnitesTo united (object (member n p no_members)) (Some (object js)) (object now)
-unites_one true n p js now map at = (
-  compatible_all (subst (λ ms. SameClashes (member n p no_members) js no_members ms) (sym at.2) (same_set at.0 at.1.0 map (λ w. (λ c. c, λ c. c)))),
-  ap object (at.2 ∙ ap (λ d. put n d js) at.1.1),
-)
-unites_one false n p js now map at = λ free. at.1 (compatible_first (λ w. (λ c. c, λ c. c)) free)
-
--- what the walk reports of two patches
-pub united_pair : (united : Bool) (p j now : Document) → IsDocument p → IsDocument j → UnitesTo united p (Some j) now → MatchBool united (IsJoin (j ∷ p ∷ []) now) (¬ Compatible j p)
-united_pair true p j now good joined is = subst (λ d. IsJoin (j ∷ p ∷ []) d) (sym is.1) (union_grows_join (j ∷ []) p j good joined (join-one j) is.0)
-united_pair false p j now good joined clash = λ free. clash (compatible-sym j p free)

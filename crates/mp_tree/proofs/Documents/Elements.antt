@@ -1,6 +1,5 @@
 -- The elements of a list: as many, at an index, one of them set, one list after another.
-use Rattle.std.proofs.Common.{◌≡◌, ◌≤◌, ◌<◌, ◌++◌, ℕ, zero, suc, max, List, [], ◌∷◌, length, map, get_or, set, take, None, Some, option_map, refl, sym, ap, ap₂, ◌∙◌, arith}
-use Rattle.std.proofs.lemmas.List.{length-take-le}
+use Rattle.std.proofs.Common.{◌≡◌, ◌≤◌, ◌<◌, ◌++◌, ℕ, zero, suc, max, List, [], ◌∷◌, length, map, get_or, set, None, Some, option_map, refl, sym, ap, ap₂, ◌∙◌, arith}
 use Rattle.std.proofs.lemmas.List.Elements.{All-head, All-tail, All-weaker}
 use Rattle.std.specs.List.{All, slice_get}
 use Rattle.mp_tree.specs.Document.{Document, Items, no_items, item, IsDocument, IsReadable, AreDocuments, items_depth}
@@ -21,15 +20,9 @@ count_of-items-by f (v ∷ vs) = ap suc (count_of-items-by f vs)
 pub count_of-items : (docs : List Doc) → count_of (items docs) ≡ length docs
 count_of-items = count_of-items-by document
 
-pub count-take : (i : ℕ) (ds : List Doc) → i ≤ length ds → count_of (items (take i ds)) ≡ i
-count-take i ds within = count_of-items (take i ds) ∙ length-take-le i ds within
-
 pub list_of-by : {V : Type 0} (f : V → Document) (vs : List V) → list_of (items_by f vs) ≡ map f vs
 list_of-by f [] = refl
 list_of-by f (v ∷ vs) = ap (λ ds. f v ∷ ds) (list_of-by f vs)
-
-pub list_of-items : (docs : List Doc) → list_of (items docs) ≡ map document docs
-list_of-items = list_of-by document
 
 -- ---- at an index
 
@@ -84,9 +77,6 @@ items-set = items-set-by document
 pub items-append-by : {V : Type 0} (f : V → Document) (ds es : List V) → items_by f (ds ++ es) ≡ append (items_by f ds) (items_by f es)
 items-append-by f [] es = refl
 items-append-by f (d ∷ ds) es = ap (item (f d)) (items-append-by f ds es)
-
-pub items-append : (ds es : List Doc) → items (ds ++ es) ≡ append (items ds) (items es)
-items-append = items-append-by document
 
 pub all_before : (ds : Items) → ds ≡ append ds no_items
 all_before no_items = refl

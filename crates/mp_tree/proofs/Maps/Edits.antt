@@ -3,13 +3,11 @@ use Rattle.std.proofs.Common.{◌≡◌, ℕ, List, [], ◌∷◌, Bool, true, f
 use Rattle.std.proofs.lemmas.Cmp.{nat_list_cmp_total, eq_by_cmp_equiv}
 use Rattle.std.proofs.lemmas.Map.Text.{is_eq-slice_cmp, btree_map_updates_text}
 use Rattle.std.specs.BTreeMap.{UpdatesBy, get_by_text, is_at}
-use Rattle.std.specs.List.Sorted.{IsStrictlySortedBy}
-use Rattle.std.specs.Map.{keys_of, lookup}
-use Rattle.mp_tree.specs.Document.{Document, member, name_cmp, is_name, find, put, without, IsMap, IsDocument}
+use Rattle.std.specs.Map.{lookup}
+use Rattle.mp_tree.specs.Document.{Document, name_cmp, is_name, find, put, without, IsMap, IsDocument}
 use Rattle.mp_tree.specs.View.{document}
 use Rattle.mp_tree.specs.Private.Entries.{members, members_by}
 use Rattle.mp_tree.specs.declared.doc.Doc.{Doc}
-use Rattle.mp_tree.proofs.Texts.IntoData.{members-cons-by}
 use Rattle.mp_tree.proofs.Maps.Finite.{find-put, find-without, IsMap-put, IsMap-without, members_same}
 use Rattle.mp_tree.proofs.Documents.Meaning.{IsDocument-document}
 
@@ -68,9 +66,6 @@ module _ {V : Type 0} (f : V → Document) (good : (v : V) → IsDocument (f v))
 
 pub IsMap-members : (es : List (String Global × Doc)) → IsMap (members es)
 IsMap-members = IsMap-by document IsDocument-document
-
-pub members-cons : (e : String Global × Doc) (es : List (String Global × Doc)) → IsStrictlySortedBy string_cmp (keys_of (e ∷ es)) → members (e ∷ es) ≡ member (string_bytes e.0) (document e.1) (members es)
-members-cons = members-cons-by document
 
 pub find-members : (q : List ℕ) (es : List (String Global × Doc)) → find q (members es) ≡ option_map document (lookup (is_at (λ k. name_cmp q (string_bytes k))) es)
 find-members = find-by document IsDocument-document

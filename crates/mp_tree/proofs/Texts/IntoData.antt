@@ -64,8 +64,5 @@ items_len-items = items_len-by document
 pub members_len-entries : (es : List (String Global × Doc)) → members_len (entries_data es) ≡ length es
 members_len-entries = members_len-by document
 
-pub IsBelow-members : (k : String Global) (es : List (String Global × Doc)) → AllByRecursion (λ l. string_cmp k l ≡ Less) (keys_of es) → IsBelow (string_bytes k) (members es)
-IsBelow-members = IsBelow-by document
-
 pub members_data-entries : (es : List (String Global × Doc)) → IsStrictlySortedBy string_cmp (keys_of es) → members_data (members es) ≡ entries_data es
 members_data-entries = members_data-by document

@@ -1,15 +1,21 @@
 -- What a value means, variant by variant, and what each such document is.
-use Rattle.std.proofs.Common.{◌≡◌, List, [], ◌∷◌, map, Bool, String, Vec, BTreeMap, Global, string_bytes, sym, ap, ◌∙◌, subst, rules}
+use Rattle.std.proofs.Common.{◌≡◌, ◌≤◌, ℕ, ℤ, List, [], ◌∷◌, map, Bool, IsUtf8, String, Vec, BTreeMap, Global, string_bytes, sym, ap, ◌∙◌, subst, rules}
+use Rattle.std.proofs.lemmas.Str.{IsUtf8-string_bytes}
+use Rattle.serde_json.specs.View.{number_view}
 use Rattle.serde_json.specs.declared.number.Number.{Number}
 use Rattle.serde_json.specs.declared.value.Value.{Value, Null, Bool as Flag, String as Text, Array, Object, map-Value, fold-roll-Value, ind-Value, the_lemmas}
 use Rattle.serde_json.specs.declared.value.Value as value
 use Rattle.serde_json.specs.declared.value.Value.TheOpen.{Value-F}
-use Rattle.mp_tree.specs.Document.{Document, null, flag, whole, string, list, object, IsDocument, AreDocuments, IsMap, Items as Elements, no_items, item, Members, no_members, put}
+use Rattle.mp_tree.specs.Document.{Document, null, flag, whole, string, list, object, IsDocument, AreDocuments, IsMap, IsWhole, IsInRange, HasTexts, IsReadable, depth, depth_limit, Throughout, ThroughoutItems, ThroughoutMembers, Items as Elements, no_items, item, Members, no_members, put}
+use Rattle.mp_tree.specs.Laws.{ValuesAreDocuments}
+use Rattle.mp_tree.specs.Text.{whole_number}
 use Rattle.mp_tree.specs.View.{byte_entries, members_of}
 use Rattle.mp_tree.specs.Private.Entries.{value_members}
 use Rattle.mp_tree.specs.Values.{number_in, value_document, value_step, value_items}
 use Rattle.mp_tree.proofs.Documents.Meaning.{byte_entries-map}
+use Rattle.mp_tree.proofs.Documents.Throughout.{Throughout-put}
 use Rattle.mp_tree.proofs.Maps.Finite.{IsMap-put}
+use Rattle.mp_tree.proofs.Valued.Numbers.{IsWhole-number_or_zero}
 
 pub value-Null : value_document Null ≡ null
 value-Null = search (rules, the_lemmas)
@@ -65,3 +71,29 @@ IsDocument-opened scalar = tt
 
 pub IsDocument-value : (v : Value) → IsDocument (value_document v)
 IsDocument-value = by_parts IsDocument IsDocument-opened
+
+-- ---- what holds of what each number means and of each `String` holds throughout the document
+
+module _ (N : ℤ → Type 0) (S : List ℕ → Type 0) (numbers : (n : Number) → N (number_in n)) (texts : (s : String Global) → S (string_bytes s)) where
+  opened_throughout : (y : Value-F (Paired (Throughout N S))) → Throughout N S (opened (Throughout N S) y)
+  opened_throughout (Value-F.Number n) = numbers n
+  opened_throughout (Value-F.String s) = texts s
+  opened_throughout (Value-F.Array v) = items_hold (Throughout N S) (ThroughoutItems N S) tt (λ d ds here rest. (here, rest)) v.items
+  opened_throughout (Value-F.Object m) =
+      members_hold (Throughout N S) (ThroughoutMembers N S) tt (λ n d ms here rest. Throughout-put N S (string_bytes n) d ms (texts n) here rest) m.entries
+  opened_throughout scalar = tt
+
+  value_throughout : (v : Value) → Throughout N S (value_document v)
+  value_throughout = by_parts (Throughout N S) opened_throughout
+
+pub IsInRange-value : (v : Value) → IsInRange (value_document v)
+IsInRange-value = value_throughout IsWhole (λ s. Unit {0}) (λ n. IsWhole-number_or_zero (whole_number (number_view n))) (λ s. tt)
+
+pub HasTexts-value : (v : Value) → HasTexts (value_document v)
+HasTexts-value = value_throughout (λ z. Unit {0}) IsUtf8 (λ n. tt) IsUtf8-string_bytes
+
+pub values_are_documents : ValuesAreDocuments
+values_are_documents v = (IsDocument-value v, HasTexts-value v, IsInRange-value v)
+
+pub IsReadable-value : (v : Value) → depth (value_document v) ≤ depth_limit → IsReadable (value_document v)
+IsReadable-value v within = record { is_document = IsDocument-value v; has_texts = HasTexts-value v; in_range = IsInRange-value v; within = within }

@@ -19,7 +19,7 @@ returns-in-Some c =
       spelled = c.in_ok-pointer.ensures.spelled;
       value = x;
       is_part = is_part;
-      text = text_written x (string_bytes written.field-0) written.ensures.text (λ within. written.ensures.reads_back good) good.within;
+      text = text_written x (string_bytes written.field-0) written.ensures.text written.ensures.reads_back good.within;
     }
 
 pub returns : goal.returns

@@ -26,5 +26,5 @@ returns c =
       forms = forms;
       end = end;
       runs = runs;
-      text = text_written end (string_bytes written.field-0) written.ensures.text (λ within. written.ensures.reads_back good) good.within;
+      text = text_written end (string_bytes written.field-0) written.ensures.text written.ensures.reads_back good.within;
     }

@@ -1,23 +1,27 @@
-use Rattle.std.proofs.Common.{string_bytes}
+use Rattle.std.proofs.Common.{◌≡◌, List, ap, map, string_bytes, subst, sym}
+use Rattle.mp_tree.specs.Document.{Document, depth_limit}
 use Rattle.mp_tree.specs.Values.{value_document}
-use Rattle.mp_tree.proofs.Facts.{IsDocument-value}
+use Rattle.mp_merge.specs.Join.{IsJoin}
+use Rattle.mp_merge.specs.Lists.{AreWithin}
 use Rattle.mp_texts.specs.Texts.{given}
-use Rattle.mp_texts.proofs.Readings.{all_readable, text_written}
+use Rattle.mp_texts.proofs.Readings.{all_within, text_written}
 use Rattle.mp_texts.proofs.lists.join_texts.Goals as goal
 
--- what is read can be read again, and so can the join
+-- the join is no deeper than the patches, so it is read back
 pub returns : goal.returns
 returns c =
     let texts = given c.args.patches.now in
-    let v = c.in_ok-joined.joined in
-    let j = value_document v in
-    let (ds, read, is) = c.in_ok-joined.ensures in
+    let values = c.in_ok-patches.patches.items in
+    let read = c.in_ok-patches.ensures in
+    let same : map value_document c.as_slice.result.now ≡ map value_document values = ap (map value_document) c.as_slice.ensures.value in
+    let joined = value_document c.in_ok-joined.joined in
     let written = c.in_ok-write_value in
-    let readable = c.join_is_readable.ensures ds j (IsDocument-value v) (all_readable c.readings_are_documents.ensures.document texts ds read) is in
+    let shallow = all_within c.readings_are_documents.ensures.document texts (map value_document values) read in
+    let within = c.in_ok-joined.ensures.depth depth_limit (subst (λ (ds : List Document). AreWithin depth_limit ds) (sym same) shallow) in
     record {
-      documents = ds;
+      documents = map value_document values;
       read = read;
-      join = j;
-      is_join = is;
-      text = text_written j (string_bytes written.field-0) written.ensures.text (λ within. written.ensures.reads_back readable) readable.within;
+      join = joined;
+      is_join = subst (λ (ds : List Document). IsJoin ds joined) same c.in_ok-joined.ensures.joined;
+      text = text_written joined (string_bytes written.field-0) written.ensures.text written.ensures.reads_back within;
     }

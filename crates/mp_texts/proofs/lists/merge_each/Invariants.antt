@@ -1,11 +1,11 @@
-use Rattle.std.proofs.Common.{◌≡◌, List, take}
-use Rattle.mp_tree.specs.Document.{Document}
+use Rattle.std.proofs.Common.{◌≡◌, map}
+use Rattle.std.specs.Vec.Iter.{into_iter_items}
 use Rattle.mp_tree.specs.Values.{value_document}
 use Rattle.mp_merge.specs.Application.{in_turn}
-use Rattle.mp_texts.specs.Texts.{AreRead, given}
 use Rattle.mp_texts.proofs.lists.merge_each.Given as goal
 
--- the texts so far are read, and applied in turn they gave the value as it is
-abbrev pub invariant-loop-number : goal.invariant-loop-number
-invariant-loop-number l =
-    (ds : List Document) × AreRead (take l.number (given l.patches)) ds × (value_document l.value ≡ in_turn (value_document l.initial.value) ds)
+-- the patches that are left, applied to the value as it is, give the result
+abbrev pub invariant-loop-patch : goal.invariant-loop-patch
+invariant-loop-patch l =
+    (in_turn (value_document l.initial.value) (map value_document (into_iter_items l.initial.patch-iterator)) ≡ in_turn (value_document l.value) (map value_document (into_iter_items l.patch-iterator)))
+    × (goal.iterator-loop-patch).can_next l.patch-iterator × (goal.iterator-loop-patch).is_finite l.patch-iterator

@@ -1,5 +1,5 @@
-use Rattle.std.proofs.Common.{string_bytes, sym, subst}
-use Rattle.mp_tree.specs.Document.{Document, IsReadable}
+use Rattle.std.proofs.Common.{◌≤◌, map, string_bytes, subst, sym}
+use Rattle.mp_tree.specs.Document.{Document, depth, depth_limit}
 use Rattle.mp_tree.specs.Values.{value_document}
 use Rattle.mp_texts.specs.Answers.{IsTextOf}
 use Rattle.mp_texts.specs.Texts.{given}
@@ -12,15 +12,16 @@ pub returns : goal.returns
 returns c =
     let d = value_document c.in_ok-doc.doc in
     let texts = given c.args.patches.now in
-    let (ps, read, is) = c.in_ok-merged.ensures in
+    let ps = map value_document c.in_ok-patches.patches.items in
     let readable = c.readings_are_documents.ensures.document in
+    let good = in_turn-readable c.merged_is_readable.ensures d ps (readable c.args.document.now d c.in_ok-doc.ensures) (all_readable readable texts ps c.in_ok-patches.ensures) in
     let merged = value_document c.in_ok-merged.merged in
     let written = c.in_ok-write_value in
-    let good = subst (λ (x : Document). IsReadable x) (sym is) (in_turn-readable c.merged_is_readable.ensures d ps (readable c.args.document.now d c.in_ok-doc.ensures) (all_readable readable texts ps read)) in
+    let within : depth merged ≤ depth_limit = subst (λ (x : Document). depth x ≤ depth_limit) (sym c.in_ok-merged.ensures) good.within in
     record {
       from = d;
       document_read = c.in_ok-doc.ensures;
       documents = ps;
-      read = read;
-      text = subst (λ (x : Document). IsTextOf x (string_bytes written.field-0)) is (text_written merged (string_bytes written.field-0) written.ensures.text (λ within. written.ensures.reads_back good) good.within);
+      read = c.in_ok-patches.ensures;
+      text = subst (λ (x : Document). IsTextOf x (string_bytes written.field-0)) c.in_ok-merged.ensures (text_written merged (string_bytes written.field-0) written.ensures.text written.ensures.reads_back within);
     }

@@ -1,40 +1,49 @@
-use Rattle.std.proofs.Common.{string_bytes, sym, ap, ◌∙◌}
-use Rattle.std.proofs.lemmas.Result.{IfOk-weaker}
+use Rattle.std.proofs.Common.{Some, option_map, string_bytes, sym, ap, ◌∙◌, arith}
+use Rattle.serde_json.specs.View.{items_view}
+use Rattle.serde_json.proofs.Views.{view-Object}
 use Rattle.mp_tree.specs.Document.{object}
-use Rattle.mp_tree.specs.Elements.{items_of}
-use Rattle.mp_tree.specs.Values.{value_document}
-use Rattle.mp_tree.specs.View.{document, members_of}
-use Rattle.mp_tree.proofs.Maps.Building.{seen, seen-same, ascend_from_seen, insert-last-seen}
-use Rattle.mp_tree.proofs.Passed.{Passed-push, Passed-end, over-into_iter}
+use Rattle.mp_tree.specs.Text.{from_data, items_from_data}
+use Rattle.mp_tree.proofs.Maps.Building.{seen-same, ascend_from_seen, insert-last-seen}
+use Rattle.mp_tree.proofs.Texts.FromData.{from_value, read_as, items_from_data-all, items_from_data-none, members_from_data-all, read_one_more, none_if_refused}
+use Rattle.mp_tree.proofs.Passed.{Passed-next, Passed-push, Passed-end, over-into_iter}
 use Rattle.mp_tree.proofs.Documents.Meaning.{document-Members}
-use Rattle.mp_tree.proofs.Valued.Meaning.{value_of_map}
 use Rattle.mp_tree.proofs.converting.+doc_of.Goals as goal
 
-pub doc_of-returns-in_ok-members_of-in-Object : goal.doc_of-returns-in_ok-members_of-in-Object
-doc_of-returns-in_ok-members_of-in-Object t c =
+pub doc_of-returns-in_ok-members_of-in-Object-clause-ok : goal.doc_of-returns-in_ok-members_of-in-Object-clause-ok
+doc_of-returns-in_ok-members_of-in-Object-clause-ok t c =
     let docs = c.in_ok-members_of-in-Object in
-    document-Members docs.field-0 ∙ ap object docs.ensures ∙ sym (value_of_map c.in-Object.values c.in-Object.is)
+    ap from_value c.in-Object.is ∙ ap from_data (view-Object c.in-Object.values) ∙ ap (option_map object) docs.ensures.ok ∙ ap Some (sym (document-Members docs.field-0))
+
+pub docs_of-returns-in_err-doc_of-clause-not_whole : goal.docs_of-returns-in_err-doc_of-clause-not_whole
+docs_of-returns-in_err-doc_of-clause-not_whole t c refused =
+    let elements = c.loop-value.invariant.elements in
+    let none = items_from_data-none elements.passed c.in-Some.value _ (c.in_err-doc_of.ensures.not_whole (grind arith)) in
+    ap (λ vs. items_from_data (items_view vs)) (Passed-next elements c.in-Some.ensures.steps.0) ∙ none
 
 pub docs_of-loop-value-preserved : goal.docs_of-loop-value-preserved
 docs_of-loop-value-preserved t c =
     let l = c.loop-value in
+    let same = sym c.in_ok-doc_of.ensures.ok in
     record {
-      elements = Passed-push document value_document l.docs.items _ c.in_ok-doc_of.field-0 l.invariant.elements c.in-Some.ensures.steps.0 c.in_ok-push.ensures.items c.in_ok-doc_of.ensures;
+      elements = Passed-push read_as from_value l.docs.items _ c.in_ok-doc_of.field-0 l.invariant.elements c.in-Some.ensures.steps.0 c.in_ok-push.ensures.items same;
       can_next = tt;
       is_finite = tt;
     }
 
-pub docs_of-returns : goal.docs_of-returns
-docs_of-returns t c =
+pub docs_of-returns-clause-ok : goal.docs_of-returns-clause-ok
+docs_of-returns-clause-ok t c =
     let l = c.loop-value in
-    ap items_of (Passed-end l.invariant.elements (over-into_iter l.value-iterator c.in-None.ensures.steps.0))
+    items_from_data-all c.args.values.items l.docs.items (Passed-end l.invariant.elements (over-into_iter l.value-iterator c.in-None.ensures.steps.0))
+
+pub many_members_of-returns-in_err-doc_of-clause-not_whole : goal.many_members_of-returns-in_err-doc_of-clause-not_whole
+many_members_of-returns-in_err-doc_of-clause-not_whole t c refused =
+    none_if_refused _ _ _ _ _ c.loop-name.invariant.entries c.in-Some.ensures.steps (c.in_err-doc_of.ensures.not_whole (grind arith))
 
 pub many_members_of-loop-name-preserved : goal.many_members_of-loop-name-preserved
 many_members_of-loop-name-preserved t c =
     let l = c.loop-name in
-    let same = ap (λ d. (string_bytes c.in-Some.name, d)) c.in_ok-doc_of.ensures in
     record {
-      entries = Passed-push (seen document) (seen value_document) l.pairs.items _ _ l.invariant.entries c.in-Some.ensures.steps c.in_ok-push.ensures.items same;
+      entries = read_one_more l.pairs.items _ _ _ c.in_ok-doc_of.field-0 l.invariant.entries c.in-Some.ensures.steps c.in_ok-push.ensures.items c.in_ok-doc_of.ensures.ok;
       can_next = tt;
       is_finite = tt;
     }
@@ -42,13 +51,17 @@ many_members_of-loop-name-preserved t c =
 pub many_members_of-map_of-requires : goal.many_members_of-map_of-requires
 many_members_of-map_of-requires t c =
     let l = c.loop-name in
-    ascend_from_seen document value_document l.pairs.items _ (Passed-end l.invariant.entries c.in-None.ensures.steps.0) c.into_iter-name-iterator.ensures.into_iter_gives.5
+    ascend_from_seen read_as from_value l.pairs.items _ (Passed-end l.invariant.entries c.in-None.ensures.steps.0) c.into_iter-name-iterator.ensures.into_iter_gives.5
 
-pub many_members_of-returns : goal.many_members_of-returns
-many_members_of-returns t c =
+pub many_members_of-returns-clause-ok : goal.many_members_of-returns-clause-ok
+many_members_of-returns-clause-ok t c =
     let l = c.loop-name in
-    let all = Passed-end l.invariant.entries c.in-None.ensures.steps.0 in
-    IfOk-weaker c.map_of.result _ _ (λ m built. ap members_of (seen-same document m.entries l.pairs.items built ∙ all)) c.map_of.ensures
+    let docs = c.in_ok-map_of in
+    members_from_data-all _ docs.field-0.entries (seen-same read_as docs.field-0.entries l.pairs.items docs.ensures ∙ Passed-end l.invariant.entries c.in-None.ensures.steps.0)
+
+pub few_members_of-returns-in_err-doc_of-clause-not_whole : goal.few_members_of-returns-in_err-doc_of-clause-not_whole
+few_members_of-returns-in_err-doc_of-clause-not_whole t c refused =
+    none_if_refused _ _ _ _ _ c.loop-name.invariant.entries c.in-Some.ensures.steps (c.in_err-doc_of.ensures.not_whole (grind arith))
 
 pub few_members_of-loop-name-preserved : goal.few_members_of-loop-name-preserved
 few_members_of-loop-name-preserved t c =
@@ -56,10 +69,12 @@ few_members_of-loop-name-preserved t c =
     let entries = l.invariant.entries in
     let next = c.in-Some.ensures.steps in
     let doc = c.in_ok-doc_of.field-0 in
-    let same = ap (λ d. (string_bytes c.in-Some.name, d)) c.in_ok-doc_of.ensures in
+    let is = c.in_ok-doc_of.ensures.ok in
     let ascending = c.into_iter-name-iterator.ensures.into_iter_gives.5 in
-    let last = insert-last-seen document value_document l.docs.entries _ c.in-Some.name c.in-Some.name doc c.in-Some.value entries next same ascending c.in_ok-insert.ensures.entries in
-    record { entries = Passed-push (seen document) (seen value_document) l.docs.entries _ _ entries next last same; can_next = tt; is_finite = tt }
+    let last = insert-last-seen read_as from_value l.docs.entries _ c.in-Some.name c.in-Some.name doc c.in-Some.value entries next (ap (λ v. (string_bytes c.in-Some.name, v)) (sym is)) ascending c.in_ok-insert.ensures.entries in
+    record { entries = read_one_more l.docs.entries _ _ _ doc entries next last is; can_next = tt; is_finite = tt }
 
-pub few_members_of-returns : goal.few_members_of-returns
-few_members_of-returns t c = ap members_of (Passed-end c.loop-name.invariant.entries c.in-None.ensures.steps.0)
+pub few_members_of-returns-clause-ok : goal.few_members_of-returns-clause-ok
+few_members_of-returns-clause-ok t c =
+    let l = c.loop-name in
+    members_from_data-all _ l.docs.entries (Passed-end l.invariant.entries c.in-None.ensures.steps.0)

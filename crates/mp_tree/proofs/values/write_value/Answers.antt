@@ -4,6 +4,7 @@ use Rattle.mp_tree.specs.Text.{data_of, read}
 use Rattle.mp_tree.specs.Values.{value_document}
 use Rattle.mp_tree.proofs.Texts.RoundTrip.{read-text}
 use Rattle.mp_tree.proofs.Texts.Written.{has_float-data_of}
+use Rattle.mp_tree.proofs.Valued.Meaning.{IsReadable-value}
 use Rattle.mp_tree.proofs.values.write_value.Goals as goal
 
 -- the text is that of the document, which has no float
@@ -15,5 +16,5 @@ returns-in-Ok-clause-text c =
 
 pub returns-in-Ok-clause-reads_back : goal.returns-in-Ok-clause-reads_back
 returns-in-Ok-clause-reads_back c =
-    let d = c.args.value.now in
-    λ readable. ap read (returns-in-Ok-clause-text c) ∙ read-text (value_document d) readable
+    let v = c.args.value.now in
+    λ fits. ap read (returns-in-Ok-clause-text c) ∙ read-text (value_document v) (IsReadable-value v fits)
