@@ -14,10 +14,10 @@
  *            with a buffer of that length. That is safe because, unless memory runs out, the same arguments give the same
  *            reply and the same text. A capacity of 0 asks for the length alone. The buffer may not overlap what is read.
  *   owns     nothing when it returns. Meanwhile it takes memory by malloc and realloc, and gives it back by free: for each
- *            byte that is read mostly 10 to 100 bytes at the peak (most for many small patches) and never more than 360,
- *            and in addition what the answer takes. For n bytes that are read, the places of a conflict and the edits of a
- *            rewriting may have n * n / 15 bytes, and a JSON Patch may double a document with each copy: bound the texts
- *            of strangers. If malloc or realloc fails, the status is MERGEJOIN_NO_MEMORY.
+ *            byte that is read mostly 10 to 100 bytes at the peak, up to 170 for many small patches that nest objects, and
+ *            never more than 360; and in addition what the answer takes. For n bytes that are read, the places of a conflict
+ *            and the edits of a rewriting may have n * n / 15 bytes, and a JSON Patch may double a document with each copy:
+ *            bound the texts of strangers. If malloc or realloc fails, the status is MERGEJOIN_NO_MEMORY.
  *   needs    256 KiB of stack: the deepest documents take up to 176 KiB of them.
  *
  * No pointer may be null, even if its length, count or capacity is 0. No length is more than PTRDIFF_MAX. No function may be
