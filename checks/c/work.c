@@ -1,14 +1,17 @@
-// Makes one call of the library, for a heap that counts (checks/heap/failing_allocator.c). It takes no memory from the heap itself, so
-// that heap counts what the call takes alone. Standard input has the number of the export, and for each text its length and its
-// bytes; the numbers have eight bytes each. The text of the answer is written to standard output, and the status is that of
-// the reply, or the one for an input that does not fit.
+// Makes one call of the library, for a heap that counts (checks/heap/failing_allocator.c), and for counts of instructions
+// (tests/cost). It takes no memory from the heap itself, so that heap counts what the call takes alone. Standard input has the number
+// of the export, and for each text its length and its bytes; the numbers have eight bytes each. The text of the answer is written to
+// standard output, and the status is that of the reply, or the one for an input that does not fit. With an argument the bytes that
+// the C library's heap has taken from the system are written to standard error.
+#include <malloc.h>
+#include <stdio.h>
 #include <string.h>
 #include <unistd.h>
 
 #include "mergejoin.h"
 
 enum { JOIN, REPLAY, MERGE, REWRITE, PATCH, GET };
-enum { MOST_TEXTS = 96, MOST_BYTES = 1 << 18, NO_FIT = 64 };
+enum { MOST_TEXTS = 1 << 14, MOST_BYTES = 1 << 21, NO_FIT = 64 };
 
 static uint8_t given[MOST_BYTES], buffer[MOST_BYTES];
 static mergejoin_text texts[MOST_TEXTS];
@@ -25,7 +28,8 @@ static mergejoin_reply call(uint64_t export, size_t count) {
   }
 }
 
-int main(void) {
+int main(int argc, char *argv[]) {
+  (void)argv;
   uint64_t export, length;
   size_t used = 0, place = sizeof export, count = 0;
   for (ssize_t taken = 1; taken > 0; used += (size_t)taken) {
@@ -42,6 +46,7 @@ int main(void) {
     texts[count] = (mergejoin_text){given + place, length};
   }
   mergejoin_reply reply = call(export, count);
+  if (argc > 1) fprintf(stderr, "%zu\n", mallinfo2().arena + mallinfo2().hblkhd);
   if (reply.length > sizeof buffer || write(1, buffer, reply.length) != (ssize_t)reply.length) return NO_FIT;
   return (int)reply.status;
 }

@@ -75,6 +75,28 @@ def test_each_workload_is_a_row_with_the_median_the_least_and_the_most(old, new)
             assert float(least) <= float(median) <= float(most)
 
 
+def figures_of(out):
+    """Gives of each row the median of the old, that of the new, and the ratio."""
+    rows = re.findall(r"^\| \S+ \| ([\d.]+) \(.*?\) \| ([\d.]+) \(.*?\) \| ([\d.]+) \|$", out, re.M)
+    assert len(rows) == len(NAMES)
+    return [tuple(map(float, row)) for row in rows]
+
+
+def test_one_that_is_slower_has_a_ratio_below_one(tmp_path, old):
+    status, out, _ = run(old, checkout(tmp_path / "new", f"sleep 0.05; {ANSWERS}"))
+    assert status == 0
+    for before, now, ratio in figures_of(out):
+        assert before < now > 0.05 and ratio < 0.7
+
+
+def test_two_that_are_equal_have_a_ratio_near_one(tmp_path):
+    sides = [checkout(tmp_path / side, f"sleep 0.05; {ANSWERS}") for side in ("old", "new")]
+    status, out, _ = run(*sides)
+    assert status == 0
+    for before, now, ratio in figures_of(out):
+        assert abs(ratio - before / now) < 0.03 and 0.5 < ratio < 2
+
+
 def test_each_is_run_as_often_with_the_seed_that_was_given(old, new):
     assert run(old, new, "0042")[0] == 0
     for directory in (old, new):

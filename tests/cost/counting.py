@@ -1,0 +1,115 @@
+"""Counts what calls cost, so that it is the same on each machine: the instructions of the proved code itself, by callgrind, and
+the most that the heap has taken for each byte that is read.
+
+What the C library takes is not counted, since it picks its copies and comparisons of bytes by the processor; the requests that it
+is asked for are kept by checks/work. Environment and arguments are fixed.
+"""
+
+import concurrent.futures
+import functools
+import os
+import pathlib
+import re
+import struct
+import subprocess
+import sys
+import tempfile
+
+TOP = pathlib.Path(__file__).resolve().parents[2]
+sys.path.insert(0, str(TOP / "checks/common"))
+import table
+from rows import EXPORTS
+
+LIBRARY = TOP / "out/lib/libmergejoin.so.0"
+WORKLOADS = TOP / "crates/workloads/out/workloads"
+# The jobs of the benchmark, each with one of its inputs and this seed.
+JOBS, SEED = ("catch-up", "reduce", "receive", "request", "publish", "awkward"), "7"
+ENVIRONMENT = {"PATH": "/usr/bin:/bin", "LC_ALL": "C", "LD_BIND_NOW": "1"}
+# The heap takes no more from the system than it is asked for, and gives nothing back: what it has at the end is the most.
+ONE_HEAP = {"GLIBC_TUNABLES": "glibc.malloc.top_pad=1:glibc.malloc.trim_threshold=1000000000000:glibc.malloc.mmap_threshold=33554432"}
+
+
+class Ended(Exception):
+    """A run that did not end as it should."""
+
+
+def driver_in(directory):
+    """Builds the program that makes one call of the library, and gives its path."""
+    program = directory / "work"
+    words = ["cc", "-std=gnu11", "-O1", "-Wall", "-Wextra", "-Werror", f"-I{TOP / 'out/include'}", TOP / "checks/c/work.c", LIBRARY]
+    subprocess.run([*words, f"-Wl,-rpath,{LIBRARY.parent}", "-o", program], check=True)
+    return program
+
+
+def run(words, status, given=b"", setting=None):
+    """Runs words, which have to end with a status, and gives both streams."""
+    done = subprocess.run(words, input=given, capture_output=True, env=ENVIRONMENT | (setting or {}), timeout=300, check=False)
+    if done.returncode != status:
+        raise Ended(f"the status is {done.returncode} and should be {status}: {done.stdout[-200:]} {done.stderr[-200:]}")
+    return done.stdout, done.stderr
+
+
+def of_part(report, part):
+    """Gives the instructions of one part, a program or a library, from a report of callgrind: what follows 'calls=' is also what
+    the called took."""
+    count, is_inside, is_call = 0, False, False
+    for line in report.splitlines():
+        if line.startswith("ob="):
+            is_inside = line.endswith(f"/{part}")
+        elif line.startswith("calls="):
+            is_call = True
+        elif found := re.fullmatch(r"\d+ (\d+)", line):
+            count += 0 if is_call or not is_inside else int(found[1])
+            is_call = False
+    return count
+
+
+def instructions(words, part, status=0, given=b"", setting=None):
+    """Runs words under callgrind, and gives the instructions of one part."""
+    with tempfile.TemporaryDirectory() as directory:
+        report = pathlib.Path(directory, "report")
+        callgrind = ["valgrind", "--tool=callgrind", "--compress-strings=no", "--compress-pos=no", f"--callgrind-out-file={report}"]
+        run([*callgrind, *words], status, given, setting)
+        return of_part(report.read_text("utf-8"), part)
+
+
+def input_of(export, texts):
+    """What the driver reads: the number of the export, and each text after its length."""
+    return struct.pack("Q", EXPORTS.index(export)) + b"".join(struct.pack("Q", len(text)) + text for text in texts)
+
+
+def of_workload(job, _driver):
+    if not WORKLOADS.exists():
+        raise Ended(f"{WORKLOADS} is not there: rt ci leaves it, and rt run in its crate")
+    return instructions([WORKLOADS, job, "1", SEED], WORKLOADS.name)
+
+
+def of_call(export, texts, status, driver, setting=None):
+    return instructions([driver], LIBRARY.name, status, input_of(export, texts), setting)
+
+
+def peak(export, texts, status, driver):
+    """The bytes that the heap has taken for each byte of the texts."""
+    _, taken = run([driver, "heap"], status, input_of(export, texts), ONE_HEAP)
+    return round(int(taken) / sum(map(len, texts)), 2)
+
+
+def measures():
+    """Gives of each title what measures it with the driver."""
+    found = {f"workload {job}": functools.partial(of_workload, job) for job in JOBS}
+    found |= {title: functools.partial(of_call, *row) for title, *row in table.rows()}
+    return found | {title: functools.partial(peak, *row) for title, *row in table.peaks()}
+
+
+def measured(titles, directory):
+    """Gives the figure of each title, or what was wrong."""
+    driver, measure_of = driver_in(directory), measures()
+
+    def measure(title):
+        try:
+            return measure_of[title](driver)
+        except Ended as wrong:
+            return wrong
+
+    with concurrent.futures.ThreadPoolExecutor(len(os.sched_getaffinity(0))) as pool:
+        return dict(zip(titles, pool.map(measure, titles)))
