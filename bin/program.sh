@@ -7,15 +7,22 @@ built_from=$top/out/mergejoin.sum  # the checksums of the sources that it was bu
 built_by=$top/out/mergejoin.kit    # the toolchain that proved and built it
 unchanged=$top/out/mergejoin.list  # the names, times and sizes of all these when they were seen to have those checksums
 facts='%p %T@ %C@ %s\n'            # of a file. A program can set the time of a file's text, but not that of its last change (%C@)
-kinds=(-name '*.rt' -o -name '*.antt' -o -name crates.txt)
+kinds=(-name '*.rt' -o -name '*.antt' -o -name crates.txt -o -path HANDLES)
 
 # Standard error may be closed.
 say() { printf 'mergejoin: %s\n' "$1" >&2 || true; }
 
-# One checksum over the sources, specs and proofs of every crate, and crates.txt, in a directory: the repository, or a copy.
+# Where the sources are in the current directory. HANDLES says what they may use, and need not be there.
+list_roots() {
+  roots=(crates.txt crates)
+  if [[ -e HANDLES ]]; then roots+=(HANDLES); fi
+}
+
+# One checksum over the sources, specs and proofs of every crate, crates.txt and HANDLES, in a directory: the repository, or a copy.
 sources_sum() (
   CDPATH='' cd -- "$1" || exit
-  find crates.txt crates -name out -prune -o -type f \( "${kinds[@]}" \) -print0 | LC_ALL=C sort -z | xargs -0 sha256sum | sum_of
+  list_roots
+  find "${roots[@]}" -name out -prune -o -type f \( "${kinds[@]}" \) -print0 | LC_ALL=C sort -z | xargs -0 sha256sum | sum_of
 )
 
 # The checksum of standard input.
@@ -29,14 +36,16 @@ sum_of() {
 # read.
 built_list() (
   CDPATH='' cd -- "$top" || exit
-  find crates.txt crates out/mergejoin -name out -prune -o -type f \( "${kinds[@]}" -o -path out/mergejoin \) -printf "$facts"
+  list_roots
+  find "${roots[@]}" out/mergejoin -name out -prune -o -type f \( "${kinds[@]}" -o -path out/mergejoin \) -printf "$facts"
 )
 
 # Those of the sources and of all directories in which they are: they show whether something was changed or moved meanwhile, also
 # if it was put back. The directories of the crates themselves are left out, since rt makes and moves out/ there.
 sources_state() (
   CDPATH='' cd -- "$top" || exit
-  find crates.txt crates -name out -prune -o \( -type f \( "${kinds[@]}" \) -o -path crates -o -type d -path 'crates/*/*' \) \
+  list_roots
+  find "${roots[@]}" -name out -prune -o \( -type f \( "${kinds[@]}" \) -o -path crates -o -type d -path 'crates/*/*' \) \
     -printf "%i $facts"
 )
 
