@@ -14,7 +14,6 @@ use Rattle.library_example.specs.declared.fault.DecideFault.TheVariants.{NotRece
 use Rattle.library_example.specs.declared.patch_log.Identity.{Identity}
 use Rattle.library_example.specs.declared.patch_log.PatchLog.{PatchLog}
 use Rattle.library_example.proofs.Stored.{mapped, same_pair, unmapped}
-use Rattle.library_example.proofs.Kept.{no_element}
 use Rattle.library_example.proofs.Reported.{one_place}
 
 pub more_picked : (stored : List Stored) (chosen identities : List Identity) (patches : List Document) (h : Stored) → Contains chosen h.0

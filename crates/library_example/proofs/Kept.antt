@@ -1,5 +1,5 @@
 -- What a replica keeps of the patches that it has received, and what it shows of them.
-use Rattle.std.proofs.Common.{◌≡◌, List, [], ◌∷◌, ◌++◌, Option, None, Some, Result, Ok, Err, IfErr, IsErrAnd, MatchOption, inl, inr, refl, sym, ap, subst, arith}
+use Rattle.std.proofs.Common.{◌≡◌, List, [], ◌∷◌, ◌++◌, Option, None, Some, MatchOption, inl, inr, refl, sym, ap, subst, arith}
 use Rattle.std.proofs.lemmas.List.Elements.{Contains-push_cases}
 use Rattle.std.specs.List.{Contains}
 use Rattle.mp_tree.specs.Document.{Document}
@@ -61,11 +61,6 @@ reported_clashes law (Conflict places) kept patch is before some received stored
       );
     }
 reported_clashes law OutOfMemory kept patch is before some received stored = tt
-
--- what a `?` hands on
-pub handed_on : {A E : Type 0} {reported : E} (P : E → Type 0) (r : Result A E) → IsErrAnd r (λ fault. fault ≡ reported) → P reported → IfErr r P
-handed_on P (Ok done) exit is = tt
-handed_on P (Err fault) exit is = subst P (sym exit) is
 
 -- ---- what is shown
 

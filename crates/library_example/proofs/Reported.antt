@@ -11,7 +11,6 @@ use Rattle.library_example.specs.Private.PatchLogs.{AreReportedBefore, IsReporte
 use Rattle.library_example.specs.declared.patch_log.Identity.{Identity}
 use Rattle.library_example.specs.declared.patch_log.KeptPatch.{KeptPatch}
 use Rattle.library_example.proofs.Stored.{stored_at, same_pair}
-use Rattle.library_example.proofs.Kept.{no_element}
 
 pub stored_place : (ks : List KeptPatch) (i : ℕ) (k : KeptPatch) → i < length ks → k ≡ get_or ks i k → slice_get (stored_in ks) i ≡ Some (stored_at k)
 stored_place ks i k below is = slice_get-map stored_at ks i ∙ ap (option_map stored_at) (slice_get_read ks (length ks) i k refl below is)

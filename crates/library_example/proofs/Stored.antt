@@ -9,7 +9,6 @@ use Rattle.mp_merge.specs.Clash.{Compatible}
 use Rattle.library_example.specs.PatchLog.{ClashesWithNone, Stored, stored_in}
 use Rattle.library_example.specs.declared.patch_log.Identity.{Identity}
 use Rattle.library_example.specs.declared.patch_log.KeptPatch.{KeptPatch}
-use Rattle.library_example.proofs.Kept.{no_element}
 
 -- ---- members of a list that is made of another
 

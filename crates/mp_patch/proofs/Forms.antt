@@ -5,3 +5,4 @@ pub mod Needs
 pub mod Reading
 pub mod SomeForm
 pub mod Values
+pub mod Writable

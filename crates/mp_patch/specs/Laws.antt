@@ -97,3 +97,13 @@ HasOneFormFault = (d : Document) (fault other : FormFault) → fault ≢ OutOfMe
 abbrev pub ShapesAreReadable : Type 0
 ShapesAreReadable = (operations : List Operation)
     → All IsWritable operations → 2 + deepest operations ≤ depth_limit → IsReadable (shapes operations)
+
+-- the operations of a form that can be read can be written
+abbrev pub FormsAreWritable : Type 0
+FormsAreWritable = (form : Document) (operations : List Operation)
+    → IsReadable form → AreForms form operations → All IsWritable operations
+
+-- and operations that can be written lead from what can be read to what can be read
+abbrev pub RunsAreReadable : Type 0
+RunsAreReadable = (d e : Document) (operations : List Operation)
+    → IsReadable d → All IsWritable operations → Runs d operations e → IsReadable e

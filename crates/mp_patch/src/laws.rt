@@ -1,5 +1,5 @@
 //! Laws of patches alone: each function runs nothing, and its contract is the law.
-ghost use Rattle.mp_patch.specs.Laws.{ShapesAreReadable, FormsHaveDocuments, FormsHaveNoFault, HasOneEnd, HasOneFormFault, HasOneReading, HasOneRefusal, IsFormOrFaulty, OperationsAreTaken, PatchesHaveDocuments, RunsOrIsRefused, RunsUnrefused, ShapesAreForms, StaysShallow};
+ghost use Rattle.mp_patch.specs.Laws.{FormsAreWritable, FormsHaveDocuments, FormsHaveNoFault, HasOneEnd, HasOneFormFault, HasOneReading, HasOneRefusal, IsFormOrFaulty, OperationsAreTaken, PatchesHaveDocuments, RunsAreReadable, RunsOrIsRefused, RunsUnrefused, ShapesAreForms, ShapesAreReadable, StaysShallow};
 
 /// The values of a patch are documents: so the other laws speak of every `JsonPatch`.
 pub fn patches_have_documents()
@@ -74,3 +74,17 @@ pub fn shapes_are_readable()
 {
     mp_pointer::laws::spellings_are_texts();
 }
+
+/// The operations of a form that can be read have tokens in UTF-8, and values that can be read.
+pub fn forms_are_writable()
+    ensures { FormsAreWritable }
+{
+    mp_pointer::laws::parts_are_readable();
+    mp_pointer::laws::tokens_are_texts();
+}
+
+/// A JSON Patch whose values can be read and whose tokens are UTF-8 leads from a document that can be read to one that can be
+/// read, and so is read back from its text.
+pub fn runs_are_readable()
+    ensures { RunsAreReadable }
+{}

@@ -1,4 +1,4 @@
--- What the proofs of the crates above may cite: facts about indices, parts, kinds, one child that changes, documents that differ at one place alone, and about lists of tokens and their spellings.
+-- What the proofs of the crates above may cite: facts about indices, parts, kinds, one child that changes, documents that differ at one place alone, about lists of tokens and their spellings, and about what a `?` hands on.
 pub use Rattle.mp_pointer.proofs.Changes.Child.{names_of-put}
 pub use Rattle.mp_pointer.proofs.Changes.SomeChange.{rewrite_part}
 pub use Rattle.mp_pointer.proofs.Parts.Along.{child-object, part-push, DifferOnlyAt-sym, DifferOnlyAt-trans, DifferOnlyAt-root, DifferOnlyAt-child}
@@ -7,6 +7,7 @@ pub use Rattle.mp_pointer.proofs.Parts.Documents.{document-changed, part-documen
 pub use Rattle.mp_pointer.proofs.Parts.Kinds.{equals_by_part}
 pub use Rattle.mp_pointer.proofs.Parts.Borrowed.{no_child, no_index_here, past_end}
 pub use Rattle.mp_pointer.proofs.Parts.Valued.{no_index_in_array, past_array}
+pub use Rattle.mp_pointer.proofs.Results.{handed_on}
 pub use Rattle.mp_pointer.proofs.Spellings.ReadBack.{has_one_spelling, spellings_have_no_fault, spells_or_is_faulty}
 pub use Rattle.mp_pointer.proofs.Tokens.Indices.{numeral-decimal, same_numeral, numeral_first, bytes_differ, child-numeral, borrowed_part, element_found}
 pub use Rattle.mp_pointer.proofs.Tokens.Lists.{are_same_tokens-Decides, back_again, decide_prefix, last_of, not_empty, root_is_prefix, same_last, some_last, to_end, to_last}

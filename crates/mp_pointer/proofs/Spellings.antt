@@ -3,3 +3,4 @@ pub mod Kept
 pub mod Parser
 pub mod Plain
 pub mod ReadBack
+pub mod Texts

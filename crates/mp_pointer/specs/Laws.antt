@@ -70,3 +70,7 @@ PartsAreReadable = (t : Tokens) (d x : Document) → IsReadable d → part d t �
 -- tokens that are UTF-8 are spelled in UTF-8
 abbrev pub SpellingsAreTexts : Type 0
 SpellingsAreTexts = (t : Tokens) → All IsUtf8 t → IsUtf8 (spell t)
+
+-- and tokens that are spelled in UTF-8 are UTF-8
+abbrev pub TokensAreTexts : Type 0
+TokensAreTexts = (t : Tokens) → IsUtf8 (spell t) → All IsUtf8 t

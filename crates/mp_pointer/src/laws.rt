@@ -1,5 +1,5 @@
 //! Laws of pointers alone: each function runs nothing, and its contract is the law.
-ghost use Rattle.mp_pointer.specs.Laws.{ComparesTokens, EqualsByPart, HasOnePointerFault, HasOneSpelling, NamesElements, NamesNothingElse, NumeralsArePrinted, PartsAreDocuments, PartsAreReadable, PartsAreShallower, SpellingsAreTexts, SpellingsHaveNoFault, SpellsOneIndex, SpellsOrIsFaulty};
+ghost use Rattle.mp_pointer.specs.Laws.{ComparesTokens, EqualsByPart, HasOnePointerFault, HasOneSpelling, NamesElements, NamesNothingElse, NumeralsArePrinted, PartsAreDocuments, PartsAreReadable, PartsAreShallower, SpellingsAreTexts, SpellingsHaveNoFault, SpellsOneIndex, SpellsOrIsFaulty, TokensAreTexts};
 
 /// `==` of pointers is equality of their tokens.
 pub fn equal_tokens()
@@ -70,4 +70,9 @@ pub fn parts_are_readable()
 /// Tokens that are UTF-8, as names are, are spelled in UTF-8.
 pub fn spellings_are_texts()
     ensures { SpellingsAreTexts }
+{}
+
+/// Tokens that are spelled in UTF-8 are UTF-8: so those of a pointer in a JSON text can be names.
+pub fn tokens_are_texts()
+    ensures { TokensAreTexts }
 {}

@@ -1,13 +1,11 @@
 pub mod Joins
 pub mod Merging
 pub mod OneAnswer
-pub mod Patched
 pub mod Places
 pub mod Readings
 pub mod Reduced
 pub mod Replays
 pub mod Sayings
 pub mod SomeAnswer
-pub mod SpelledTexts
 pub mod Steps
 pub mod Unread

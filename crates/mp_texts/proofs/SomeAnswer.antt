@@ -21,7 +21,6 @@ use Rattle.mp_texts.specs.Texts.{AreRead, IsFirstUnread}
 use Rattle.mp_texts.specs.declared.fault.TextsFault.TheVariants.{Document as NoDocument, Patch, List as OfList, Form, Refused, Pointer, Missing}
 use Rattle.mp_texts.proofs.Joins.{documents_of, join_text}
 use Rattle.mp_texts.proofs.Merging.{in_turn-readable}
-use Rattle.mp_texts.proofs.Patched.{patched_readable}
 use Rattle.mp_texts.proofs.Readings.{AreRead-cons, all_readable, text_of_readable}
 
 -- ---- a text is read, or it is not
@@ -162,7 +161,7 @@ module _ (laws : ExistenceLaws) where
   run_of_forms document json_patch d p operations document_read patch_read forms =
       let good = readable document d document_read in
       let fine = readable json_patch p patch_read in
-      elim (laws.runs.runs_or_refused d operations good.is_document (laws.runs.documents p operations fine.is_document forms)) [
+      elim (laws.runs_or_refused d operations good.is_document (laws.run_documents p operations fine.is_document forms)) [
         | inl (e, ends, runs) ↦
             let is : IsPatchText document json_patch (compact e) = record {
               from = d;
@@ -173,7 +172,7 @@ module _ (laws : ExistenceLaws) where
               forms = forms;
               end = e;
               runs = runs;
-              text = text_of_readable laws.joins.reads_back e (compact e) (patched_readable laws.runs d p e operations good fine forms runs) refl;
+              text = text_of_readable laws.joins.reads_back e (compact e) (laws.readable_runs d e operations good (laws.writable_forms p operations fine forms) runs) refl;
             } in
             (returned (compact e), is)
         | inr (k, cause, refused) ↦

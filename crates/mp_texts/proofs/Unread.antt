@@ -1,5 +1,5 @@
 -- Texts that are read one by one, up to the first that is not a document.
-use Rattle.std.proofs.Common.{◌≡◌, ◌<◌, ◌+◌, ℕ, zero, suc, List, [], ◌∷◌, ◌++◌, Bor, length, map, take, get_or, slice_get, slice_index_or, Some, Result, Ok, Err, IsErrAnd, MatchResult, refl, sym, ap, ◌∙◌, subst, arith}
+use Rattle.std.proofs.Common.{◌≡◌, ◌<◌, ◌+◌, ℕ, zero, suc, List, [], ◌∷◌, ◌++◌, Bor, length, map, take, get_or, slice_get, slice_index_or, Some, Ok, refl, sym, ap, ◌∙◌, subst, arith}
 use Rattle.std.proofs.lemmas.List.{length-map, map-append, take_more}
 use Rattle.mp_tree.specs.Document.{Document}
 use Rattle.mp_tree.specs.Text.{document_in}
@@ -55,8 +55,3 @@ unread_at ts k ds read t at (Form fault) is = absurd is
 unread_at ts k ds read t at (Refused fault) is = absurd is
 unread_at ts k ds read t at (Pointer fault) is = absurd is
 unread_at ts k ds read t at Missing is = absurd is
-
--- what a `?` hands on
-pub handed_on : {A : Type 0} {reported : TextsFault} (P : A → Type 0) (Q : TextsFault → Type 0) (r : Result A TextsFault) → IsErrAnd r (λ fault. fault ≡ reported) → Q reported → MatchResult r P Q
-handed_on P Q (Ok done) exit is = absurd exit
-handed_on P Q (Err fault) exit is = subst Q (sym exit) is

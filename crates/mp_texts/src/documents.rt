@@ -5,7 +5,6 @@ ghost use Rattle.mp_texts.specs.Answers.{IsPartText, IsPatchText, IsRewriteText,
 ghost use Rattle.mp_texts.specs.Faults.{IsPartTextFault, IsPatchTextFault, IsRewriteTextFault};
 
 use crate::fault::TextsFault;
-use crate::laws::run_laws;
 use crate::reading::{read_document_value, read_patch_value};
 use mp_merge::{laws as merging, rewrite_value};
 use mp_patch::{apply_to_value, laws as patching, ops_of_value, write_patch};
@@ -52,7 +51,8 @@ pub fn patch_text(alloc: Global, document: &[u8], json_patch: &[u8]) -> Result<S
         (λ fault. IsPatchTextFault fault document.now json_patch.now) }
 {
     reading::readings_are_documents();
-    run_laws();
+    patching::forms_are_writable();
+    patching::runs_are_readable();
     let doc = read_document_value(alloc, document)?;
     let form = read_patch_value(alloc, json_patch, 0)?;
     let operations = ops_of_value(alloc, form)?;

@@ -1,6 +1,6 @@
 //! Laws over texts alone: each function runs nothing, and its contract is the law.
 ghost use Rattle.mp_texts.specs.Laws.{CallHasAnswer, CallHasOneAnswer, EachPartHasAJoin, FaultsShowTheAnswer, JoinOfTwoJoins, JoinTextsAreShared, OneJoinText, OneReplayText, ReducesAgree, ReducesDecide, ReducesExist, ReducesGiveTheJoin, ReplayIsMerge, ReplayIsPatch};
-ghost use Rattle.mp_texts.specs.Private.LawsBelow.{AnswerLaws, ExistenceLaws, JoinLaws, ReplayLaws, RunLaws};
+ghost use Rattle.mp_texts.specs.Private.LawsBelow.{AnswerLaws, ExistenceLaws, JoinLaws, ReplayLaws};
 
 use mp_merge::laws as merge;
 use mp_patch::laws as patch;
@@ -124,7 +124,10 @@ fn existence_laws()
     join_laws();
     pointer::spells_or_is_faulty();
     pointer::parts_are_readable();
-    run_laws();
+    patch::forms_have_documents();
+    patch::runs_or_is_refused();
+    patch::forms_are_writable();
+    patch::runs_are_readable();
     patch::is_form_or_faulty();
     patch::shapes_are_readable();
     merge::reported_pair();
@@ -132,15 +135,4 @@ fn existence_laws()
     merge::merged_is_readable();
     merge::rewriting_exists();
     merge::rewritings_are_writable();
-}
-
-pub(crate) fn run_laws()
-    ensures { RunLaws }
-{
-    patch::forms_have_documents();
-    patch::one_end();
-    patch::operations_are_taken();
-    patch::runs_or_is_refused();
-    patch::runs_are_not_refused();
-    patch::runs_stay_shallow();
 }

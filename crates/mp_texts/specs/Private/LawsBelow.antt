@@ -47,19 +47,13 @@ pub record AnswerLaws : Type 0 where
   pub join_exists : merge.JoinExists
   pub one_rewriting : merge.HasOneRewriting
 
--- of JSON Patches that run, and lead to what can be read
-pub record RunLaws : Type 0 where
-  pub documents : patch.FormsHaveDocuments
-  pub one_end : patch.HasOneEnd
-  pub taken : patch.OperationsAreTaken
-  pub runs_or_refused : patch.RunsOrIsRefused
-  pub unrefused : patch.RunsUnrefused
-  pub shallow : patch.StaysShallow
-
 -- of what has an answer
 pub record ExistenceLaws : Type 0 where
   pub joins : JoinLaws
-  pub runs : RunLaws
+  pub run_documents : patch.FormsHaveDocuments
+  pub runs_or_refused : patch.RunsOrIsRefused
+  pub writable_forms : patch.FormsAreWritable
+  pub readable_runs : patch.RunsAreReadable
   pub spelled_or_faulty : pointer.SpellsOrIsFaulty
   pub readable_parts : pointer.PartsAreReadable
   pub form_or_faulty : patch.IsFormOrFaulty

@@ -1,5 +1,6 @@
--- Contracts, words of specs/ and the laws that the body names: nothing else is cited but lists of the standard library.
-use Rattle.std.proofs.Common.{◌≡◌, List, map, Some, Ok, Err, Result, IfErr, IsErrAnd, MatchResult, inl, inr, refl, sym, ap, ◌∙◌, subst}
+-- Contracts, words of specs/ and the laws that the body names: nothing else is cited but lists of the standard library, and what
+-- a `?` hands on.
+use Rattle.std.proofs.Common.{◌≡◌, List, map, Some, Ok, Result, MatchResult, inl, inr, refl, sym, ap, ◌∙◌, subst}
 use Rattle.std.proofs.lemmas.Result.{MatchResult-at_ok}
 use Rattle.std.proofs.lemmas.List.Elements.{All-contains_itself, All-map, All-weaker}
 use Rattle.std.specs.List.{All, Contains}
@@ -11,6 +12,7 @@ use Rattle.mp_patch.specs.Operation.{Operation}
 use Rattle.mp_patch.specs.Run.{IsApplyFault}
 use Rattle.mp_patch.specs.declared.fault.ApplyFault.{ApplyFault}
 use Rattle.mp_patch.specs.declared.fault.ApplyFault.TheVariants.{Refused}
+use Rattle.mp_pointer.proofs.Facts.{handed_on}
 use Rattle.mp_merge.specs.Application.{merge_patch}
 use Rattle.mp_merge.specs.Converged.{IsConvergeFault}
 use Rattle.mp_merge.specs.Convergence.{Converge, LeadsTo, ReachesEnd, ReplicasConverge}
@@ -21,8 +23,6 @@ use Rattle.mp_merge.specs.Lists.{AreWithin, HaveSameMembers, IsJoinAllFault, IsR
 use Rattle.mp_merge.specs.Outcome.{IsOutcome}
 use Rattle.mp_merge.specs.Replicas.{AreReplicas}
 use Rattle.mp_merge.specs.Rewriting.{IsRewriting}
-use Rattle.mp_merge.specs.declared.converging.Converged.{Converged}
-use Rattle.mp_merge.specs.declared.fault.ConvergeFault.{ConvergeFault}
 use Rattle.mp_merge.specs.declared.fault.ConvergeFault.TheVariants.{OutOfMemory}
 use Rattle.mp_merge.specs.declared.fault.ListFault.{ListFault}
 use Rattle.mp_merge.specs.declared.fault.ListFault.TheVariants.{NoPatches, ConflictOf}
@@ -43,16 +43,6 @@ module _ {start joined end : Document} {received : List Document} (reached : Rea
 patch_fault : {start end : Document} {operations : List Operation} → LeadsTo start end operations → (fault : ApplyFault) → IsApplyFault fault start operations → converge_fault_of_patch fault ≡ OutOfMemory
 patch_fault leads (Refused op cause) refused = absurd (leads.unrefused op cause refused)
 patch_fault leads ApplyFault.OutOfMemory refused = refl
-
--- what a `?` hands on
-handed_on : {reported : ConvergeFault} (P : ConvergeFault → Type 0) (r : Result Converged ConvergeFault) → IsErrAnd r (λ fault. fault ≡ reported) → P reported → IfErr r P
-handed_on P (Ok all) exit holds = tt
-handed_on P (Err fault) exit holds = subst P (sym exit) holds
-
-refused_by : {reported : ConvergeFault} (P : ConvergeFault → Type 0) (Q : Converged → Type 0) (r : Result Converged ConvergeFault) → IsErrAnd r (λ fault. fault ≡ reported) → P reported
-    → MatchResult r Q P
-refused_by P Q (Ok all) exit holds = absurd exit
-refused_by P Q (Err fault) exit holds = subst P (sym exit) holds
 
 -- ---- two replicas
 
@@ -132,56 +122,56 @@ module _ (start : Document) (here there : List Document) where
 
 pub returns-in_err-replayed_here-clause-calls : goal.returns-in_err-replayed_here-clause-calls
 returns-in_err-replayed_here-clause-calls c =
-    refused_by _ _ c.from_residual.result c.from_residual.ensures.1 (here_refused _ _ _ c.in_err-replayed_here.field-0.0 c.in_err-replayed_here.ensures.outcome)
+    handed_on _ _ c.from_residual.result c.from_residual.ensures.1 (here_refused _ _ _ c.in_err-replayed_here.field-0.0 c.in_err-replayed_here.ensures.outcome)
 
 pub returns-in_err-replayed_here-clause-refused : goal.returns-in_err-replayed_here-clause-refused
 returns-in_err-replayed_here-clause-refused c are within =
     let all = ends c.docs_are_documents.ensures c.replicas_converge.ensures.replicas c.args.start.now c.args.here.now c.args.there.now are in
-    handed_on _ c.from_residual.result c.from_residual.ensures.1 (ap converge_fault_of_list (all.at_here.replays c.in_err-replayed_here.field-0.0 c.in_err-replayed_here.ensures.outcome))
+    handed_on _ _ c.from_residual.result c.from_residual.ensures.1 (ap converge_fault_of_list (all.at_here.replays c.in_err-replayed_here.field-0.0 c.in_err-replayed_here.ensures.outcome))
 
 pub returns-in_err-replayed_there-clause-calls : goal.returns-in_err-replayed_there-clause-calls
 returns-in_err-replayed_there-clause-calls c =
     let fine = compatible c.docs_are_documents.ensures c.outcome_exists.ensures c.args.start.now c.args.here.now c.in_ok-replayed_here.was c.replay.ensures.outcome in
-    refused_by _ _ c.from_residual-in_err-replayed_there.result c.from_residual-in_err-replayed_there.ensures.1
+    handed_on _ _ c.from_residual-in_err-replayed_there.result c.from_residual-in_err-replayed_there.ensures.1
     (there_refused _ _ _ c.in_err-replayed_there.field-0.0 fine c.in_err-replayed_there.ensures.outcome)
 
 pub returns-in_err-replayed_there-clause-refused : goal.returns-in_err-replayed_there-clause-refused
 returns-in_err-replayed_there-clause-refused c are within =
     let all = ends c.docs_are_documents.ensures c.replicas_converge.ensures.replicas c.args.start.now c.args.here.now c.args.there.now are in
-    handed_on _ c.from_residual-in_err-replayed_there.result c.from_residual-in_err-replayed_there.ensures.1
+    handed_on _ _ c.from_residual-in_err-replayed_there.result c.from_residual-in_err-replayed_there.ensures.1
     (ap converge_fault_of_list (all.at_there.replays c.in_err-replayed_there.field-0.0 c.in_err-replayed_there.ensures.outcome))
 
 pub returns-in_err-joined_here-clause-calls : goal.returns-in_err-joined_here-clause-calls
 returns-in_err-joined_here-clause-calls c =
     let fine = compatible c.docs_are_documents.ensures c.outcome_exists.ensures c.args.start.now c.args.here.now c.in_ok-replayed_here.was c.replay.ensures.outcome in
     let good = compatible c.docs_are_documents.ensures c.outcome_exists.ensures c.args.start.now c.args.there.now c.in_ok-replayed_there.was c.replay-2.ensures.outcome in
-    refused_by _ _ c.from_residual-in_err-joined_here.result c.from_residual-in_err-joined_here.ensures.1
+    handed_on _ _ c.from_residual-in_err-joined_here.result c.from_residual-in_err-joined_here.ensures.1
     (join_refused _ _ _ c.in_err-joined_here.field-0.0 fine good c.in_err-joined_here.ensures.joined)
 
 pub returns-in_err-joined_here-clause-refused : goal.returns-in_err-joined_here-clause-refused
 returns-in_err-joined_here-clause-refused c are within =
     let all = ends c.docs_are_documents.ensures c.replicas_converge.ensures.replicas c.args.start.now c.args.here.now c.args.there.now are in
-    handed_on _ c.from_residual-in_err-joined_here.result c.from_residual-in_err-joined_here.ensures.1
+    handed_on _ _ c.from_residual-in_err-joined_here.result c.from_residual-in_err-joined_here.ensures.1
     (ap converge_fault_of_list (all.at_here.joins c.in_err-joined_here.field-0.0 c.in_err-joined_here.ensures.joined))
 
 pub returns-in_err-joined_there-clause-calls : goal.returns-in_err-joined_there-clause-calls
 returns-in_err-joined_there-clause-calls c =
     let fine = compatible c.docs_are_documents.ensures c.outcome_exists.ensures c.args.start.now c.args.here.now c.in_ok-replayed_here.was c.replay.ensures.outcome in
     let good = compatible c.docs_are_documents.ensures c.outcome_exists.ensures c.args.start.now c.args.there.now c.in_ok-replayed_there.was c.replay-2.ensures.outcome in
-    refused_by _ _ c.from_residual-in_err-joined_there.result c.from_residual-in_err-joined_there.ensures.1
+    handed_on _ _ c.from_residual-in_err-joined_there.result c.from_residual-in_err-joined_there.ensures.1
     (other_refused _ _ _ c.in_err-joined_there.field-0.0 fine good c.in_err-joined_there.ensures.joined)
 
 pub returns-in_err-joined_there-clause-refused : goal.returns-in_err-joined_there-clause-refused
 returns-in_err-joined_there-clause-refused c are within =
     let all = ends c.docs_are_documents.ensures c.replicas_converge.ensures.replicas c.args.start.now c.args.here.now c.args.there.now are in
-    handed_on _ c.from_residual-in_err-joined_there.result c.from_residual-in_err-joined_there.ensures.1
+    handed_on _ _ c.from_residual-in_err-joined_there.result c.from_residual-in_err-joined_there.ensures.1
     (ap converge_fault_of_list (all.at_there.joins c.in_err-joined_there.field-0.0 c.in_err-joined_there.ensures.joined))
 
 pub returns-in_err-patched-clause-calls : goal.returns-in_err-patched-clause-calls
 returns-in_err-patched-clause-calls c =
     let is = MatchResult-at_ok _ _ c.in_ok-joined_here.joined_here c.in_ok-joined_here.was c.join_all.ensures.joined in
     let was = MatchResult-at_ok _ _ c.in_ok-joined_there.joined_there c.in_ok-joined_there.was c.join_all-2.ensures.joined in
-    refused_by _ _ c.from_residual-in_err-patched.result c.from_residual-in_err-patched.ensures.1
+    handed_on _ _ c.from_residual-in_err-patched.result c.from_residual-in_err-patched.ensures.1
     (patch_refused _ _ _ c.in_err-patched.field-0.0 _ _ _ (c.docs_are_documents.ensures c.in_ok-joined_here.joined_here).0
     (c.docs_are_documents.ensures c.in_ok-joined_there.joined_there).0 is was c.in_ok-edits.ensures.rewriting c.in_err-patched.ensures.runs)
 
@@ -190,7 +180,7 @@ returns-in_err-patched-clause-refused c are within =
     let all = ends c.docs_are_documents.ensures c.replicas_converge.ensures.replicas c.args.start.now c.args.here.now c.args.there.now are in
     let joined = join_is all.at_here c.docs_are_documents.ensures c.in_ok-joined_here.was c.join_all.ensures.joined in
     let leads = all.leads within c.one_rewriting.ensures _ _ joined c.in_ok-edits.ensures.rewriting in
-    handed_on _ c.from_residual-in_err-patched.result c.from_residual-in_err-patched.ensures.1 (patch_fault leads c.in_err-patched.field-0.0 c.in_err-patched.ensures.runs)
+    handed_on _ _ c.from_residual-in_err-patched.result c.from_residual-in_err-patched.ensures.1 (patch_fault leads c.in_err-patched.field-0.0 c.in_err-patched.ensures.runs)
 
 pub returns : goal.returns
 returns c =

@@ -1,7 +1,6 @@
 use Rattle.std.proofs.Common.{string_bytes}
 use Rattle.mp_tree.specs.Values.{value_document}
 use Rattle.mp_patch.specs.View.{value_operations}
-use Rattle.mp_texts.proofs.Patched.{patched_readable}
 use Rattle.mp_texts.proofs.Readings.{text_written}
 use Rattle.mp_texts.proofs.documents.patch_text.Goals as goal
 
@@ -16,7 +15,8 @@ returns c =
     let readable = c.readings_are_documents.ensures.document in
     let forms = c.in_ok-operations.ensures in
     let runs = c.in_ok-patched.ensures.runs in
-    let good = patched_readable c.run_laws.ensures d form end operations (readable c.args.document.now d c.in_ok-doc.ensures) (readable c.args.json_patch.now form c.in_ok-form.ensures) forms runs in
+    let writable = c.forms_are_writable.ensures form operations (readable c.args.json_patch.now form c.in_ok-form.ensures) forms in
+    let good = c.runs_are_readable.ensures d end operations (readable c.args.document.now d c.in_ok-doc.ensures) writable runs in
     record {
       from = d;
       document_read = c.in_ok-doc.ensures;

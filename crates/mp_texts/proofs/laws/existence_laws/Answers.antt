@@ -3,7 +3,10 @@ use Rattle.mp_texts.proofs.laws.existence_laws.Goals as goal
 pub returns : goal.returns
 returns c = record {
   joins = c.join_laws.ensures;
-  runs = c.run_laws.ensures;
+  run_documents = c.forms_have_documents.ensures;
+  runs_or_refused = c.runs_or_is_refused.ensures;
+  writable_forms = c.forms_are_writable.ensures;
+  readable_runs = c.runs_are_readable.ensures;
   spelled_or_faulty = c.spells_or_is_faulty.ensures;
   readable_parts = c.parts_are_readable.ensures;
   form_or_faulty = c.is_form_or_faulty.ensures;

@@ -2,7 +2,8 @@ use Rattle.std.proofs.Common.{map}
 use Rattle.mp_tree.specs.Values.{value_document}
 use Rattle.mp_texts.specs.Private.Unread.{IsPatchesFault}
 use Rattle.mp_texts.specs.Texts.{AreRead, given}
-use Rattle.mp_texts.proofs.Unread.{given_at, handed_on, next_read, unread_at}
+use Rattle.mp_pointer.proofs.Facts.{handed_on}
+use Rattle.mp_texts.proofs.Unread.{given_at, next_read, unread_at}
 use Rattle.mp_texts.proofs.reading.read_patch_values.Goals as goal
 
 pub loop-number-preserved : goal.loop-number-preserved

@@ -4,7 +4,7 @@ use Rattle.mp_merge.specs.Outcome.{IsOutcome}
 use Rattle.library_example.specs.PatchLog.{HaveArrived, IsDecideFault, epoch_of_log, stored_in, stored_of, start_of_log}
 use Rattle.library_example.specs.Private.PatchLogs.{ArePicked}
 use Rattle.library_example.proofs.Chosen.{fault_of_end, picked_are_chosen}
-use Rattle.library_example.proofs.Kept.{handed_on}
+use Rattle.mp_pointer.proofs.Facts.{handed_on}
 use Rattle.library_example.proofs.patch_log.PatchLog.decide.Goals as goal
 
 pub returns-in_err-start-clause-refused : goal.returns-in_err-start-clause-refused
@@ -16,7 +16,7 @@ returns-in_err-start-clause-refused c =
     let here = subst (λ ks. ArePicked (stored_in ks) chosen c.in_ok-identities.identities.items (map document c.in_ok-identities.patches.items)) c.as_slice-2.ensures.value c.in_ok-identities.ensures in
     let there = subst (λ ids. ArePicked (stored_of log) chosen ids (map document c.in_ok-identities.patches.items)) (sym c.as_slice-3.ensures.value) here in
     let are = subst (λ ds. ArePicked (stored_of log) chosen identities (map document ds)) (sym c.as_slice-4.ensures.value) there in
-    handed_on (λ fault. IsDecideFault fault log chosen) c.from_residual-in_err-start.result c.from_residual-in_err-start.ensures.1
+    handed_on _ (λ fault. IsDecideFault fault log chosen) c.from_residual-in_err-start.result c.from_residual-in_err-start.ensures.1
     (fault_of_end log chosen identities (map document patches) are c.in_err-start.field-0.0 c.in_err-start.ensures)
 
 pub returns-clause-begins : goal.returns-clause-begins

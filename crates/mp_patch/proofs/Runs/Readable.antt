@@ -1,22 +1,22 @@
--- What a JSON Patch that can be read leads to can be read: it keeps what holds of each number, text and name.
-use Rattle.std.proofs.Common.{◌≡◌, ◌≢◌, ◌⊎◌, ℕ, ℤ, suc, Bool, true, false, cond, List, [], ◌∷◌, ◌++◌, Option, None, Some, IfSome, option_and_then, IsUtf8, codes, inl, inr, refl, sym, ap, ◌∙◌, subst}
-use Rattle.std.proofs.lemmas.List.Elements.{All-contains, All-cons, All-nil, Contains-append_right}
+-- What operations that can be written lead to can be read: each keeps what holds of each number, text and name.
+use Rattle.std.proofs.Common.{◌≡◌, ◌⊎◌, ℕ, ℤ, suc, Bool, true, false, cond, List, [], ◌∷◌, ◌++◌, Option, None, Some, IfSome, option_and_then, IsUtf8, inl, inr, refl, sym, ap, ◌∙◌, subst}
+use Rattle.std.proofs.lemmas.List.Elements.{All-contains, All-cons, All-head, All-nil, All-tail, Contains-append_right}
 use Rattle.std.specs.List.{All, Contains}
 use Rattle.std.specs.Prelude.{⊤}
 use Rattle.std.specs.Str.{bytes_eq}
-use Rattle.mp_tree.specs.Document.{Document, null, flag, whole, string, list, object, Items, no_items, item, Members, no_members, member, find, IsDocument, AreDocuments, IsMap, IsReadable, IsWhole, Throughout, ThroughoutItems, ThroughoutMembers}
+use Rattle.mp_tree.specs.Document.{Document, null, flag, whole, string, list, object, Items, no_items, item, Members, no_members, member, find, IsDocument, AreDocuments, IsMap, IsWhole, Throughout, ThroughoutItems, ThroughoutMembers}
 use Rattle.mp_tree.specs.Elements.{append, nth}
 use Rattle.mp_tree.proofs.Facts.{Contains-head, Throughout-find, Throughout-put, Throughout-without, cases_same, decide_name, find-below, is_name-self}
 use Rattle.mp_pointer.specs.Difference.{DifferOnlyAt, Kind, absent, scalar, names, array_of, kind, kind_of, names_of}
 use Rattle.mp_pointer.specs.Part.{child, element_from, numeral, part}
-use Rattle.mp_pointer.specs.Spelling.{BeginsWith, Tokens, spell}
+use Rattle.mp_pointer.specs.Spelling.{BeginsWith, Tokens}
 use Rattle.mp_pointer.proofs.Facts.{child-numeral, child-object}
-use Rattle.mp_patch.specs.Form.{AreForms, Carries, EachForm, needed_members}
-use Rattle.mp_patch.specs.Laws.{HasOneEnd, OperationsAreTaken, RunsOrIsRefused, RunsUnrefused}
+use Rattle.mp_patch.specs.Laws.{RunsAreReadable}
 use Rattle.mp_patch.specs.Operation.{Operation, add, remove, replace, move, copy, test, AddsTo, to_map, to_list, RemovesFrom, from_map, from_list, ChangesContainer, HasDocument, HaveDocuments, Step}
-use Rattle.mp_patch.specs.Run.{IsRefused, Runs}
-use Rattle.mp_texts.specs.Private.LawsBelow.{RunLaws}
-use Rattle.mp_texts.proofs.SpelledTexts.{tokens_are_texts}
+use Rattle.mp_patch.specs.Run.{Runs}
+use Rattle.mp_patch.specs.Writable.{IsWritable}
+use Rattle.mp_patch.proofs.Operations.Documents.{Removes-document}
+use Rattle.mp_patch.proofs.Runs.Laws.{Step-document, stays_shallow}
 
 -- ---- lists of tokens that begin with another, and parts at further tokens
 
@@ -169,100 +169,82 @@ module _ (N : ℤ → Type 0) (S : List ℕ → Type 0) where
 
   -- ---- operations
 
-  abbrev IsGoodOperation : Operation → Type 0
-  IsGoodOperation (add t v) = All S t × Throughout N S v
-  IsGoodOperation (remove t) = All S t
-  IsGoodOperation (replace t v) = Throughout N S v
-  IsGoodOperation (move f t) = All S f × All S t
-  IsGoodOperation (copy f t) = All S t
-  IsGoodOperation (test t v) = ⊤
+  abbrev Keeps : Operation → Type 0
+  Keeps (add t v) = All S t × Throughout N S v
+  Keeps (remove t) = All S t
+  Keeps (replace t v) = Throughout N S v
+  Keeps (move f t) = All S f × All S t
+  Keeps (copy f t) = All S t
+  Keeps (test t v) = ⊤
 
-  abbrev AreGoodOperations : List Operation → Type 0
-  AreGoodOperations [] = ⊤
-  AreGoodOperations (o ∷ operations) = IsGoodOperation o × AreGoodOperations operations
+  added_at : (t : Tokens) (x d e : Document) → IsDocument e → All S t → Throughout N S x → Throughout N S d → Step d (add t x) e → Throughout N S e
+  added_at t x d e fine tokens value all (inl (root, is)) = subst (Throughout N S) (sym is) value
+  added_at t x d e fine tokens value all (inr change) = container_good (AddsTo x) (λ token y z. added_good x token y z value) t d e fine tokens all change
 
-  -- ---- the laws of JSON Patches by which what it leads to is a document
+  step_good : (d : Document) (o : Operation) (e : Document) → IsDocument d → IsDocument e → Keeps o → Throughout N S d → Step d o e → Throughout N S e
+  step_good d (add t v) e good fine (tokens, value) all step = added_at t v d e fine tokens value all step
+  step_good d (remove t) e good fine tokens all change = container_good RemovesFrom removed_good t d e fine tokens all change
+  step_good d (replace t v) e good fine value all step = changed_good t d e v fine all step.2 step.1 value
+  step_good d (move f t) e good fine tokens all (x, is, inl (same, stays)) = subst (Throughout N S) (sym stays) all
+  step_good d (move f t) e good fine tokens all (x, is, inr (apart, left, removes, adds)) =
+      let between = container_good RemovesFrom removed_good f d left (Removes-document f d left good removes) tokens.0 all removes in
+      added_at t x left e fine tokens.1 (part_good f d x all is) between adds
+  step_good d (copy f t) e good fine tokens all (x, is, step) = added_at t x d e fine tokens (part_good f d x all is) all step
+  step_good d (test t v) e good fine tokens all step = subst (Throughout N S) (sym step.1) all
 
-  module _ (ends : HasOneEnd) (taken : OperationsAreTaken) (runs_or_refused : RunsOrIsRefused) (unrefused : RunsUnrefused) where
-    end_document : (d e : Document) (operations : List Operation) → IsDocument d → HaveDocuments operations → Runs d operations e → IsDocument e
-    end_document d e operations good values runs = elim (runs_or_refused d operations good values) [
-      | inl (f, fine, also) ↦ subst IsDocument (ends d f e operations good values also runs) fine
-      | inr (k, cause, refused) ↦ absurd (unrefused d e operations k cause good values runs refused)
-    ]
+  -- where it holds of what can be written
+  module _ (keeps : (o : Operation) → IsWritable o → Keeps o) where
+    run_good : (d : Document) (operations : List Operation) (e : Document) → IsDocument d → HaveDocuments operations → All IsWritable operations → Throughout N S d → Runs d operations e → Throughout N S e
+    run_good d [] e good values can all runs = subst (Throughout N S) (sym runs) all
+    run_good d (o ∷ operations) e good values can all (free, m, step, rest) =
+        let fine = Step-document d o m good values.0 step in
+        run_good m operations e fine values.1 (All-tail IsWritable o operations can) (step_good d o m good fine (keeps o (All-head IsWritable o operations can)) all step) rest
 
-    step_document : (d : Document) (o : Operation) (e : Document) → IsDocument d → HasDocument o → (IsRefused d o → ⊥) → Step d o e → IsDocument e
-    step_document d o e good value free step = end_document d e (o ∷ []) good (value, tt) (free, e, step, refl)
+-- ---- what can be written
 
-    not_nothing : (t front : Tokens) (token : List ℕ) → t ≡ front ++ token ∷ [] → t ≢ []
-    not_nothing t [] token is none = cc
-    not_nothing t (n ∷ front) token is none = cc
+any_tokens : (t : Tokens) → All (λ s. ⊤) t
+any_tokens [] = All-nil (λ s. ⊤)
+any_tokens (token ∷ t) = All-cons (λ s. ⊤) token t tt (any_tokens t)
 
-    left_document : (d left x : Document) (f : Tokens) → IsDocument d → part d f ≡ Some x → Step d (remove f) left → IsDocument left
-    left_document d left x f good is step =
-        step_document d (remove f) left good tt ((taken d).removes f x is (not_nothing f step.container step.last step.is)) step
+keeps_texts : (o : Operation) → IsWritable o → Keeps (λ z. ⊤) IsUtf8 o
+keeps_texts (add t v) is = (is.0, is.1.has_texts)
+keeps_texts (remove t) is = is
+keeps_texts (replace t v) is = is.1.has_texts
+keeps_texts (move f t) is = is
+keeps_texts (copy f t) is = is.1
+keeps_texts (test t v) is = tt
 
-    step_good : (d : Document) (o : Operation) (e : Document) → IsDocument d → IsDocument e → IsGoodOperation o → Throughout N S d → Step d o e → Throughout N S e
-    step_good d (add t v) e good fine (tokens, value) all (inl (root, is)) = subst (Throughout N S) (sym is) value
-    step_good d (add t v) e good fine (tokens, value) all (inr change) = container_good (AddsTo v) (λ token x y. added_good v token x y value) t d e fine tokens all change
-    step_good d (remove t) e good fine tokens all change = container_good RemovesFrom removed_good t d e fine tokens all change
-    step_good d (replace t v) e good fine value all step = changed_good t d e v fine all step.2 step.1 value
-    step_good d (move f t) e good fine tokens all (x, is, inl (same, stays)) = subst (Throughout N S) (sym stays) all
-    step_good d (move f t) e good fine tokens all (x, is, inr (apart, left, removes, adds)) =
-        let between = container_good RemovesFrom removed_good f d left (left_document d left x f good is removes) tokens.0 all removes in
-        added t x left e fine tokens.1 (part_good f d x all is) between adds
-      where
-        added : (t : Tokens) (x left e : Document) → IsDocument e → All S t → Throughout N S x → Throughout N S left → Step left (add t x) e → Throughout N S e
-        added t x left e fine here value between (inl (root, is)) = subst (Throughout N S) (sym is) value
-        added t x left e fine here value between (inr change) = container_good (AddsTo x) (λ token y z. added_good x token y z value) t left e fine here between change
-    step_good d (copy f t) e good fine tokens all (x, is, inl (root, same)) = subst (Throughout N S) (sym same) (part_good f d x all is)
-    step_good d (copy f t) e good fine tokens all (x, is, inr change) = container_good (AddsTo x) (λ token y z. added_good x token y z (part_good f d x all is)) t d e fine tokens all change
-    step_good d (test t v) e good fine tokens all step = subst (Throughout N S) (sym step.1) all
+keeps_numbers : (o : Operation) → IsWritable o → Keeps IsWhole (λ s. ⊤) o
+keeps_numbers (add t v) is = (any_tokens t, is.1.in_range)
+keeps_numbers (remove t) is = any_tokens t
+keeps_numbers (replace t v) is = is.1.in_range
+keeps_numbers (move f t) is = (any_tokens f, any_tokens t)
+keeps_numbers (copy f t) is = any_tokens t
+keeps_numbers (test t v) is = tt
 
-    run_good : (d : Document) (operations : List Operation) (e : Document) → IsDocument d → HaveDocuments operations → AreGoodOperations operations → Throughout N S d → Runs d operations e → Throughout N S e
-    run_good d [] e good values goods all runs = subst (Throughout N S) (sym runs) all
-    run_good d (o ∷ operations) e good values goods all (free, m, step, rest) =
-        let fine = step_document d o m good values.0 free step in
-        run_good m operations e fine values.1 goods.1 (step_good d o m good fine goods.0 all step) rest
+value_document : (o : Operation) → IsWritable o → HasDocument o
+value_document (add t v) is = is.1.is_document
+value_document (remove t) is = tt
+value_document (replace t v) is = is.1.is_document
+value_document (move f t) is = tt
+value_document (copy f t) is = tt
+value_document (test t v) is = is.1.is_document
 
-  -- ---- the operations that a form has
+value_documents : (operations : List Operation) → All IsWritable operations → HaveDocuments operations
+value_documents [] can = tt
+value_documents (o ∷ operations) can = (value_document o (All-head IsWritable o operations can), value_documents operations (All-tail IsWritable o operations can))
 
-  module _ (spelled : (t : Tokens) → S (spell t) → All S t) where
-    member_good : (n : List ℕ) (ms : Members) (x : Document) → ThroughoutMembers N S ms → find n ms ≡ Some x → Throughout N S x
-    member_good n ms x all is = subst (λ (o : Option Document). IfSome o (Throughout N S)) is (Throughout-find N S n ms all)
-
-    tokens_good : (n : List ℕ) (ms : Members) (t : Tokens) → ThroughoutMembers N S ms → find n ms ≡ Some (string (spell t)) → All S t
-    tokens_good n ms t all is = spelled t (member_good n ms (string (spell t)) all is)
-
-    operation_good : (ms : Members) (o : Operation) → ThroughoutMembers N S ms → Carries ms (needed_members o) → IsGoodOperation o
-    operation_good ms (add t v) all carries = (tokens_good (codes "path") ms t all carries.1.0, member_good (codes "value") ms v all carries.1.1.0)
-    operation_good ms (remove t) all carries = tokens_good (codes "path") ms t all carries.1.0
-    operation_good ms (replace t v) all carries = member_good (codes "value") ms v all carries.1.1.0
-    operation_good ms (move f t) all carries = (tokens_good (codes "from") ms f all carries.1.1.0, tokens_good (codes "path") ms t all carries.1.0)
-    operation_good ms (copy f t) all carries = tokens_good (codes "path") ms t all carries.1.0
-    operation_good ms (test t v) all carries = tt
-
-    operations_good : (ds : Items) (operations : List Operation) → ThroughoutItems N S ds → EachForm ds operations → AreGoodOperations operations
-    operations_good no_items [] all forms = tt
-    operations_good no_items (o ∷ operations) all forms = absurd forms
-    operations_good (item d ds) [] all forms = absurd forms
-    operations_good (item d ds) (o ∷ operations) all ((ms, is, carries), rest) =
-        (operation_good ms o (subst (Throughout N S) is all.0) carries, operations_good ds operations all.1 rest)
-
-    forms_good : (form : Document) (operations : List Operation) → Throughout N S form → AreForms form operations → AreGoodOperations operations
-    forms_good form operations all (ds, is, forms) = operations_good ds operations (subst (Throughout N S) is all) forms
-
-any_tokens : (t : Tokens) → ⊤ → All (λ s. ⊤) t
-any_tokens [] any = All-nil (λ s. ⊤)
-any_tokens (token ∷ t) any = All-cons (λ s. ⊤) token t tt (any_tokens t tt)
-
-pub patched_readable : RunLaws → (d form e : Document) (operations : List Operation) → IsReadable d → IsReadable form → AreForms form operations → Runs d operations e → IsReadable e
-patched_readable laws d form e operations good fine forms runs =
-    let values = laws.documents form operations fine.is_document forms in
-    let T = λ (z : ℤ). ⊤ in
-    let A = λ (s : List ℕ). ⊤ in
+pub runs_are_readable : RunsAreReadable
+runs_are_readable d e operations good can runs =
+    let values = value_documents operations can in
+    let shallow = stays_shallow d e operations good.is_document values runs good.within in
     record {
-      is_document = end_document T IsUtf8 laws.one_end laws.taken laws.runs_or_refused laws.unrefused d e operations good.is_document values runs;
-      has_texts = run_good T IsUtf8 laws.one_end laws.taken laws.runs_or_refused laws.unrefused d operations e good.is_document values (forms_good T IsUtf8 tokens_are_texts form operations fine.has_texts forms) good.has_texts runs;
-      in_range = run_good IsWhole A laws.one_end laws.taken laws.runs_or_refused laws.unrefused d operations e good.is_document values (forms_good IsWhole A any_tokens form operations fine.in_range forms) good.in_range runs;
-      within = laws.shallow d e operations good.is_document values runs good.within;
+      is_document = run_document d operations e good.is_document values runs;
+      has_texts = run_good (λ z. ⊤) IsUtf8 keeps_texts d operations e good.is_document values can good.has_texts runs;
+      in_range = run_good IsWhole (λ s. ⊤) keeps_numbers d operations e good.is_document values can good.in_range runs;
+      within = shallow;
     }
+  where
+    run_document : (d : Document) (operations : List Operation) (e : Document) → IsDocument d → HaveDocuments operations → Runs d operations e → IsDocument e
+    run_document d [] e good values runs = subst IsDocument (sym runs) good
+    run_document d (o ∷ operations) e good values (free, m, step, rest) = run_document m operations e (Step-document d o m good values.0 step) values.1 rest

@@ -6,6 +6,7 @@ use Rattle.std.proofs.lemmas.Str.{IsUtf8-append, IsUtf8-drop, IsUtf8-take, IsCha
 use Rattle.std.specs.List.{All}
 use Rattle.mp_tree.proofs.Facts.{IsUtf8-ascii}
 use Rattle.mp_pointer.specs.Bytes.{slash, tilde}
+use Rattle.mp_pointer.specs.Laws.{TokensAreTexts}
 use Rattle.mp_pointer.specs.Spelling.{Tokens, escape, spell}
 
 -- ---- a text cut at an ASCII byte
@@ -78,6 +79,6 @@ tokens_after token (u ∷ t) utf8 =
     let cut = cut_ascii (escape token) slash (escape u ++ spell t) (omega arith) utf8 in
     All-cons IsUtf8 token (u ∷ t) (token_text token cut.0) (tokens_after u t cut.1)
 
-pub tokens_are_texts : (t : Tokens) → IsUtf8 (spell t) → All IsUtf8 t
+pub tokens_are_texts : TokensAreTexts
 tokens_are_texts [] utf8 = All-nil IsUtf8
 tokens_are_texts (token ∷ t) utf8 = tokens_after token t (cut_ascii [] slash (escape token ++ spell t) (omega arith) utf8).1
