@@ -50,6 +50,8 @@ read failed, write failed, or out of memory.
 .PP
 If the status is not 0, standard error says why, in one line unless the arguments are wrong,
 and nothing is on standard output. Patches and operations are numbered from 0, the document not counted.
+.BR mergejoin\\-locate (1)
+shows in which file a refusal arose, and where. REFUSALS.md in share/doc/mergejoin explains each line.
 .SH NOTES
 At a terminal the program prints nothing and waits for its input, which ends with Ctrl\\-D.
 The text about wrong arguments shows an argument as it was given, with its control bytes; no other text has any.
