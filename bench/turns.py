@@ -105,7 +105,7 @@ def main():
     if faults:
         sys.exit(f"bench: {faults[0]}")
     print(f"medians of {TURNS} turns, with the least and the most, seed {seed}\n")
-    print("| workload | seconds at the start | seconds now | start over now |")
+    print("| workload | seconds of OLD | seconds of NEW | OLD over NEW |")
     print("| --- | ---: | ---: | ---: |", flush=True)
     for name, crate, words in workloads():
         old, new = timed(checkouts, name, crate, [seed if word == "SEED" else word for word in words])

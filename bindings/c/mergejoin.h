@@ -5,6 +5,10 @@
  * returns a mergejoin_reply by value. It keeps nothing: there is no handle, no global state and no callback, and any
  * number of threads may call at once.
  *
+ * A short text can take all memory: a JSON Patch doubles a document with each copy, and two patches may conflict at very
+ * many places. No function takes a limit. So call them with the texts of strangers in a process of its own, under a limit of
+ * its memory (ulimit -d, a cgroup), and pass no JSON Patch with more than a few copies.
+ *
  * What each of the six
  *
  *   reads    the texts it is given, as UTF-8 bytes without a terminating 0, while it runs and no longer; of any length. They
@@ -15,9 +19,9 @@
  *            reply and the same text. A capacity of 0 asks for the length alone. The buffer may not overlap what is read.
  *   owns     nothing when it returns. Meanwhile it takes memory by malloc and realloc, and gives it back by free: for each
  *            byte that is read mostly 10 to 100 bytes at the peak, up to 170 for many small patches that nest objects, and
- *            never more than 360; and in addition what the answer takes. For n bytes that are read, the places of a conflict
- *            and the edits of a rewriting may have n * n / 15 bytes, and a JSON Patch may double a document with each copy:
- *            bound the texts of strangers. If malloc or realloc fails, the status is MERGEJOIN_NO_MEMORY.
+ *            never more than 360; and in addition what copies and the answer take. For n bytes that are read, the places of a
+ *            conflict and the edits of a rewriting may have n * n / 15 bytes. If malloc or realloc fails, the status is
+ *            MERGEJOIN_NO_MEMORY.
  *   needs    256 KiB of stack: the deepest documents take up to 176 KiB of them.
  *
  * No pointer may be null, even if its length, count or capacity is 0. No length is more than PTRDIFF_MAX. No function may be
@@ -52,8 +56,8 @@ enum mergejoin_status {
   MERGEJOIN_REFUSED = 3,
   /* "missing": the document has no part there. */
   MERGEJOIN_MISSING = 4,
-  /* The document, or the start, is not one: "not JSON", "number not whole" (whole numbers from -2^63 to 2^64 - 1 are) or "too
-   * deep" (126 levels are not). */
+  /* The document, or the start, is not one: "not JSON", "number not whole" (a document has whole numbers from -2^63 to
+   * 2^64 - 1) or "too deep" (a document has at most 126 levels). */
   MERGEJOIN_DOCUMENT = 5,
   /* The patch of number `first` is not a document, by the same words; the number of a single patch is 0. */
   MERGEJOIN_PATCH = 6,

@@ -28,8 +28,11 @@ of their UTF-8 bytes. Numbers are whole, from -2**63 to 2**64 - 1; a text with a
 join(), replay(), merge(), rewrite(), patch() and get() are those of the shared library in this package, whose answers are
 proved; the package itself is tested alone. A call gives up the interpreter's lock while it runs, can't be cancelled, and needs
 256 KiB of stack, which threading.stack_size() should leave. It takes mostly 10 to 100 bytes of memory for each byte that it
-reads, and never more than 360 in addition to what the answer takes. A JSON Patch may double a document with each copy: bound the texts
-of strangers.
+reads, and never more than 360 in addition to what copies and the answer take.
+
+A short text can take all memory: a JSON Patch doubles a document with each copy, and two patches may conflict at very many places. No
+call takes a limit. So pass the texts of strangers in a process of its own, under ulimit -d or in a cgroup, and no JSON Patch with
+more than a few copies.
 """
 
 from . import objects
