@@ -53,5 +53,5 @@ class Header(unittest.TestCase):
             self.assertEqual(function.__name__, f"mergejoin_{name}")
 
     def test_depth(self):
-        levels = int(re.search(r'"too\s*\**\s*deep" \((\d+) levels', HEADER)[1])
+        levels = int(re.search(r'"too deep" \(a document has at most (\d+) levels\)', HEADER)[1])
         self.assertEqual(mergejoin.objects._DEEPEST, levels)

@@ -88,7 +88,7 @@ class InputError(MergejoinError, ValueError):
     what is "document", "patch" or "pointer". number is that of the patch, and of a pointer the offset in bytes at which it
     goes wrong; of a document it is 0.
 
-    why is "not JSON", "number not whole" (whole numbers from -2**63 to 2**64 - 1 are) or "too deep" (126 levels are not); of
+    why is "not JSON", "number not whole" (a text has whole numbers from -2**63 to 2**64 - 1) or "too deep" (it has at most 126 levels); of
     a pointer it is "no slash", "bad tilde" or "not UTF-8".
 
     place is the JSON Pointer of the value that is wrong, if mergejoin.objects found it before the call, and else None. Then
