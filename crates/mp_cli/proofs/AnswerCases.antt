@@ -1,13 +1,14 @@
 -- What the commands over lists of patches answer.
 use Rattle.std.proofs.Common.{◌≡◌, ◌≢◌, ℕ, List, [], ◌∷◌, Some, map, refl, sym, subst}
 use Rattle.mp_tree.specs.Document.{Document}
+use Rattle.mp_tree.specs.Private.Entries.{items_by}
 use Rattle.mp_merge.specs.Lists.{IsJoinAllFault, IsReplayFault}
 use Rattle.mp_merge.specs.declared.fault.ListFault.{ListFault}
 use Rattle.mp_merge.specs.declared.fault.ListFault.TheVariants.{NoPatches, ConflictOf, OutOfMemory}
 use Rattle.mp_cli.specs.Answered.{IsJoinAnswer, none_joined, join_refused, IsReplayAnswer, replay_refused, IsPatchAnswerTo, IsReplayAnswerTo, IsRewriteAnswerTo, IsGetAnswerTo, IsPartAnswer}
 use Rattle.mp_cli.specs.Lines.{Output, wrong_shape}
 use Rattle.mp_cli.specs.Private.Answers.{list_fault}
-use Rattle.mp_tree.proofs.Facts.{items_by, list_of-by}
+use Rattle.mp_tree.proofs.Facts.{list_of-by}
 
 pub no_join : (fault : ListFault) (patches : List Document) (a : Output) → IsJoinAllFault fault patches → list_fault fault ≡ Some a → IsJoinAnswer patches a
 no_join NoPatches patches a none is = none_joined none (cc)

@@ -11,6 +11,7 @@ pub mod laws;
 // Public, since a proof by hand in mp_pointer names the contracts of its functions.
 pub mod borrowing;
 mod measuring;
+mod node;
 mod reading;
 mod serializing;
 mod trimming;
@@ -25,6 +26,7 @@ mod writing;
 pub use borrowing::{items_mut, members_mut};
 pub use doc::Doc;
 pub use fault::{DocsFault, ReadFault};
+pub use node::Node;
 pub use reading::{DEPTH_LIMIT, read_doc, read_docs};
 pub use values::{
     copy_to_doc, copy_value, read_value, read_values, same_value, value_items_mut,

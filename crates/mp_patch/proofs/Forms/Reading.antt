@@ -2,6 +2,7 @@
 use Rattle.std.proofs.Common.{◌≡◌, ◌≢◌, ◌⊎◌, inl, inr, ◌∷◌, ◌++◌, ℕ, List, [], length, map, None, Some, option_and_then, suc, append_assoc, append-nil, Result, Ok, Err, MatchResult, refl, sym, ap, ◌∙◌, subst, arith, codes}
 use Rattle.std.proofs.lemmas.List.{map-append}
 use Rattle.mp_tree.specs.Document.{Document, object, list, Members}
+use Rattle.mp_tree.specs.Private.Entries.{items_by}
 use Rattle.mp_pointer.specs.Spelling.{Tokens, spell, IsPointerFault}
 use Rattle.mp_pointer.specs.declared.fault.PointerFault.{PointerFault}
 use Rattle.mp_pointer.proofs.Facts.{spellings_have_no_fault}
@@ -14,7 +15,7 @@ use Rattle.mp_patch.specs.declared.fault.FormCause.TheVariants.{NotAnObject, NoO
 use Rattle.mp_patch.specs.declared.fault.Refusal.{Refusal}
 use Rattle.mp_patch.specs.declared.fault.Refusal.TheVariants.{By, OutOfMemory}
 use Rattle.mp_patch.proofs.Forms.Needs.{one_need, value_or_origin}
-use Rattle.mp_tree.proofs.Facts.{count_of-items-by, items-append-by, items_by, same_some, some_none}
+use Rattle.mp_tree.proofs.Facts.{count_of-items-by, items-append-by, same_some, some_none}
 
 -- ---- reading
 

@@ -3,11 +3,11 @@ use Rattle.std.proofs.Common.{◌≡◌, ◌≢◌, ◌<◌, ◌≤◌, ◌+◌,
 use Rattle.std.proofs.lemmas.List.{take-append-drop, drop_more, length-take-le}
 use Rattle.mp_tree.specs.Document.{Document, list, object, find, put, without, depth, depth_limit}
 use Rattle.mp_tree.specs.View.{document}
-use Rattle.mp_tree.specs.Private.Entries.{members, members_by}
+use Rattle.mp_tree.specs.Private.Entries.{items_by, members, members_by}
 use Rattle.mp_tree.specs.declared.doc.Doc
 use Rattle.mp_tree.specs.declared.doc.Doc.{Doc}
 use Rattle.mp_tree.specs.Elements.{count_of}
-use Rattle.mp_tree.proofs.Facts.{document-Items, document-Members, count_of-items-by, items_by, nth-here-by, items-append-by}
+use Rattle.mp_tree.proofs.Facts.{document-Items, document-Members, count_of-items-by, nth-here-by, items-append-by}
 use Rattle.mp_pointer.specs.Difference.{DifferOnlyAt}
 use Rattle.mp_pointer.specs.Part.{part, child, numeral}
 use Rattle.mp_pointer.specs.Spelling.{Tokens}

@@ -4,11 +4,11 @@ use Rattle.std.specs.List.Sorted.{IsStrictlySortedBy}
 use Rattle.std.specs.Map.{keys_of, values_of}
 use Rattle.mp_tree.specs.Document.{Document, Members, no_members, member, is_name, find, put, without, depth, items_depth, members_depth}
 use Rattle.mp_tree.specs.View.{document, items}
-use Rattle.mp_tree.specs.Private.Entries.{members, members_by}
+use Rattle.mp_tree.specs.Private.Entries.{items_by, members, members_by}
 use Rattle.mp_tree.specs.declared.doc.Doc.{Doc}
 use Rattle.mp_tree.proofs.Maps.EachMember.{each_after_put, each_after_without}
 use Rattle.mp_tree.proofs.Texts.IntoData.{put-below, IsBelow-by}
-use Rattle.mp_tree.proofs.Documents.Elements.{items_by, items-append-by, depth-append}
+use Rattle.mp_tree.proofs.Documents.Elements.{items-append-by, depth-append}
 
 module _ {V : Type 0} (f : V → Document) where
   pub items_depth_from_each-by : (ds : List V) (n : ℕ) → ((k : ℕ) (d : V) → k < length ds → depth (f (get_or ds k d)) ≤ n) → items_depth (items_by f ds) ≤ n

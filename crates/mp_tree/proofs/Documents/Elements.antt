@@ -4,12 +4,9 @@ use Rattle.std.proofs.lemmas.List.Elements.{All-head, All-tail, All-weaker}
 use Rattle.std.specs.List.{All, slice_get}
 use Rattle.mp_tree.specs.Document.{Document, Items, no_items, item, IsDocument, IsReadable, AreDocuments, items_depth}
 use Rattle.mp_tree.specs.Elements.{append, count_of, items_of, list_of, nth}
+use Rattle.mp_tree.specs.Private.Entries.{items_by}
 use Rattle.mp_tree.specs.View.{document, items}
 use Rattle.mp_tree.specs.declared.doc.Doc.{Doc}
-
--- the elements of a list of values, each value as the document that it means
-abbrev pub items_by : {V : Type 0} → (V → Document) → List V → Items
-items_by f ds = items_of (map f ds)
 
 -- ---- as many, and as a list
 
