@@ -1,6 +1,7 @@
 //! The part of a document that a pointer names (RFC 6901 section 4), read or borrowed for writing.
 ghost use Rattle.std.specs.Prelude.{◌≡◌, ◌≢◌, ◌^◌, ◌≤◌, ◌↔◌, ℕ, IsTrue, slice_index, option_map, MatchOption, string_bytes};
 ghost use Rattle.std.specs.Borrow.{sem};
+ghost use Rattle.mp_tree.specs.Values.{value_document};
 ghost use Rattle.mp_tree.specs.View.{document};
 ghost use Rattle.mp_pointer.specs.Bytes.{digit_one};
 ghost use Rattle.mp_pointer.specs.Borrowing.{BorrowsPart};
@@ -9,7 +10,8 @@ ghost use Rattle.mp_pointer.specs.Private.Digits.{digit_nine};
 
 use crate::borrowing::child_mut;
 use crate::pointer::Pointer;
-use mp_tree::Doc;
+use mp_tree::{Doc, Node};
+use serde_json::Value;
 
 /// The index that a token spells (RFC 6901 section 4): `0`, or decimal digits that do not begin with `0`.
 /// None for any other token, `-` among them, and for an index over `usize::MAX`.
@@ -50,7 +52,31 @@ fn begins_above_zero(token: &str) -> bool
 pub fn get<'a>(doc: &'a Doc, pointer: &Pointer) -> Option<&'a Doc>
     ensures { option_map (λ d. document d.now) result ≡ part (document doc.now) pointer.now }
 {
-    let mut target = doc;
+    part_in(doc, pointer)
+}
+
+/// As `get`, of a value. Takes no memory.
+///
+/// ```text
+/// get_value(&value, &pointer)  // for /foo/1 in {"foo":["bar","baz"]}: "baz"
+/// ```
+pub fn get_value<'a>(value: &'a Value, pointer: &Pointer) -> Option<&'a Value>
+    ensures { option_map (λ v. value_document v.now) result
+        ≡ part (value_document value.now) pointer.now }
+{
+    part_in(value, pointer)
+}
+
+/// As `get`, of any node: the part of what it means that the pointer names, borrowed. None exactly if there is none. It
+/// looks once at each level that the pointer names, and takes no memory.
+///
+/// ```text
+/// part_in(&node, &pointer)  // for /foo/1 in {"foo":["bar","baz"]}: "baz"
+/// ```
+pub fn part_in<'a, T: Node>(node: &'a T, pointer: &Pointer) -> Option<&'a T>
+    ensures { option_map (λ n. T.means n.now) result ≡ part (T.means node.now) pointer.now }
+{
+    let mut target = node;
     for number in 0..pointer.len() {
         target = child_of(target, pointer.token(number).unwrap())?;
     }
@@ -82,12 +108,11 @@ pub fn get_mut<'a>(doc: &'a mut Doc, pointer: &Pointer) -> Option<&'a mut Doc>
     Some(target)
 }
 
-fn child_of<'a>(doc: &'a Doc, token: &str) -> Option<&'a Doc>
-    ensures { option_map (λ d. document d.now) result ≡ child token.now (document doc.now) }
+fn child_of<'a, T: Node>(node: &'a T, token: &str) -> Option<&'a T>
+    ensures { option_map (λ n. T.means n.now) result ≡ child token.now (T.means node.now) }
 {
-    match doc {
-        Doc::Items(elements) => elements.get(index_of(token)?),
-        Doc::Members(entries) => entries.get(token),
-        Doc::Null | Doc::Flag(_) | Doc::Whole(_) | Doc::Text(_) => None,
+    match node.items() {
+        Some(elements) => elements.get(index_of(token)?),
+        None => node.members()?.get(token),
     }
 }

@@ -8,10 +8,8 @@ mod fault;
 pub mod laws;
 mod pointer;
 mod spelling;
-mod value_parts;
 
-pub use editing::edit_part;
-pub use evaluating::{get, get_mut, index_of};
+pub use editing::{edit_part, edit_part_in, edit_value_part};
+pub use evaluating::{get, get_mut, get_value, index_of, part_in};
 pub use fault::PointerFault;
 pub use pointer::Pointer;
-pub use value_parts::{edit_value_part, get_value};

@@ -10,9 +10,8 @@ use Rattle.mp_pointer.specs.Difference.{DifferOnlyAt}
 use Rattle.mp_pointer.specs.Part.{part, child}
 use Rattle.mp_pointer.specs.Spelling.{Tokens}
 use Rattle.mp_pointer.proofs.Parts.Along.{part-push, DifferOnlyAt-root}
-use Rattle.mp_pointer.proofs.Parts.Kinds.{equals_by_part}
 use Rattle.mp_pointer.proofs.Tokens.Lists.{drop_token}
-use Rattle.mp_pointer.proofs.Changes.Written.{becomes_deeper, nothing_changed}
+use Rattle.mp_pointer.proofs.Changes.Written.{becomes_deeper, nothing_changed-by}
 
 -- ---- the tokens from a place on
 
@@ -24,50 +23,16 @@ slice_range-more t number end token here more =
     let count : end - number ≡ suc (end - (number + 1)) = omega arith in
     ap₂ take count (drop_token t number token here)
 
--- ---- a document with one child that was edited
-
-pub edits_here : (Edited : Doc → Doc → Type 0) (t : Tokens) (d e : Doc) → t ≡ [] → Edited d e → EditsAt Edited t d e
-edits_here Edited t d e none edited = record {
-  before = d;
-  after = e;
-  edited = edited;
-  stood = ap (part (document d)) none;
-  stands = ap (part (document e)) none;
-  only = subst (λ s. DifferOnlyAt s (document d) (document e)) (sym none) (DifferOnlyAt-root (document d) (document e));
-}
-
-edits_deeper : (Edited : Doc → Doc → Type 0) (token : List ℕ) (t : Tokens) (d e x y : Doc) → child token (document d) ≡ Some (document x) → PartBecomes (token ∷ []) (document y) (document d) (document e) → EditsAt Edited t x y
-    → EditsAt Edited (token ∷ t) d e
-edits_deeper Edited token t d e x y here outer edits =
-    let both = becomes_deeper (token ∷ []) t (document edits.after) (document y) (document d) (document x) (document e) (part-push (document d) [] token ∙ here) outer (record { stands = edits.stands; only = edits.only }) in
-    record {
-      before = edits.before;
-      after = edits.after;
-      edited = edits.edited;
-      stood = ap (option_and_then (λ f. part f t)) here ∙ edits.stood;
-      stands = both.stands;
-      only = both.only;
-    }
+-- from the first token on
+pub from_first : (t : Tokens) (count : ℕ) → slice_range t 0 count ≡ take count t
+from_first t count = let e : count - 0 ≡ count = omega arith in rw e refl
 
 -- ---- what an edit that may find nothing says one level up
 
 pub part-none : (d : Document) (s t : Tokens) (token : List ℕ) → s ≡ token ∷ t → child token d ≡ None → part d s ≡ None
 part-none d s t token is none = ap (part d) is ∙ ap (option_and_then (λ f. part f t)) none
 
-pub edited_child : {R : Type 0} (Edited : R → Doc → Doc → Type 0) (r : Option R) (token : List ℕ) (s t : Tokens) (d e x y : Doc) → s ≡ token ∷ t → child token (document d) ≡ Some (document x) → PartBecomes (token ∷ []) (document y) (document d) (document e)
-    → MatchOption r ((part (document x) t ≡ None) × (document y ≡ document x)) (λ o. EditsAt (Edited o) t x y)
-    → MatchOption r ((part (document d) s ≡ None) × (document e ≡ document d)) (λ o. EditsAt (Edited o) s d e)
-edited_child Edited None token s t d e x y is here outer edits =
-    (ap (part (document d)) is ∙ ap (option_and_then (λ f. part f t)) here ∙ edits.0, nothing_changed (token ∷ []) d e x y (part-push (document d) [] token ∙ here) outer edits.1)
-edited_child Edited (Some o) token s t d e x y is here outer edits = subst (λ u. EditsAt (Edited o) u d e) (sym is) (edits_deeper (Edited o) token t d e x y here outer edits)
-
--- from the first token on
-pub from_first : (t : Tokens) (count : ℕ) → slice_range t 0 count ≡ take count t
-from_first t count = let e : count - 0 ≡ count = omega arith in rw e refl
-
--- ---- the same of what means a document by f
-
-module _ {V : Type 0} (f : V → Document) (good : (v : V) → IsDocument (f v)) where
+module _ {V : Type 0} (f : V → Document) where
   pub edits_here-by : (Edited : V → V → Type 0) (t : Tokens) (d e : V) → t ≡ [] → Edited d e → EditsBy f Edited t d e
   edits_here-by Edited t d e none edited = record {
     before = d;
@@ -91,12 +56,17 @@ module _ {V : Type 0} (f : V → Document) (good : (v : V) → IsDocument (f v))
         only = both.only;
       }
 
-  unchanged : (s : Tokens) (d e x y : V) → part (f d) s ≡ Some (f x) → PartBecomes s (f y) (f d) (f e) → f y ≡ f x → f e ≡ f d
-  unchanged s d e x y stood made same = sym (equals_by_part s (f d) (f e) (f x) (good d) (good e) made.only stood (made.stands ∙ ap Some same))
-
-  pub edited_child-by : {R : Type 0} (Edited : R → V → V → Type 0) (r : Option R) (token : List ℕ) (s t : Tokens) (d e x y : V) → s ≡ token ∷ t → child token (f d) ≡ Some (f x) → PartBecomes (token ∷ []) (f y) (f d) (f e)
+  pub edited_child-by : (good : (v : V) → IsDocument (f v)) {R : Type 0} (Edited : R → V → V → Type 0) (r : Option R) (token : List ℕ) (s t : Tokens) (d e x y : V) → s ≡ token ∷ t → child token (f d) ≡ Some (f x) → PartBecomes (token ∷ []) (f y) (f d) (f e)
       → MatchOption r ((part (f x) t ≡ None) × (f y ≡ f x)) (λ o. EditsBy f (Edited o) t x y)
       → MatchOption r ((part (f d) s ≡ None) × (f e ≡ f d)) (λ o. EditsBy f (Edited o) s d e)
-  edited_child-by Edited None token s t d e x y is here outer edits =
-      (ap (part (f d)) is ∙ ap (option_and_then (λ g. part g t)) here ∙ edits.0, unchanged (token ∷ []) d e x y (part-push (f d) [] token ∙ here) outer edits.1)
-  edited_child-by Edited (Some o) token s t d e x y is here outer edits = subst (λ u. EditsBy f (Edited o) u d e) (sym is) (edits_deeper-by (Edited o) token t d e x y here outer edits)
+  edited_child-by good Edited None token s t d e x y is here outer edits =
+      (ap (part (f d)) is ∙ ap (option_and_then (λ g. part g t)) here ∙ edits.0, nothing_changed-by f good (token ∷ []) d e x y (part-push (f d) [] token ∙ here) outer edits.1)
+  edited_child-by good Edited (Some o) token s t d e x y is here outer edits = subst (λ u. EditsBy f (Edited o) u d e) (sym is) (edits_deeper-by (Edited o) token t d e x y here outer edits)
+
+-- ---- of a document
+
+pub edited_doc : {R : Type 0} (Edited : R → Doc → Doc → Type 0) (r : Option R) (t : Tokens) (d e : Doc)
+    → MatchOption r ((part (document d) t ≡ None) × (document e ≡ document d)) (λ o. EditsBy document (Edited o) t d e)
+    → MatchOption r ((part (document d) t ≡ None) × (document e ≡ document d)) (λ o. EditsAt (Edited o) t d e)
+edited_doc Edited None t d e none = none
+edited_doc Edited (Some o) t d e edits = record { before = edits.before; after = edits.after; edited = edits.edited; stood = edits.stood; stands = edits.stands; only = edits.only }

@@ -1,7 +1,7 @@
 -- A document whose part at some tokens was written, token by token.
 use Rattle.std.proofs.Common.{◌≡◌, ◌<◌, ◌+◌, ◌-◌, ℕ, zero, suc, [], ◌∷◌, ◌++◌, length, take, drop, Option, None, Some, option_and_then, MutBor, refl, sym, ap, ◌∙◌, subst, arith, append_assoc, add-one}
 use Rattle.std.proofs.lemmas.List.{take-append-drop, take_all}
-use Rattle.mp_tree.specs.Document.{Document}
+use Rattle.mp_tree.specs.Document.{Document, IsDocument}
 use Rattle.mp_tree.specs.View.{document}
 use Rattle.mp_tree.specs.declared.doc.Doc.{Doc}
 use Rattle.mp_tree.proofs.Facts.{IsDocument-document}
@@ -60,9 +60,11 @@ pub nothing_further : (t : Tokens) (i : ℕ) (d : Document) → part d (take i t
 nothing_further t i d none = ap (part d) (sym (take-append-drop i t)) ∙ part-append d (take i t) (drop i t) ∙ ap (option_and_then (λ e. part e (drop i t))) none
 
 -- what was borrowed came back as it was
+pub nothing_changed-by : {V : Type 0} (f : V → Document) (good : (v : V) → IsDocument (f v)) (s : Tokens) (d e b n : V) → part (f d) s ≡ Some (f b) → PartBecomes s (f n) (f d) (f e) → f n ≡ f b → f e ≡ f d
+nothing_changed-by f good s d e b n stood made same = sym (equals_by_part s (f d) (f e) (f b) (good d) (good e) made.only stood (made.stands ∙ ap Some same))
+
 pub nothing_changed : (s : Tokens) (d e b n : Doc) → part (document d) s ≡ Some (document b) → PartBecomes s (document n) (document d) (document e) → document n ≡ document b → document e ≡ document d
-nothing_changed s d e b n stood made same =
-    sym (equals_by_part s (document d) (document e) (document b) (IsDocument-document d) (IsDocument-document e) made.only stood (made.stands ∙ ap Some same))
+nothing_changed = nothing_changed-by document IsDocument-document
 
 pub all_taken : (t : Tokens) (i : ℕ) → i ≡ length t → take i t ≡ t
 all_taken t i all = take_all i t (omega arith)

@@ -142,9 +142,12 @@ pub child-no_index : (token : List ℕ) (ds : Items) → ((i : ℕ) → token �
 unfolding child
 child-no_index token ds none = element_from-none 0 token ds (λ j below e. omega (arith, none j (e ∙ ap numeral (omega arith))))
 
+pub borrowed_part-by : {V : Type 0} (f : V → Document) (r : Option (Bor V)) → option_map (λ (d : Bor V). f d.now) r ≡ option_map f (option_copied r)
+borrowed_part-by f None = refl
+borrowed_part-by f (Some d) = refl
+
 pub borrowed_part : (r : Option (Bor Doc)) → option_map (λ (d : Bor Doc). document d.now) r ≡ option_map document (option_copied r)
-borrowed_part None = refl
-borrowed_part (Some d) = refl
+borrowed_part = borrowed_part-by document
 
 -- what `get` of a list answers
 pub item_at : {X : Type 0} (xs : List X) (i : ℕ) (r : Option (Bor X)) → IsItemAt xs i r → option_copied r ≡ slice_get xs i

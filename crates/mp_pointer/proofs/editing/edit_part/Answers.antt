@@ -1,5 +1,5 @@
-use Rattle.mp_pointer.proofs.Changes.Edited.{from_first}
+use Rattle.mp_pointer.proofs.Changes.Edited.{edited_doc}
 use Rattle.mp_pointer.proofs.editing.edit_part.Goals as goal
 
 pub returns : goal.returns
-returns g c = rw (from_first c.args.pointer.now c.args.count) at c.edit_between.ensures
+returns g c = edited_doc _ c.edit_part_in.result _ c.args.doc.now c.edit_part_in.new.node c.edit_part_in.ensures
