@@ -64,9 +64,9 @@ pub fn edit_value_part<R, F: FnOnce(&mut Value) -> R>(
     edit_part_in(value, pointer, count, edit)
 }
 
-/// As `edit_part`, of any node: hands the part of it that the first `count` tokens of the pointer name to `edit`, and answers
-/// what `edit` answers. None exactly if there is no such part, and then nothing has changed. It looks once at each level that
-/// these tokens name, and takes no memory of its own.
+/// As `edit_part`, of any `Node`: hands its part that the first `count` tokens of the pointer name to `edit`, and answers
+/// what `edit` answers. None exactly if there is no such part, and then nothing has changed. `count` is at most `len()`.
+/// It looks up one name or one index for each of these tokens, and takes no memory of its own.
 ///
 /// ```text
 /// edit_part_in(&mut node, &pointer, pointer.len(), |part| mem::replace(part, T::null()))  // Some of the old part

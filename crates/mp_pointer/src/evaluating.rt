@@ -67,8 +67,8 @@ pub fn get_value<'a>(value: &'a Value, pointer: &Pointer) -> Option<&'a Value>
     part_in(value, pointer)
 }
 
-/// As `get`, of any node: the part of what it means that the pointer names, borrowed. None exactly if there is none. It
-/// looks once at each level that the pointer names, and takes no memory.
+/// As `get`, of any `Node`: its part that the pointer names, borrowed. None exactly if there is none. It looks up one
+/// name or one index for each token, and takes no memory.
 ///
 /// ```text
 /// part_in(&node, &pointer)  // for /foo/1 in {"foo":["bar","baz"]}: "baz"
