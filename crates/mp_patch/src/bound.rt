@@ -1,14 +1,10 @@
 // What is known of the depth of a document while operations change it.
 ghost use Rattle.std.specs.Prelude.{◌≡◌, ◌+◌, ◌≤◌, ◌↔◌, ℕ, IsTrue, None};
 ghost use Rattle.mp_tree.specs.Document.{Document, depth, depth_limit};
-ghost use Rattle.mp_tree.specs.Values.{value_document};
-ghost use Rattle.mp_tree.specs.View.{document};
 ghost use Rattle.mp_patch.specs.Private.Bounds.{Bounds};
 
 use crate::measuring::depth_within;
-use crate::value_measuring::value_depth_within;
-use mp_tree::Doc;
-use serde_json::Value;
+use mp_tree::Node;
 
 /// The number of tokens of a place and the depth of a value that is put there are together at most this.
 const LEVELS: usize = mp_tree::DEPTH_LIMIT as usize;
@@ -41,10 +37,10 @@ impl DepthBound {
     }
 
     // Whether a value fits below so many tokens. If it does, the bound holds also with the value there.
-    pub(crate) fn admit(&mut self, value: &Doc, tokens: usize) -> bool
-        ensures fits { IsTrue result ↔ (tokens + depth (document value.now) ≤ depth_limit) }
+    pub(crate) fn admit<T: Node>(&mut self, value: &T, tokens: usize) -> bool
+        ensures fits { IsTrue result ↔ (tokens + depth (T.means value.now) ≤ depth_limit) }
         ensures kept { (d : Document) → Bounds self.old.most 0 d → Bounds self.new.most 0 d }
-        ensures bounds { IsTrue result → Bounds self.new.most tokens (document value.now) }
+        ensures bounds { IsTrue result → Bounds self.new.most tokens (T.means value.now) }
     {
         let Some(allowed) = LEVELS.checked_sub(tokens) else {
             return false;
@@ -57,18 +53,18 @@ impl DepthBound {
     }
 
     // The same of a part that was taken out below `origin` tokens of a document within the bound, which left `rest`.
-    pub(crate) fn admit_part(
+    pub(crate) fn admit_part<T: Node>(
         &mut self,
-        part: &Doc,
+        part: &T,
         origin: usize,
-        rest: &Doc,
+        rest: &T,
         tokens: usize,
     ) -> bool
-        requires part { Bounds self.old.most origin (document part.now) }
-        requires rest { Bounds self.old.most 0 (document rest.now) }
-        ensures fits { IsTrue result ↔ (tokens + depth (document part.now) ≤ depth_limit) }
-        ensures kept { Bounds self.new.most 0 (document rest.now) }
-        ensures bounds { IsTrue result → Bounds self.new.most tokens (document part.now) }
+        requires part { Bounds self.old.most origin (T.means part.now) }
+        requires rest { Bounds self.old.most 0 (T.means rest.now) }
+        ensures fits { IsTrue result ↔ (tokens + depth (T.means part.now) ≤ depth_limit) }
+        ensures kept { Bounds self.new.most 0 (T.means rest.now) }
+        ensures bounds { IsTrue result → Bounds self.new.most tokens (T.means part.now) }
     {
         if self.admits_unseen(origin, tokens) {
             return true;
@@ -77,45 +73,6 @@ impl DepthBound {
             self.measure(rest);
         }
         self.admit(part, tokens)
-    }
-
-    // As `admit`, of a value of `serde_json`.
-    pub(crate) fn admit_value(&mut self, value: &Value, tokens: usize) -> bool
-        ensures fits { IsTrue result ↔ (tokens + depth (value_document value.now) ≤ depth_limit) }
-        ensures kept { (d : Document) → Bounds self.old.most 0 d → Bounds self.new.most 0 d }
-        ensures bounds { IsTrue result → Bounds self.new.most tokens (value_document value.now) }
-    {
-        let Some(allowed) = LEVELS.checked_sub(tokens) else {
-            return false;
-        };
-        let Some(depth) = value_depth_within(value, allowed, &mut self.walked) else {
-            return false;
-        };
-        self.raise(tokens + depth);
-        true
-    }
-
-    // As `admit_part`, of values of `serde_json`.
-    pub(crate) fn admit_value_part(
-        &mut self,
-        part: &Value,
-        origin: usize,
-        rest: &Value,
-        tokens: usize,
-    ) -> bool
-        requires part { Bounds self.old.most origin (value_document part.now) }
-        requires rest { Bounds self.old.most 0 (value_document rest.now) }
-        ensures fits { IsTrue result ↔ (tokens + depth (value_document part.now) ≤ depth_limit) }
-        ensures kept { Bounds self.new.most 0 (value_document rest.now) }
-        ensures bounds { IsTrue result → Bounds self.new.most tokens (value_document part.now) }
-    {
-        if self.admits_unseen(origin, tokens) {
-            return true;
-        }
-        if self.walked >= self.parts.max(LEAST_WALKED) {
-            self.measure_value(rest);
-        }
-        self.admit_value(part, tokens)
     }
 
     // Whether a part that was below `origin` tokens fits below these, whatever it is; then the bound holds with it there.
@@ -137,20 +94,11 @@ impl DepthBound {
         true
     }
 
-    fn measure(&mut self, doc: &Doc)
-        ensures { Bounds self.new.most 0 (document doc.now) }
+    fn measure<T: Node>(&mut self, node: &T)
+        ensures { Bounds self.new.most 0 (T.means node.now) }
     {
         self.walked = 0;
-        self.most = depth_within(doc, LEVELS, &mut self.walked);
-        self.parts = self.walked;
-        self.walked = 0;
-    }
-
-    fn measure_value(&mut self, value: &Value)
-        ensures { Bounds self.new.most 0 (value_document value.now) }
-    {
-        self.walked = 0;
-        self.most = value_depth_within(value, LEVELS, &mut self.walked);
+        self.most = depth_within(node, LEVELS, &mut self.walked);
         self.parts = self.walked;
         self.walked = 0;
     }

@@ -17,7 +17,6 @@ mod shape;
 mod steps;
 mod value_applying;
 mod value_containers;
-mod value_measuring;
 mod value_op;
 mod value_reading;
 mod value_steps;

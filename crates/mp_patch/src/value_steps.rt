@@ -55,7 +55,7 @@ fn add(
         (add_operation path.now (value_document value)) (value_document doc.new) }
     ensures bounds { OnOk result (Bounds bound.new.most 0 (value_document doc.new)) }
 {
-    let fits = bound.admit_value(&value, path.len());
+    let fits = bound.admit(&value, path.len());
     put(doc, path, value, fits, alloc)
 }
 
@@ -116,7 +116,7 @@ fn replace(
         (replace_operation path.now (value_document value)) (value_document doc.new) }
     ensures bounds { OnOk result (Bounds bound.new.most 0 (value_document doc.new)) }
 {
-    let fits = bound.admit_value(&value, path.len());
+    let fits = bound.admit(&value, path.len());
     match edit_value_part(doc, path, path.len(), |part| set(part, value, fits)) {
         Some(outcome) => outcome,
         None => Err(Refusal::By(Cause::Missing)),
@@ -146,7 +146,7 @@ fn move_part(
         };
     }
     let part = remove(doc, origin)?;
-    let fits = bound.admit_value_part(&part, origin.len(), doc, path.len());
+    let fits = bound.admit_part(&part, origin.len(), doc, path.len());
     put(doc, path, part, fits, alloc)
 }
 

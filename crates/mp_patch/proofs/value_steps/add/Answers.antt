@@ -7,6 +7,6 @@ pub returns-clause-bounds : goal.returns-clause-bounds
 returns-clause-bounds c =
     let start = value_document c.args.doc.now in
     let end = c.put.new.doc in
-    let admits = c.admit_value-fits.ensures in
-    added-bounds c.admit_value-fits.result c.admit_value-fits.new.self.most c.len.result c.args.path.now (value_document c.args.value) start (value_document end)
+    let admits = c.admit-fits.ensures in
+    added-bounds c.admit-fits.result c.admit-fits.new.self.most c.len.result c.args.path.now (value_document c.args.value) start (value_document end)
     c.len.ensures admits.fits.1 admits.bounds (IsDocument-value end) (admits.kept start c.requires) c.put.result c.put.ensures

@@ -37,20 +37,20 @@ returns-clause-answer c =
     moved f t (value_document c.in_ok-part.part) (value_document d) (value_document c.remove.new.doc) (IsDocument-value d) apart other c.in_ok-part.ensures.1 c.in_ok-part.ensures.2 c.put.result (value_document c.put.new.doc) c.put.ensures
 
 -- the part is as much less deep than the document as it stood below it
-pub admit_value_part-fits-requires-clause-part : goal.admit_value_part-fits-requires-clause-part
-admit_value_part-fits-requires-clause-part c =
+pub admit_part-fits-requires-clause-part : goal.admit_part-fits-requires-clause-part
+admit_part-fits-requires-clause-part c =
     let most = c.args.bound.now.most in
     let x = value_document c.in_ok-part.part in
     subst (λ n. Bounds most n x) (sym c.len.ensures) (part-bounds most c.args.origin.now (value_document c.args.doc.now) x c.in_ok-part.ensures.1 c.requires)
 
-pub admit_value_part-fits-requires-clause-rest : goal.admit_value_part-fits-requires-clause-rest
-admit_value_part-fits-requires-clause-rest c =
+pub admit_part-fits-requires-clause-rest : goal.admit_part-fits-requires-clause-rest
+admit_part-fits-requires-clause-rest c =
     let left = c.remove.new.doc in
     Removes-bounds c.args.bound.now.most c.args.origin.now (value_document c.args.doc.now) (value_document left) c.in_ok-part.ensures.2 (IsDocument-value left) c.requires
 
 pub returns-clause-bounds : goal.returns-clause-bounds
 returns-clause-bounds c =
     let end = c.put.new.doc in
-    let admits = c.admit_value_part-fits.ensures in
-    added-bounds c.admit_value_part-fits.result c.admit_value_part-fits.new.self.most c.len-2.result c.args.path.now (value_document c.in_ok-part.part) (value_document c.remove.new.doc) (value_document end)
+    let admits = c.admit_part-fits.ensures in
+    added-bounds c.admit_part-fits.result c.admit_part-fits.new.self.most c.len-2.result c.args.path.now (value_document c.in_ok-part.part) (value_document c.remove.new.doc) (value_document end)
     c.len-2.ensures admits.fits.1 admits.bounds (IsDocument-value end) admits.kept c.put.result c.put.ensures

@@ -15,8 +15,8 @@ pub returns-in-Some-clause-answer : goal.returns-in-Some-clause-answer
 returns-in-Some-clause-answer c =
     let path = c.args.path.now in
     let r = c.in-Some.outcome in
-    let fits = c.admit_value-fits.result in
-    let admits = c.admit_value-fits.ensures in
+    let fits = c.admit-fits.result in
+    let admits = c.admit-fits.ensures in
     let all : take c.len-2.result path ≡ path = ap (λ n. take n path) c.len-2.ensures ∙ to_end path in
     let edits = c.in-Some.ensures in
     let set : MatchResult r (λ _. IsTrue fits × (edits.edited.left.now ≡ c.args.value)) (λ fault. IsFalse fits × (fault ≡ By TooDeep)) = search rules in
@@ -30,6 +30,6 @@ pub returns-in-Some-clause-bounds : goal.returns-in-Some-clause-bounds
 returns-in-Some-clause-bounds c =
     let start = value_document c.args.doc.now in
     let end = c.edit_value_part.new.value in
-    let admits = c.admit_value-fits.ensures in
-    replaced-bounds c.admit_value-fits.result c.admit_value-fits.new.self.most c.len.result c.args.path.now (value_document c.args.value) start (value_document end)
+    let admits = c.admit-fits.ensures in
+    replaced-bounds c.admit-fits.result c.admit-fits.new.self.most c.len.result c.args.path.now (value_document c.args.value) start (value_document end)
     c.len.ensures admits.fits.1 admits.bounds (IsDocument-value end) (admits.kept start c.requires) c.in-Some.outcome (returns-in-Some-clause-answer c)
