@@ -1,17 +1,17 @@
 // What an operation does to the object or the array that holds its place (RFC 6902 section 4.1).
 ghost use Rattle.std.specs.Prelude.{◌≡◌, ◌≢◌, ◌<◌, ◌≤◌, ◌⊎◌, ℕ, IsTrue, IsFalse, MatchOption, MatchResult};
-ghost use Rattle.mp_tree.specs.View.{document};
-ghost use Rattle.mp_tree.specs.declared.doc.Doc.TheVariants.{Items};
+ghost use Rattle.mp_tree.specs.Document.{list};
+ghost use Rattle.mp_tree.specs.Private.Entries.{items_by};
 ghost use Rattle.mp_pointer.specs.Part.{numeral};
 ghost use Rattle.mp_patch.specs.Operation.{dash};
-ghost use Rattle.mp_patch.specs.Private.Steps.{Inserts, TakesOut};
+ghost use Rattle.mp_patch.specs.Private.Steps.{Inserts, TakesOutBy};
 
 use crate::fault::{Cause, Refusal};
 use mp_pointer::index_of;
-use mp_tree::{Doc, items_mut, members_mut};
+use mp_tree::Node;
 use std::alloc::Global;
 
-pub(crate) fn set(part: &mut Doc, value: Doc, fits: bool) -> Result<(), Refusal<Cause>>
+pub(crate) fn set<T: Node>(part: &mut T, value: T, fits: bool) -> Result<(), Refusal<Cause>>
     ensures { MatchResult result (λ _. IsTrue fits × (part.new ≡ value))
         (λ fault. IsFalse fits × (fault ≡ Refusal.By Cause.TooDeep)) }
 {
@@ -23,19 +23,19 @@ pub(crate) fn set(part: &mut Doc, value: Doc, fits: bool) -> Result<(), Refusal<
 }
 
 // Adds the value to the object or the array, at the token.
-pub(crate) fn insert(
-    container: &mut Doc,
+pub(crate) fn insert<T: Node>(
+    container: &mut T,
     token: &str,
-    value: Doc,
+    value: T,
     fits: bool,
     alloc: Global,
 ) -> Result<(), Refusal<Cause>>
-    ensures { Inserts result fits token.now (document value)
-        (document container.old) (document container.new) }
+    ensures { Inserts result fits token.now (T.means value)
+        (T.means container.old) (T.means container.new) }
 {
-    if let Some(elements) = items_mut(container) {
+    if let Some(elements) = container.items_mut() {
         insert_element(elements, token, value, fits)
-    } else if let Some(entries) = members_mut(container) {
+    } else if let Some(entries) = container.members_mut() {
         if !fits {
             return Err(Refusal::By(Cause::TooDeep));
         }
@@ -46,14 +46,14 @@ pub(crate) fn insert(
     }
 }
 
-fn insert_element(
-    elements: &mut Vec<Doc>,
+fn insert_element<T: Node>(
+    elements: &mut Vec<T>,
     token: &str,
-    value: Doc,
+    value: T,
     fits: bool,
 ) -> Result<(), Refusal<Cause>>
-    ensures { Inserts result fits token.now (document value)
-        (document (Items elements.old)) (document (Items elements.new)) }
+    ensures { Inserts result fits token.now (T.means value)
+        (list (items_by T.means elements.old.items)) (list (items_by T.means elements.new.items)) }
 {
     let Some(index) = index_in(elements.len(), token) else {
         return Err(Refusal::By(Cause::NoPlace));
@@ -66,7 +66,7 @@ fn insert_element(
 }
 
 // The place for a new element that the token names in an array of that length.
-pub(crate) fn index_in(len: usize, token: &str) -> Option<usize>
+fn index_in(len: usize, token: &str) -> Option<usize>
     ensures { MatchOption result
         ((token.now ≢ dash) × ((i : ℕ) → token.now ≡ numeral i → len < i))
         (λ i. (i ≤ len)
@@ -80,21 +80,22 @@ pub(crate) fn index_in(len: usize, token: &str) -> Option<usize>
 }
 
 // Takes out what the token names.
-pub(crate) fn take(container: &mut Doc, token: &str) -> Option<Doc>
-    ensures { TakesOut result token.now (document container.old) (document container.new) }
+pub(crate) fn take<T: Node>(container: &mut T, token: &str) -> Option<T>
+    ensures { TakesOutBy T.means result token.now
+        (T.means container.old) (T.means container.new) }
 {
-    if let Some(elements) = items_mut(container) {
+    if let Some(elements) = container.items_mut() {
         take_element(elements, token)
-    } else if let Some(entries) = members_mut(container) {
+    } else if let Some(entries) = container.members_mut() {
         entries.remove(token)
     } else {
         None
     }
 }
 
-fn take_element(elements: &mut Vec<Doc>, token: &str) -> Option<Doc>
-    ensures { TakesOut result token.now (document (Items elements.old))
-        (document (Items elements.new)) }
+fn take_element<T: Node>(elements: &mut Vec<T>, token: &str) -> Option<T>
+    ensures { TakesOutBy T.means result token.now
+        (list (items_by T.means elements.old.items)) (list (items_by T.means elements.new.items)) }
 {
     let index = index_of(token)?;
     if index < elements.len() {

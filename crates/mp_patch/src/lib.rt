@@ -16,7 +16,6 @@ mod serializing;
 mod shape;
 mod steps;
 mod value_applying;
-mod value_containers;
 mod value_op;
 mod value_reading;
 mod value_steps;

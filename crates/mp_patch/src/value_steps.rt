@@ -9,9 +9,9 @@ ghost use Rattle.mp_patch.specs.Private.Steps.{Answers};
 ghost use Rattle.mp_patch.specs.View.{value_operation_of};
 
 use crate::bound::DepthBound;
+use crate::containers::{insert, set, take};
 use crate::fault::{Cause, Refusal};
 use crate::steps::last_token;
-use crate::value_containers::{insert, set, take};
 use crate::value_op::ValueOp;
 use mp_pointer::{Pointer, edit_value_part, get_value};
 use mp_tree::{copy_value, same_value};

@@ -1,13 +1,10 @@
 -- What an operation does, from what was done to the container of its place.
-use Rattle.std.proofs.Common.{◌≡◌, ◌≢◌, ◌<◌, ◌≤◌, ◌+◌, ◌⊎◌, inl, inr, ℕ, suc, List, [], ◌∷◌, ◌++◌, length, get_or, take, drop, Bool, Option, None, Some, option_and_then, option_map, Result, Ok, Err, IsTrue, Vec, BTreeMap, String, Global, refl, sym, ap, ap₂, ◌∙◌, subst, arith, true≢false, add-one, MatchResult, MatchOption, IsFalse}
+use Rattle.std.proofs.Common.{◌≡◌, ◌≢◌, ◌<◌, ◌≤◌, ◌+◌, ◌⊎◌, inl, inr, ℕ, suc, List, [], ◌∷◌, ◌++◌, length, get_or, take, drop, Bool, Option, None, Some, option_and_then, option_map, Result, Ok, Err, IsTrue, refl, sym, ap, ap₂, ◌∙◌, subst, arith, true≢false, add-one, MatchResult, MatchOption, IsFalse}
 use Rattle.std.proofs.lemmas.List.{take-append-drop, drop_more, length-take-le}
-use Rattle.mp_tree.specs.Document.{Document, list, object, find, put, without, depth, depth_limit}
-use Rattle.mp_tree.specs.View.{document}
-use Rattle.mp_tree.specs.Private.Entries.{items_by, members, members_by}
-use Rattle.mp_tree.specs.declared.doc.Doc
-use Rattle.mp_tree.specs.declared.doc.Doc.{Doc}
+use Rattle.mp_tree.specs.Document.{Document, Members, list, object, find, put, without, depth, depth_limit}
+use Rattle.mp_tree.specs.Private.Entries.{items_by}
 use Rattle.mp_tree.specs.Elements.{count_of}
-use Rattle.mp_tree.proofs.Facts.{document-Items, document-Members, count_of-items-by, nth-here-by, items-append-by}
+use Rattle.mp_tree.proofs.Facts.{count_of-items-by, nth-here-by, items-append-by}
 use Rattle.mp_pointer.specs.Difference.{DifferOnlyAt}
 use Rattle.mp_pointer.specs.Part.{part, child, numeral}
 use Rattle.mp_pointer.specs.Spelling.{Tokens}
@@ -25,18 +22,18 @@ use Rattle.mp_patch.specs.declared.fault.Refusal.TheVariants.{By, OutOfMemory}
 
 -- ---- elements, of what means a document by f
 
-module _ {V : Type 0} (f : V → Document) (array : Vec V Global → V) (means : (v : Vec V Global) → f (array v) ≡ list (items_by f v.items)) where
+module _ {V : Type 0} (f : V → Document) where
   count_to : (i : ℕ) (vs : List V) → i ≤ length vs → count_of (items_by f (take i vs)) ≡ i
   count_to i vs within = count_of-items-by f (take i vs) ∙ length-take-le i vs within
 
-  pub element_removed-by : (token : List ℕ) (i : ℕ) (v w : Vec V Global) (x : V) → token ≡ numeral i → i < length v.items → x ≡ get_or v.items i x → w.items ≡ take i v.items ++ drop (suc i) v.items
-      → (child token (f (array v)) ≡ Some (f x)) × RemovesFrom token (f (array v)) (f (array w))
-  element_removed-by token i v w x names_it within is left =
-      let split : v.items ≡ take i v.items ++ x ∷ drop (suc i) v.items = sym (take-append-drop i v.items) ∙ ap (λ r. take i v.items ++ r) (drop_more v.items i x within ∙ ap₂ (λ a n. a ∷ drop n v.items) (sym is) (add-one i)) in (
-        ap (child token) (means v) ∙ child-numeral token i (items_by f v.items) names_it ∙ nth-here-by f v.items i x within is,
-        from_list (items_by f (take i v.items)) (items_by f (drop (suc i) v.items)) (f x) (names_it ∙ ap numeral (sym (count_to i v.items (omega arith))))
-            (means v ∙ ap (λ ds. list (items_by f ds)) split ∙ ap list (items-append-by f (take i v.items) (x ∷ drop (suc i) v.items)))
-            (means w ∙ ap (λ ds. list (items_by f ds)) left ∙ ap list (items-append-by f (take i v.items) (drop (suc i) v.items))),
+  pub element_removed-by : (token : List ℕ) (i : ℕ) (vs ws : List V) (x : V) → token ≡ numeral i → i < length vs → x ≡ get_or vs i x → ws ≡ take i vs ++ drop (suc i) vs
+      → (child token (list (items_by f vs)) ≡ Some (f x)) × RemovesFrom token (list (items_by f vs)) (list (items_by f ws))
+  element_removed-by token i vs ws x names_it within is left =
+      let split : vs ≡ take i vs ++ x ∷ drop (suc i) vs = sym (take-append-drop i vs) ∙ ap (λ r. take i vs ++ r) (drop_more vs i x within ∙ ap₂ (λ a n. a ∷ drop n vs) (sym is) (add-one i)) in (
+        child-numeral token i (items_by f vs) names_it ∙ nth-here-by f vs i x within is,
+        from_list (items_by f (take i vs)) (items_by f (drop (suc i) vs)) (f x) (names_it ∙ ap numeral (sym (count_to i vs (omega arith))))
+            (ap (λ ds. list (items_by f ds)) split ∙ ap list (items-append-by f (take i vs) (x ∷ drop (suc i) vs)))
+            (ap (λ ds. list (items_by f ds)) left ∙ ap list (items-append-by f (take i vs) (drop (suc i) vs))),
       )
 
   drop_whole : (xs : List V) → drop (length xs) xs ≡ []
@@ -47,35 +44,19 @@ module _ {V : Type 0} (f : V → Document) (array : Vec V Global → V) (means :
   named_place token i vs within (inl e) = inl (e ∙ ap numeral (sym (count_to i vs within)))
   named_place token i vs within (inr e) = inr (e.0, ap (items_by f) (ap (λ n. drop n vs) e.1 ∙ drop_whole vs))
 
-  pub element_inserted-by : (token : List ℕ) (i : ℕ) (v w : Vec V Global) (x : V) → (token ≡ numeral i) ⊎ ((token ≡ dash) × (i ≡ length v.items)) → i ≤ length v.items → w.items ≡ take i v.items ++ x ∷ drop i v.items
-      → AddsTo (f x) token (f (array v)) (f (array w))
-  element_inserted-by token i v w x names_it within now =
-      to_list (items_by f (take i v.items)) (items_by f (drop i v.items)) (named_place token i v.items within names_it)
-      (means v ∙ ap (λ ds. list (items_by f ds)) (sym (take-append-drop i v.items)) ∙ ap list (items-append-by f (take i v.items) (drop i v.items)))
-      (means w ∙ ap (λ ds. list (items_by f ds)) now ∙ ap list (items-append-by f (take i v.items) (x ∷ drop i v.items)))
+  pub element_inserted-by : (token : List ℕ) (i : ℕ) (vs ws : List V) (x : V) → (token ≡ numeral i) ⊎ ((token ≡ dash) × (i ≡ length vs)) → i ≤ length vs → ws ≡ take i vs ++ x ∷ drop i vs
+      → AddsTo (f x) token (list (items_by f vs)) (list (items_by f ws))
+  element_inserted-by token i vs ws x names_it within now =
+      to_list (items_by f (take i vs)) (items_by f (drop i vs)) (named_place token i vs within names_it)
+      (ap (λ ds. list (items_by f ds)) (sym (take-append-drop i vs)) ∙ ap list (items-append-by f (take i vs) (drop i vs)))
+      (ap (λ ds. list (items_by f ds)) now ∙ ap list (items-append-by f (take i vs) (x ∷ drop i vs)))
 
-  pub element_place-by : (token : List ℕ) (i : ℕ) (v : Vec V Global) → (token ≡ numeral i) ⊎ ((token ≡ dash) × (i ≡ length v.items)) → i ≤ length v.items → ¬ LacksPlace token (Some (f (array v)))
-  element_place-by token i v (inl e) within lacks = let there = subst (λ d. LacksPlace token (Some d)) (means v) lacks in omega (arith, there.1 i e, count_of-items-by f v.items, within)
-  element_place-by token i v (inr e) within lacks = let there = subst (λ d. LacksPlace token (Some d)) (means v) lacks in there.0 e.0
+  pub element_place-by : (token : List ℕ) (i : ℕ) (vs : List V) → (token ≡ numeral i) ⊎ ((token ≡ dash) × (i ≡ length vs)) → i ≤ length vs → ¬ LacksPlace token (Some (list (items_by f vs)))
+  element_place-by token i vs (inl e) within lacks = omega (arith, lacks.1 i e, count_of-items-by f vs, within)
+  element_place-by token i vs (inr e) within lacks = lacks.0 e.0
 
-  pub no_element_place-by : (token : List ℕ) (v : Vec V Global) → token ≢ dash → ((i : ℕ) → token ≡ numeral i → length v.items < i) → LacksPlace token (Some (f (array v)))
-  no_element_place-by token v other past = subst (λ d. LacksPlace token (Some d)) (sym (means v)) (other, λ i e. omega (arith, past i e, count_of-items-by f v.items))
-
--- ---- elements, of documents
-
-pub element_removed : (token : List ℕ) (i : ℕ) (v w : Vec Doc Global) (x : Doc) → token ≡ numeral i → i < length v.items → x ≡ get_or v.items i x → w.items ≡ take i v.items ++ drop (suc i) v.items
-    → (child token (document (Doc.Items v)) ≡ Some (document x)) × RemovesFrom token (document (Doc.Items v)) (document (Doc.Items w))
-element_removed = element_removed-by document Doc.Items document-Items
-
-pub element_inserted : (token : List ℕ) (i : ℕ) (v w : Vec Doc Global) (x : Doc) → (token ≡ numeral i) ⊎ ((token ≡ dash) × (i ≡ length v.items)) → i ≤ length v.items → w.items ≡ take i v.items ++ x ∷ drop i v.items
-    → AddsTo (document x) token (document (Doc.Items v)) (document (Doc.Items w))
-element_inserted = element_inserted-by document Doc.Items document-Items
-
-pub element_place : (token : List ℕ) (i : ℕ) (v : Vec Doc Global) → (token ≡ numeral i) ⊎ ((token ≡ dash) × (i ≡ length v.items)) → i ≤ length v.items → ¬ LacksPlace token (Some (document (Doc.Items v)))
-element_place = element_place-by document Doc.Items document-Items
-
-pub no_element_place : (token : List ℕ) (v : Vec Doc Global) → token ≢ dash → ((i : ℕ) → token ≡ numeral i → length v.items < i) → LacksPlace token (Some (document (Doc.Items v)))
-no_element_place = no_element_place-by document Doc.Items document-Items
+  pub no_element_place-by : (token : List ℕ) (vs : List V) → token ≢ dash → ((i : ℕ) → token ≡ numeral i → length vs < i) → LacksPlace token (Some (list (items_by f vs)))
+  no_element_place-by token vs other past = (other, λ i e. omega (arith, past i e, count_of-items-by f vs))
 
 -- ---- an operation from what was done in the container
 
@@ -143,33 +124,16 @@ replaced (Ok done) fits t v d e x y to_fit from_fit stood stands only set = (rep
 replaced (Err fault) fits t v d e x y to_fit from_fit stood stands only set =
     subst (λ f. Answers (Err f) d (replace t v) e) (sym set.1) (inr (some_missing d x t stood, inl (refl, over_limit fits t v from_fit set.0)))
 
--- ---- in a map, of what means a document by f
+-- ---- in a map
 
-module _ {V : Type 0} (f : V → Document) (map_of : BTreeMap (String Global) V → V) (means : (m : BTreeMap (String Global) V) → f (map_of m) ≡ object (members_by f m.entries)) where
-  pub value_removed-by : (r : Option V) (token : List ℕ) (m n : BTreeMap (String Global) V) → find token (members_by f m.entries) ≡ option_map f r → members_by f n.entries ≡ without token (members_by f m.entries)
-      → MatchOption r (child token (f (map_of m)) ≡ None) (λ x. (child token (f (map_of m)) ≡ Some (f x)) × RemovesFrom token (f (map_of m)) (f (map_of n)))
-  value_removed-by None token m n found left = ap (child token) (means m) ∙ child-object token (members_by f m.entries) ∙ found
-  value_removed-by (Some x) token m n found left = (
-    ap (child token) (means m) ∙ child-object token (members_by f m.entries) ∙ found,
-    from_map (members_by f m.entries) (f x) found (means m) (means n ∙ ap object left),
-  )
+-- each value as the document that it means by f
+pub value_removed-by : {V : Type 0} (f : V → Document) (r : Option V) (token : List ℕ) (ms ns : Members) → find token ms ≡ option_map f r → ns ≡ without token ms
+    → MatchOption r (child token (object ms) ≡ None) (λ x. (child token (object ms) ≡ Some (f x)) × RemovesFrom token (object ms) (object ns))
+value_removed-by f None token ms ns found left = child-object token ms ∙ found
+value_removed-by f (Some x) token ms ns found left = (child-object token ms ∙ found, from_map ms (f x) found refl (ap object left))
 
-  pub value_inserted-by : (token : List ℕ) (v : Document) (m n : BTreeMap (String Global) V) → members_by f n.entries ≡ put token v (members_by f m.entries)
-      → (¬ LacksPlace token (Some (f (map_of m)))) × AddsTo v token (f (map_of m)) (f (map_of n))
-  value_inserted-by token v m n now = (
-    λ lacks. subst (λ d. LacksPlace token (Some d)) (means m) lacks,
-    to_map (members_by f m.entries) (means m) (means n ∙ ap object now),
-  )
-
--- ---- in a map, of documents
-
-pub value_removed : (r : Option Doc) (token : List ℕ) (m n : BTreeMap (String Global) Doc) → find token (members m.entries) ≡ option_map document r → members n.entries ≡ without token (members m.entries)
-    → MatchOption r (child token (document (Doc.Members m)) ≡ None) (λ x. (child token (document (Doc.Members m)) ≡ Some (document x)) × RemovesFrom token (document (Doc.Members m)) (document (Doc.Members n)))
-value_removed = value_removed-by document Doc.Members document-Members
-
-pub value_inserted : (token : List ℕ) (v : Document) (m n : BTreeMap (String Global) Doc) → members n.entries ≡ put token v (members m.entries)
-    → (¬ LacksPlace token (Some (document (Doc.Members m)))) × AddsTo v token (document (Doc.Members m)) (document (Doc.Members n))
-value_inserted = value_inserted-by document Doc.Members document-Members
+pub value_inserted : (token : List ℕ) (v : Document) (ms ns : Members) → ns ≡ put token v ms → AddsTo v token (object ms) (object ns)
+value_inserted token v ms ns now = to_map ms refl (ap object now)
 
 pub in_list : (token : List ℕ) (i n m : ℕ) → n ≡ m → (token ≡ numeral i) ⊎ ((token ≡ dash) × (i ≡ n)) → (token ≡ numeral i) ⊎ ((token ≡ dash) × (i ≡ m))
 in_list token i n m same (inl e) = inl e

@@ -1,8 +1,6 @@
 -- What a single operation answers. Only private clauses cite it.
 use Rattle.std.specs.Prelude.{◌≡◌, ℕ, List, Bool, IsTrue, IsFalse, Option, None, Some, MatchOption, Result, Ok, Err, ⊤}
 use Rattle.mp_tree.specs.Document.{Document}
-use Rattle.mp_tree.specs.View.{document}
-use Rattle.mp_tree.specs.declared.doc.Doc.{Doc}
 use Rattle.mp_pointer.specs.Part.{child}
 use Rattle.mp_patch.specs.Operation.{Operation, Step, AddsTo, RemovesFrom}
 use Rattle.mp_patch.specs.Refusal.{RefusedBy, LacksPlace}
@@ -32,6 +30,3 @@ pub record TakesOutBy {V : Type 0} (f : V → Document) (taken : Option V) (toke
   pub says :
       MatchOption taken (child token before ≡ None)
       (λ x. (child token before ≡ Some (f x)) × RemovesFrom token before after)
-
-abbrev pub TakesOut : Option Doc → List ℕ → Document → Document → Type 0
-TakesOut = TakesOutBy document

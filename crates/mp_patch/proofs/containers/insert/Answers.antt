@@ -1,23 +1,31 @@
-use Rattle.std.proofs.Common.{◌≡◌, Some, IsTrue, string_bytes, sym, subst, ap, ◌∙◌}
-use Rattle.mp_tree.specs.Document.{put}
-use Rattle.mp_tree.specs.View.{document}
-use Rattle.mp_tree.specs.Private.Entries.{members}
-use Rattle.mp_tree.specs.declared.doc.Doc
-use Rattle.mp_tree.specs.declared.doc.Doc.{Doc}
-use Rattle.mp_tree.proofs.Facts.{members-inserted}
+use Rattle.std.proofs.Common.{Some, IsTrue, refl, ap, ◌∙◌}
+use Rattle.mp_tree.specs.Private.Entries.{members_by}
+use Rattle.mp_tree.proofs.Facts.{put-by}
 use Rattle.mp_patch.specs.Operation.{AddsTo}
 use Rattle.mp_patch.specs.Refusal.{LacksPlace}
+use Rattle.mp_patch.specs.Private.Steps.{Inserts}
 use Rattle.mp_patch.proofs.Operations.SingleSteps.{value_inserted}
 use Rattle.mp_patch.proofs.containers.insert.Goals as goal
 
+pub returns-in-Some : goal.returns-in-Some
+returns-in-Some g c =
+    let f = g.T.Node.means in
+    let w = c.insert_element.new.elements in
+    let made = c.in-Some.ensures.made in
+    let before = ap f c.in-Some.ensures.value ∙ made c.in-Some.elements.now in
+    let out : Inserts c.insert_element.result c.args.fits c.args.token.now (f c.args.value) (f c.args.container.now) (f (g.T.Node.of_items w)) = rw (before, made w) c.insert_element.ensures in
+    out
+
 pub returns-in_ok-insert : goal.returns-in_ok-insert
-returns-in_ok-insert c =
+returns-in_ok-insert g c =
+    let f = g.T.Node.means in
+    let good = c.in-Some-members_mut.ensures.documents in
     let token = c.args.token.now in
+    let v = f c.args.value in
     let old = c.in-Some-members_mut.entries.now in
-    let new = c.insert.new.self in
-    let v = document c.args.value in
-    let P : Doc → Type 0 = λ d. IsTrue c.args.fits × (¬ LacksPlace token (Some (document d))) × AddsTo v token (document d) (document (Doc.Members new)) in
-    let name = string_bytes c.in_ok-from_str.field-0 in
-    let same : name ≡ token = c.in_ok-from_str.ensures.ok in
-    let done = value_inserted token v old new (members-inserted name old new c.args.value c.in_ok-insert.ensures.updates ∙ ap (λ k. put k v (members old.entries)) same) in
-    subst P (sym c.in-Some-members_mut.ensures.value) (c.if-not-fits.false, done.0, done.1)
+    let w = c.insert.new.self in
+    let made = c.in-Some-members_mut.ensures.made in
+    let before = ap f c.in-Some-members_mut.ensures.value ∙ made old in
+    let set = put-by f good old w c.args.value refl c.in_ok-from_str.ensures.ok refl c.in_ok-insert.ensures.updates in
+    let out : IsTrue c.args.fits × (¬ LacksPlace token (Some (f c.args.container.now))) × AddsTo v token (f c.args.container.now) (f (g.T.Node.of_members w)) = rw (before, made w) (c.if-not-fits.false, (λ lacks. lacks), value_inserted token v (members_by f old.entries) (members_by f w.entries) set) in
+    out
