@@ -5,8 +5,8 @@ use Rattle.mp_tree.specs.View.{document}
 use Rattle.mp_patch.specs.Operation.{Operation, add, remove, replace, move, copy, test}
 use Rattle.mp_patch.specs.declared.op.Op.{Op}
 use Rattle.mp_patch.specs.declared.op.Op.TheVariants as op
-use Rattle.mp_patch.specs.declared.value_op.ValueOp.{ValueOp}
-use Rattle.mp_patch.specs.declared.value_op.ValueOp.TheVariants as value_op
+use Rattle.mp_patch.specs.declared.op.ValueOp.{ValueOp}
+use Rattle.mp_patch.specs.declared.op.ValueOp.TheVariants as value_op
 
 abbrev pub operation_of : Op → Operation
 operation_of (op.Add path value) = add path (document value)

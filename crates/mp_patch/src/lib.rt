@@ -16,15 +16,13 @@ mod serializing;
 mod shape;
 mod steps;
 mod value_applying;
-mod value_op;
-mod value_reading;
 mod value_steps;
 mod writing;
 
 pub use applying::{apply, apply_once, apply_owned};
 pub use fault::{ApplyFault, Cause, FormCause, FormFault};
-pub use op::Op;
+pub use op::{Op, ValueOp};
 pub use patch::JsonPatch;
+pub use reading::ops_of_value;
 pub use value_applying::apply_to_value;
-pub use value_op::{ValueOp, ops_of_value};
 pub use writing::write_patch;

@@ -4,6 +4,7 @@ ghost use Rattle.mp_patch.specs.View.{operation_of};
 
 use mp_pointer::Pointer;
 use mp_tree::Doc;
+use serde_json::Value;
 use std::alloc::{AllocError, Global};
 
 /// One operation of a JSON Patch (RFC 6902 section 4), with the place where it works.
@@ -33,6 +34,33 @@ pub enum Op {
     },
     /// What is at the place has to equal the value (section 4.6).
     Test(Pointer, Doc),
+}
+
+/// As `Op`, with values as `serde_json` reads them.
+#[derive(Debug, Drop)]
+pub enum ValueOp {
+    /// As `Op::Add`.
+    Add(Pointer, Value),
+    /// As `Op::Remove`.
+    Remove(Pointer),
+    /// As `Op::Replace`.
+    Replace(Pointer, Value),
+    /// As `Op::Move`.
+    Move {
+        /// The pointer to the part that moves.
+        origin: Pointer,
+        /// The pointer to its new place.
+        path: Pointer,
+    },
+    /// As `Op::Copy`.
+    Copy {
+        /// The pointer to the part that is copied.
+        origin: Pointer,
+        /// The pointer to the place of the copy.
+        path: Pointer,
+    },
+    /// As `Op::Test`.
+    Test(Pointer, Value),
 }
 
 impl Op {

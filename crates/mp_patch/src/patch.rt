@@ -138,7 +138,9 @@ impl JsonPatch {
         let Doc::Items(elements) = doc else {
             return Err(FormFault::NotAnArray);
         };
-        read_ops(elements, alloc)
+        Ok(JsonPatch {
+            ops: read_ops(elements, alloc)?,
+        })
     }
 
     /// The array of objects with exactly the members that the operations need (RFC 6902 sections 3 and 4).

@@ -1,20 +1,22 @@
 // From a document to the operations that it is a form of (RFC 6902 sections 3 and 4).
-ghost use Rattle.std.specs.Prelude.{◌≡◌, ◌≢◌, codes, string_bytes, Some, None, MatchOption, MatchResult};
+ghost use Rattle.std.specs.Prelude.{◌≡◌, ◌≢◌, codes, map, string_bytes, Some, None, MatchOption, MatchResult};
 ghost use Rattle.std.specs.Option.{option_copied};
-ghost use Rattle.mp_tree.specs.Document.{find, list, object};
-ghost use Rattle.mp_tree.specs.View.{document, items};
-ghost use Rattle.mp_tree.specs.Private.Entries.{members};
+ghost use Rattle.mp_tree.specs.Document.{IsDocument, find, list, object};
+ghost use Rattle.mp_tree.specs.Private.Entries.{items_by, members_by};
+ghost use Rattle.mp_tree.specs.Values.{value_document};
+ghost use Rattle.mp_tree.specs.View.{document};
 ghost use Rattle.mp_pointer.specs.Spelling.{spell};
-ghost use Rattle.mp_patch.specs.Form.{Carries, EachForm, IsFormFault, IsForm, needed_members, text_at as text_under};
-ghost use Rattle.mp_patch.specs.Private.Reading.{Drafts, IsElementFault, IsMapFault, IsOriginFault, IsTextFault, IsValueFault};
-ghost use Rattle.mp_patch.specs.View.{operation_of, operations_of};
+ghost use Rattle.mp_patch.specs.Form.{AreForms, Carries, EachForm, IsFormFault, IsForm, needed_members, text_at as text_under};
+ghost use Rattle.mp_patch.specs.Operation.{Operation};
+ghost use Rattle.mp_patch.specs.Private.Reading.{drafted, IsElementFault, IsMapFault, IsOriginFault, IsTextFault, IsValueFault};
+ghost use Rattle.mp_patch.specs.View.{operation_of, value_operation_of, value_operations};
 
 use crate::fault::{FormCause, FormFault, Refusal};
 use crate::name::{OpName, op_named};
-use crate::op::Op;
-use crate::patch::JsonPatch;
+use crate::op::{Op, ValueOp};
 use mp_pointer::{Pointer, PointerFault};
-use mp_tree::Doc;
+use mp_tree::{Doc, Node};
+use serde_json::Value;
 use std::alloc::{AllocError, Global};
 use std::collections::BTreeMap;
 
@@ -25,91 +27,146 @@ pub(crate) struct Pointers {
     pub(crate) path: Pointer,
 }
 
-// An operation, but for its value if it has one.
+// An operation as it is read, before it is one of those that callers have.
 #[derive(Drop)]
-pub(crate) enum Draft {
-    Add(Pointer),
+pub(crate) enum Draft<T> {
+    Add(Pointer, T),
     Remove(Pointer),
-    Replace(Pointer),
+    Replace(Pointer, T),
     Move { origin: Pointer, path: Pointer },
     Copy { origin: Pointer, path: Pointer },
-    Test(Pointer),
+    Test(Pointer, T),
+}
+
+// The operations whose values are nodes of one type.
+pub(crate) trait FromDraft<T: Node>: Drop {
+    ghost means: { Self → Operation };
+
+    fn from_draft(draft: Draft<T>) -> Self
+        ensures { means result ≡ drafted T.means draft };
+}
+
+impl FromDraft<Doc> for Op {
+    ghost means = { operation_of };
+
+    fn from_draft(draft: Draft<Doc>) -> Op
+        ensures { operation_of result ≡ drafted document draft }
+    {
+        match draft {
+            Draft::Add(path, value) => Op::Add(path, value),
+            Draft::Remove(path) => Op::Remove(path),
+            Draft::Replace(path, value) => Op::Replace(path, value),
+            Draft::Move { origin, path } => Op::Move { origin, path },
+            Draft::Copy { origin, path } => Op::Copy { origin, path },
+            Draft::Test(path, value) => Op::Test(path, value),
+        }
+    }
+}
+
+impl FromDraft<Value> for ValueOp {
+    ghost means = { value_operation_of };
+
+    fn from_draft(draft: Draft<Value>) -> ValueOp
+        ensures { value_operation_of result ≡ drafted value_document draft }
+    {
+        match draft {
+            Draft::Add(path, value) => ValueOp::Add(path, value),
+            Draft::Remove(path) => ValueOp::Remove(path),
+            Draft::Replace(path, value) => ValueOp::Replace(path, value),
+            Draft::Move { origin, path } => ValueOp::Move { origin, path },
+            Draft::Copy { origin, path } => ValueOp::Copy { origin, path },
+            Draft::Test(path, value) => ValueOp::Test(path, value),
+        }
+    }
+}
+
+/// As `JsonPatch::from_doc_owned`, of a value that `serde_json` read: the operations that it is a form of (RFC 6902 section 3).
+///
+/// ```text
+/// ops_of_value(alloc, value)  // for [{"op":"remove","path":"/a"}]: a list of one ValueOp::Remove
+/// ops_of_value(alloc, value)  // for [{"op":"add","path":""}]: Form { op: 0, cause: NoValue }
+/// ```
+pub fn ops_of_value(alloc: Global, value: Value) -> Result<Vec<ValueOp>, FormFault>
+    ensures { MatchResult result
+        (λ ops. AreForms (value_document value) (value_operations ops.items))
+        (λ fault. IsFormFault fault (value_document value)) }
+{
+    match value {
+        Value::Array(elements) => read_ops(elements, alloc),
+        _ => Err(FormFault::NotAnArray),
+    }
 }
 
 // The values are moved out of the array.
-pub(crate) fn read_ops(elements: Vec<Doc>, alloc: Global) -> Result<JsonPatch, FormFault>
-    ensures { MatchResult result (λ p. EachForm (items elements.items) (operations_of p))
-        (λ fault. IsFormFault fault (list (items elements.items))) }
+pub(crate) fn read_ops<T: Node, O: FromDraft<T>>(
+    elements: Vec<T>,
+    alloc: Global,
+) -> Result<Vec<O>, FormFault>
+    ensures { MatchResult result
+        (λ ops. EachForm (items_by T.means elements.items) (map O.means ops.items))
+        (λ fault. IsFormFault fault (list (items_by T.means elements.items))) }
 {
-    let mut patch = JsonPatch::new(alloc);
+    let mut ops = Vec::new(alloc);
     for element in elements {
         match read_op(element, alloc) {
-            Ok(op) => patch.push(op)?,
-            Err(refusal) => return Err(refusal.of_element(patch.ops().len())),
+            Ok(op) => ops.push(op)?,
+            Err(refusal) => return Err(refusal.of_element(ops.len())),
         }
     }
-    Ok(patch)
+    Ok(ops)
 }
 
-fn read_op(element: Doc, alloc: Global) -> Result<Op, Refusal<FormCause>>
-    ensures { MatchResult result (λ op. IsForm (document element) (operation_of op))
-        (λ fault. IsElementFault fault (document element)) }
+fn read_op<T: Node, O: FromDraft<T>>(element: T, alloc: Global) -> Result<O, Refusal<FormCause>>
+    ensures { MatchResult result (λ op. IsForm (T.means element) (O.means op))
+        (λ fault. IsElementFault fault (T.means element)) }
 {
-    match element {
-        Doc::Members(entries) => read_members(entries, alloc),
-        _ => Err(Refusal::By(FormCause::NotAnObject)),
-    }
+    let Some(_) = element.members() else {
+        return Err(Refusal::By(FormCause::NotAnObject));
+    };
+    let draft = read_draft(element.into_members(alloc), alloc)?;
+    Ok(O::from_draft(draft))
 }
 
-fn read_members(entries: BTreeMap<String, Doc>, alloc: Global) -> Result<Op, Refusal<FormCause>>
-    ensures { MatchResult result
-        (λ op. Carries (members entries.entries) (needed_members (operation_of op)))
-        (λ fault. IsMapFault fault (object (members entries.entries))) }
+fn read_draft<T: Node>(
+    entries: BTreeMap<String, T>,
+    alloc: Global,
+) -> Result<Draft<T>, Refusal<FormCause>>
+    requires documents { (d : T) → IsDocument (T.means d) }
+    ensures { let ms = members_by T.means entries.entries in
+        MatchResult result (λ draft. Carries ms (needed_members (drafted T.means draft)))
+        (λ fault. IsMapFault fault (object ms)) }
 {
-    match read_draft(&entries, alloc)? {
-        Draft::Add(path) => Ok(Op::Add(path, value_of(entries)?)),
-        Draft::Remove(path) => Ok(Op::Remove(path)),
-        Draft::Replace(path) => Ok(Op::Replace(path, value_of(entries)?)),
-        Draft::Move { origin, path } => Ok(Op::Move { origin, path }),
-        Draft::Copy { origin, path } => Ok(Op::Copy { origin, path }),
-        Draft::Test(path) => Ok(Op::Test(path, value_of(entries)?)),
-    }
-}
-
-// All but the value.
-fn read_draft(entries: &BTreeMap<String, Doc>, alloc: Global) -> Result<Draft, Refusal<FormCause>>
-    ensures { MatchResult result (λ draft. Drafts draft (members entries.now.entries))
-        (λ fault. IsMapFault fault (object (members entries.now.entries))) }
-{
-    let word = text_at(entries, "op").ok_or(FormCause::NoOp)?;
+    let word = text_at(&entries, "op").ok_or(FormCause::NoOp)?;
     let name = op_named(word).ok_or(FormCause::UnknownOp)?;
-    let spelling = text_at(entries, "path").ok_or(FormCause::NoPath)?;
+    let spelling = text_at(&entries, "path").ok_or(FormCause::NoPath)?;
     match name {
-        OpName::Add => Ok(Draft::Add(pointer_of(spelling, alloc)?)),
+        OpName::Add => Ok(Draft::Add(pointer_of(spelling, alloc)?, value_of(entries)?)),
         OpName::Remove => Ok(Draft::Remove(pointer_of(spelling, alloc)?)),
-        OpName::Replace => Ok(Draft::Replace(pointer_of(spelling, alloc)?)),
+        OpName::Replace => Ok(Draft::Replace(pointer_of(spelling, alloc)?, value_of(entries)?)),
         OpName::Move => {
-            let Pointers { origin, path } = pointers_in(spelling, entries, alloc)?;
+            let Pointers { origin, path } = pointers_in(spelling, &entries, alloc)?;
             Ok(Draft::Move { origin, path })
         }
         OpName::Copy => {
-            let Pointers { origin, path } = pointers_in(spelling, entries, alloc)?;
+            let Pointers { origin, path } = pointers_in(spelling, &entries, alloc)?;
             Ok(Draft::Copy { origin, path })
         }
-        OpName::Test => Ok(Draft::Test(pointer_of(spelling, alloc)?)),
+        OpName::Test => Ok(Draft::Test(pointer_of(spelling, alloc)?, value_of(entries)?)),
     }
 }
 
-fn pointers_in(
+fn pointers_in<T: Node>(
     spelling: &str,
-    entries: &BTreeMap<String, Doc>,
+    entries: &BTreeMap<String, T>,
     alloc: Global,
 ) -> Result<Pointers, Refusal<FormCause>>
+    requires documents { (d : T) → IsDocument (T.means d) }
     ensures { MatchResult result
         (λ p. (spelling.now ≡ spell p.path)
-        × (text_under (codes "from") (object (members entries.now.entries))
+        × (text_under (codes "from") (object (members_by T.means entries.now.entries))
         ≡ Some (spell p.origin)))
-        (λ fault. IsOriginFault fault spelling.now (object (members entries.now.entries))) }
+        (λ fault. IsOriginFault fault spelling.now
+        (object (members_by T.means entries.now.entries))) }
 {
     let origin_spelling = text_at(entries, "from").ok_or(FormCause::NoFrom)?;
     let path = pointer_of(spelling, alloc)?;
@@ -118,16 +175,15 @@ fn pointers_in(
 }
 
 // The text at a name; None if there is none, or no text.
-fn text_at<'a>(entries: &'a BTreeMap<String, Doc>, name: &str) -> Option<&'a str>
-    ensures { option_copied result ≡ text_under name.now (object (members entries.now.entries)) }
+fn text_at<'a, T: Node>(entries: &'a BTreeMap<String, T>, name: &str) -> Option<&'a str>
+    requires documents { (d : T) → IsDocument (T.means d) }
+    ensures { option_copied result
+        ≡ text_under name.now (object (members_by T.means entries.now.entries)) }
 {
-    match entries.get(name)? {
-        Doc::Text(text) => Some(text.as_str()),
-        Doc::Null | Doc::Flag(_) | Doc::Whole(_) | Doc::Items(_) | Doc::Members(_) => None,
-    }
+    entries.get(name)?.text()
 }
 
-pub(crate) fn pointer_of(spelling: &str, alloc: Global) -> Result<Pointer, Refusal<FormCause>>
+fn pointer_of(spelling: &str, alloc: Global) -> Result<Pointer, Refusal<FormCause>>
     ensures { MatchResult result (λ p. spelling.now ≡ spell p)
         (λ fault. IsTextFault fault spelling.now) }
 {
@@ -139,10 +195,11 @@ pub(crate) fn pointer_of(spelling: &str, alloc: Global) -> Result<Pointer, Refus
     }
 }
 
-fn value_of(mut entries: BTreeMap<String, Doc>) -> Result<Doc, Refusal<FormCause>>
+fn value_of<T: Node>(mut entries: BTreeMap<String, T>) -> Result<T, Refusal<FormCause>>
+    requires documents { (d : T) → IsDocument (T.means d) }
     ensures { MatchResult result
-        (λ v. find (codes "value") (members entries.entries) ≡ Some (document v))
-        (λ fault. IsValueFault fault (object (members entries.entries))) }
+        (λ v. find (codes "value") (members_by T.means entries.entries) ≡ Some (T.means v))
+        (λ fault. IsValueFault fault (object (members_by T.means entries.entries))) }
 {
     let Some(value) = entries.remove("value") else {
         return Err(Refusal::By(FormCause::NoValue));

@@ -7,7 +7,7 @@ ghost use Rattle.mp_patch.specs.View.{value_operations};
 
 use crate::bound::DepthBound;
 use crate::fault::ApplyFault;
-use crate::value_op::ValueOp;
+use crate::op::ValueOp;
 use crate::value_steps::step;
 use serde_json::Value;
 use std::alloc::Global;

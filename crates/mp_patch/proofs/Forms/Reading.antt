@@ -9,11 +9,13 @@ use Rattle.mp_pointer.proofs.Facts.{spellings_have_no_fault}
 use Rattle.mp_patch.specs.Form.{NamesOp, Need, path_alone, a_value, an_origin, HasOp, HasNoPointer, Carries, EachForm, IsForm, IsFormFault, IsNoPointer, needed_members, op_member, path_member, text_at, text_of}
 use Rattle.mp_patch.specs.Operation.{Operation}
 use Rattle.mp_patch.specs.Private.Faults.{fault_of_element}
-use Rattle.mp_patch.specs.Private.Reading.{FindsNoPointer, IsMapFault, IsElementFault, IsOriginFault, IsValueFault}
+use Rattle.mp_patch.specs.Private.Names.{name_of}
+use Rattle.mp_patch.specs.Private.Reading.{FindsNoPointer, IsMapFault, IsElementFault, IsOriginFault, IsTextFault}
 use Rattle.mp_patch.specs.declared.fault.FormCause.{FormCause}
 use Rattle.mp_patch.specs.declared.fault.FormCause.TheVariants.{NotAnObject, NoOp, UnknownOp, NoPath, NoFrom, BadPointer, NoValue}
 use Rattle.mp_patch.specs.declared.fault.Refusal.{Refusal}
 use Rattle.mp_patch.specs.declared.fault.Refusal.TheVariants.{By, OutOfMemory}
+use Rattle.mp_patch.specs.declared.name.OpName.{OpName}
 use Rattle.mp_patch.proofs.Forms.Needs.{one_need, value_or_origin}
 use Rattle.mp_tree.proofs.Facts.{count_of-items-by, items-append-by, same_some, some_none}
 
@@ -147,12 +149,20 @@ origin_fault (By NoPath) name path ms op named at faulty = absurd faulty
 origin_fault (By NoValue) name path ms op named at faulty = absurd faulty
 origin_fault OutOfMemory name path ms op named at faulty = tt
 
-pub value_fault : (fault : Refusal FormCause) (name : List ℕ) (t : Tokens) (ms : Members) → NamesOp a_value name → Carries ms (op_member name ∷ path_member t ∷ []) → IsValueFault fault (object ms) → IsMapFault fault (object ms)
-value_fault (By NoValue) name t ms named carries none = ((name, ap (option_and_then text_of) carries.0, named), t, ap (option_and_then text_of) carries.1.0, none)
-value_fault (By NotAnObject) name t ms named carries faulty = absurd faulty
-value_fault (By NoOp) name t ms named carries faulty = absurd faulty
-value_fault (By UnknownOp) name t ms named carries faulty = absurd faulty
-value_fault (By NoPath) name t ms named carries faulty = absurd faulty
-value_fault (By NoFrom) name t ms named carries faulty = absurd faulty
-value_fault (By BadPointer) name t ms named carries faulty = absurd faulty
-value_fault OutOfMemory name t ms named carries faulty = tt
+pub path_fault : (named : OpName) (ms : Members) → text_at (codes "op") (object ms) ≡ Some (name_of named) → text_at (codes "path") (object ms) ≡ None → IsMapFault (By NoPath) (object ms)
+path_fault OpName.Add ms op none = (a_value, (codes "add", op, inl refl), none)
+path_fault OpName.Remove ms op none = (path_alone, (codes "remove", op, refl), none)
+path_fault OpName.Replace ms op none = (a_value, (codes "replace", op, inr (inl refl)), none)
+path_fault OpName.Move ms op none = (an_origin, (codes "move", op, inl refl), none)
+path_fault OpName.Copy ms op none = (an_origin, (codes "copy", op, inr refl), none)
+path_fault OpName.Test ms op none = (a_value, (codes "test", op, inr (inr refl)), none)
+
+pub text_fault : (fault : Refusal FormCause) (name path : List ℕ) (ms : Members) → text_at (codes "op") (object ms) ≡ Some name → NamesOp a_value name → text_at (codes "path") (object ms) ≡ Some path → IsTextFault fault path → IsMapFault fault (object ms)
+text_fault (By BadPointer) name path ms op named at bad = (a_value, (name, op, named), path, at, bad)
+text_fault (By NotAnObject) name path ms op named at bad = absurd bad
+text_fault (By NoOp) name path ms op named at bad = absurd bad
+text_fault (By UnknownOp) name path ms op named at bad = absurd bad
+text_fault (By NoPath) name path ms op named at bad = absurd bad
+text_fault (By NoFrom) name path ms op named at bad = absurd bad
+text_fault (By NoValue) name path ms op named at bad = absurd bad
+text_fault OutOfMemory name path ms op named at bad = tt

@@ -1,11 +1,11 @@
 -- What reading a single element of a patch answers. Only private clauses cite it.
-use Rattle.std.specs.Prelude.{◌≡◌, ◌⊎◌, ◌∷◌, [], ℕ, codes, List, None, Some, ⊤}
-use Rattle.mp_tree.specs.Document.{Document, Members}
+use Rattle.std.specs.Prelude.{◌≡◌, ◌⊎◌, ℕ, codes, List, None, Some, ⊤}
+use Rattle.mp_tree.specs.Document.{Document}
 use Rattle.mp_tree.specs.Look.{at_name}
 use Rattle.mp_pointer.specs.Spelling.{Tokens, spell}
-use Rattle.mp_patch.specs.Form.{Carries, IsFaulty, IsNoPointer, HasOp, Need, path_alone, a_value, an_origin, NamesOp}
-use Rattle.mp_patch.specs.Form.{needed_members, op_member, path_member, text_at}
-use Rattle.mp_patch.specs.Operation.{remove, move, copy}
+use Rattle.mp_patch.specs.Form.{IsFaulty, IsNoPointer, HasOp, Need, path_alone, a_value, an_origin, NamesOp}
+use Rattle.mp_patch.specs.Form.{text_at}
+use Rattle.mp_patch.specs.Operation.{Operation, add, remove, replace, move, copy, test}
 use Rattle.mp_patch.specs.declared.fault.FormCause.TheVariants.{NotAnObject, NoOp, UnknownOp, NoPath, NoFrom}
 use Rattle.mp_patch.specs.declared.fault.FormCause.TheVariants.{BadPointer, NoValue}
 use Rattle.mp_patch.specs.declared.fault.FormCause.{FormCause}
@@ -71,13 +71,13 @@ IsValueFault (By NoValue) d = at_name (codes "value") d ≡ None
 IsValueFault (By cause) d = ⊥
 IsValueFault OutOfMemory d = ⊤
 
--- ---- an operation but for its value
+-- ---- an operation as it is read
 
--- the object carries what the draft has
-abbrev pub Drafts : Draft → Members → Type 0
-Drafts (Add path) ms = Carries ms (op_member (codes "add") ∷ path_member path ∷ [])
-Drafts (Remove path) ms = Carries ms (needed_members (remove path))
-Drafts (Replace path) ms = Carries ms (op_member (codes "replace") ∷ path_member path ∷ [])
-Drafts (Move origin path) ms = Carries ms (needed_members (move origin path))
-Drafts (Copy origin path) ms = Carries ms (needed_members (copy origin path))
-Drafts (Test path) ms = Carries ms (op_member (codes "test") ∷ path_member path ∷ [])
+-- its value as the document that it means by f
+abbrev pub drafted : {V : Type 0} → (V → Document) → Draft V → Operation
+drafted f (Add path value) = add path (f value)
+drafted f (Remove path) = remove path
+drafted f (Replace path value) = replace path (f value)
+drafted f (Move origin path) = move origin path
+drafted f (Copy origin path) = copy origin path
+drafted f (Test path value) = test path (f value)

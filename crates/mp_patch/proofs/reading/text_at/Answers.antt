@@ -1,37 +1,24 @@
-use Rattle.std.proofs.Common.{◌≡◌, None, Some, option_map, option_and_then, inl, inr, ap, sym, ◌∙◌}
-use Rattle.mp_tree.specs.Document.{find}
-use Rattle.mp_tree.specs.View.{document}
-use Rattle.mp_tree.specs.Private.Entries.{members}
-use Rattle.mp_tree.proofs.Facts.{find-members, document-Null, document-Flag, document-Whole, document-Text, document-Items, document-Members}
+use Rattle.std.proofs.Common.{◌≡◌, ◌≢◌, ℕ, List, Option, None, Some, MatchOption, option_and_then, refl, ap, sym, ◌∙◌}
+use Rattle.std.specs.Borrow.{Bor}
+use Rattle.std.specs.Option.{option_copied}
+use Rattle.mp_tree.specs.Document.{Document, null, flag, whole, string, list, object}
+use Rattle.mp_tree.proofs.Facts.{looked_up-by}
 use Rattle.mp_patch.specs.Form.{text_of}
 use Rattle.mp_patch.proofs.reading.text_at.Goals as goal
 
-pub returns-in_err-text : goal.returns-in_err-text
-returns-in_err-text c =
-    let none : find c.args.name.now (members c.args.entries.now.entries) ≡ None = find-members c.args.name.now c.args.entries.now.entries ∙ ap (option_map document) (sym c.in_err-text.ensures.value) in
-    rw c.from_residual.ensures (sym (ap (option_and_then text_of) none))
+text_shown : (r : Option (Bor (List ℕ))) (d : Document) → MatchOption r ((s : List ℕ) → d ≢ string s) (λ s. d ≡ string s.now) → option_copied r ≡ text_of d
+text_shown (Some s) d is = sym (ap text_of is)
+text_shown None null none = refl
+text_shown None (flag b) none = refl
+text_shown None (whole z) none = refl
+text_shown None (string s) none = absurd (none s refl)
+text_shown None (list ds) none = refl
+text_shown None (object ms) none = refl
 
-pub returns-in-Text : goal.returns-in-Text
-returns-in-Text c =
-    let here : find c.args.name.now (members c.args.entries.now.entries) ≡ Some (document c.in_ok-text.field-0.now) = find-members c.args.name.now c.args.entries.now.entries ∙ ap (option_map document) (sym c.in_ok-text.ensures.value) in
-    let is = ap document c.in-Text.is ∙ document-Text c.in-Text.text in
-    ap Some c.as_str.ensures.value ∙ sym (ap (option_and_then text_of) here ∙ ap text_of is)
+pub returns-in_err-get : goal.returns-in_err-get
+returns-in_err-get g c = rw c.from_residual.ensures (sym (ap (option_and_then text_of) (looked_up-by g.T.Node.means c.requires.documents {n = c.args.name.now} c.args.entries.now.entries refl c.in_err-get.ensures.value)))
 
-pub returns-in-Null : goal.returns-in-Null
-returns-in-Null c =
-    let here : find c.args.name.now (members c.args.entries.now.entries) ≡ Some (document c.in_ok-text.field-0.now) = find-members c.args.name.now c.args.entries.now.entries ∙ ap (option_map document) (sym c.in_ok-text.ensures.value) in
-    let none : text_of (document c.in_ok-text.field-0.now) ≡ None =
-    elim c.in-Null.is [
-      | inl e ↦ ap text_of (ap document e ∙ document-Null)
-      | inr later ↦ elim later [
-        | inl e ↦ ap text_of (ap document e.1 ∙ document-Flag e.0)
-        | inr later ↦ elim later [
-          | inl e ↦ ap text_of (ap document e.1 ∙ document-Whole e.0)
-          | inr later ↦ elim later [
-            | inl e ↦ ap text_of (ap document e.1 ∙ document-Items e.0)
-            | inr e ↦ ap text_of (ap document e.1 ∙ document-Members e.0)
-          ]
-        ]
-      ]
-    ] in
-    sym (ap (option_and_then text_of) here ∙ none)
+pub returns : goal.returns
+returns g c =
+    let found = looked_up-by g.T.Node.means c.requires.documents {n = c.args.name.now} c.args.entries.now.entries refl c.in_ok-get.ensures.value in
+    text_shown c.text.result (g.T.Node.means c.in_ok-get.field-0.now) c.text.ensures ∙ sym (ap (option_and_then text_of) found)
