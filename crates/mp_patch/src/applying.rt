@@ -1,15 +1,18 @@
 //! Applying a patch to a document.
 ghost use Rattle.std.specs.Prelude.{◌≤◌, MatchResult, IfOk};
 ghost use Rattle.mp_tree.specs.Document.{depth, depth_limit};
+ghost use Rattle.mp_tree.specs.Values.{value_document};
 ghost use Rattle.mp_tree.specs.View.{document};
 ghost use Rattle.mp_patch.specs.Run.{Runs, IsApplyFault};
-ghost use Rattle.mp_patch.specs.View.{operations_of};
+ghost use Rattle.mp_patch.specs.View.{operations_of, value_operations};
 
 use crate::bound::DepthBound;
 use crate::fault::ApplyFault;
+use crate::op::ValueOp;
 use crate::patch::JsonPatch;
-use crate::steps::{step, step_owned};
+use crate::steps::{step, step_owned, step_value};
 use mp_tree::Doc;
+use serde_json::Value;
 use std::alloc::Global;
 
 /// The document after all operations of the patch, in order, each on what the one before left (RFC 6902 sections 3
@@ -62,6 +65,31 @@ pub fn apply_once(alloc: Global, doc: Doc, patch: JsonPatch) -> Result<Doc, Appl
     let mut done = 0;
     for op in patch.into_ops() {
         if let Err(refusal) = step_owned(op, &mut result, &mut bound, alloc) {
+            return Err(refusal.of_operation(done));
+        }
+        done += 1;
+    }
+    Ok(result)
+}
+
+/// As `apply_once`, of a document and of operations that are values: the document is changed in place, and what the operations
+/// set is moved into it.
+///
+/// ```text
+/// apply_to_value(alloc, value, ops)  // {"l":[1,3]}, for {"l":[1,2]} and [{"op":"replace","path":"/l/1","value":3}]
+/// ```
+pub fn apply_to_value(alloc: Global, value: Value, ops: Vec<ValueOp>) -> Result<Value, ApplyFault>
+    ensures runs { MatchResult result
+        (λ e. Runs (value_document value) (value_operations ops.items) (value_document e))
+        (λ fault. IsApplyFault fault (value_document value) (value_operations ops.items)) }
+    ensures depth { IfOk result (λ e. depth (value_document value) ≤ depth_limit
+        → depth (value_document e) ≤ depth_limit) }
+{
+    let mut result = value;
+    let mut bound = DepthBound::unknown();
+    let mut done = 0;
+    for op in ops {
+        if let Err(refusal) = step_value(op, &mut result, &mut bound, alloc) {
             return Err(refusal.of_operation(done));
         }
         done += 1;

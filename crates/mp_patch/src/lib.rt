@@ -15,14 +15,11 @@ mod reading;
 mod serializing;
 mod shape;
 mod steps;
-mod value_applying;
-mod value_steps;
 mod writing;
 
-pub use applying::{apply, apply_once, apply_owned};
+pub use applying::{apply, apply_once, apply_owned, apply_to_value};
 pub use fault::{ApplyFault, Cause, FormCause, FormFault};
 pub use op::{Op, ValueOp};
 pub use patch::JsonPatch;
 pub use reading::ops_of_value;
-pub use value_applying::apply_to_value;
 pub use writing::write_patch;

@@ -1,6 +1,7 @@
 // One operation at a time (RFC 6902 section 4), on a document that is owned.
 ghost use Rattle.std.specs.Prelude.{◌≡◌, ◌≢◌, ◌+◌, ◌≤◌, ◌↔◌, ◌++◌, ◌∷◌, [], length, take, IsTrue, Some, MatchOption, MatchResult, OnOk, Err};
-ghost use Rattle.mp_tree.specs.Document.{depth, depth_limit};
+ghost use Rattle.mp_tree.specs.Document.{IsDocument, depth, depth_limit};
+ghost use Rattle.mp_tree.specs.Values.{value_document};
 ghost use Rattle.mp_tree.specs.View.{document};
 ghost use Rattle.mp_pointer.specs.Part.{part};
 ghost use Rattle.mp_patch.specs.Operation.{add as add_operation, remove as remove_operation, replace as replace_operation, move as move_operation, copy as copy_operation, test as test_operation, Removes};
@@ -8,14 +9,15 @@ ghost use Rattle.mp_patch.specs.Refusal.{RefusedBy};
 ghost use Rattle.mp_patch.specs.Run.{IsRefused};
 ghost use Rattle.mp_patch.specs.Private.Bounds.{Bounds};
 ghost use Rattle.mp_patch.specs.Private.Steps.{Answers};
-ghost use Rattle.mp_patch.specs.View.{operation_of};
+ghost use Rattle.mp_patch.specs.View.{operation_of, value_operation_of};
 
 use crate::bound::DepthBound;
 use crate::containers::{insert, set, take};
 use crate::fault::{Cause, Refusal};
-use crate::op::Op;
-use mp_pointer::{Pointer, edit_part, get};
-use mp_tree::Doc;
+use crate::op::{Op, ValueOp};
+use mp_pointer::{Pointer, edit_part_in, part_in};
+use mp_tree::{Doc, Node};
+use serde_json::Value;
 use std::alloc::Global;
 
 // On an error the document is not used again.
@@ -60,38 +62,64 @@ pub(crate) fn step_owned(
     }
 }
 
-fn add(
-    doc: &mut Doc,
-    path: &Pointer,
-    value: Doc,
+// The same of an operation whose values are those of `serde_json`, on such a value.
+pub(crate) fn step_value(
+    op: ValueOp,
+    doc: &mut Value,
     bound: &mut DepthBound,
     alloc: Global,
 ) -> Result<(), Refusal<Cause>>
-    requires { Bounds bound.old.most 0 (document doc.old) }
-    ensures answer { Answers result (document doc.old) (add_operation path.now (document value))
-        (document doc.new) }
-    ensures bounds { OnOk result (Bounds bound.new.most 0 (document doc.new)) }
+    requires { Bounds bound.old.most 0 (value_document doc.old) }
+    ensures answer { Answers result (value_document doc.old) (value_operation_of op)
+        (value_document doc.new) }
+    ensures bounds { OnOk result (Bounds bound.new.most 0 (value_document doc.new)) }
+{
+    match op {
+        ValueOp::Add(path, value) => add(doc, &path, value, bound, alloc),
+        ValueOp::Remove(path) => {
+            drop(remove(doc, &path)?);
+            Ok(())
+        }
+        ValueOp::Replace(path, value) => replace(doc, &path, value, bound),
+        ValueOp::Move { origin, path } => move_part(doc, &origin, &path, bound, alloc),
+        ValueOp::Copy { origin, path } => copy_part(doc, &origin, &path, bound, alloc),
+        ValueOp::Test(path, value) => check(doc, &path, &value),
+    }
+}
+
+fn add<T: Node>(
+    doc: &mut T,
+    path: &Pointer,
+    value: T,
+    bound: &mut DepthBound,
+    alloc: Global,
+) -> Result<(), Refusal<Cause>>
+    requires documents { (d : T) → IsDocument (T.means d) }
+    requires bounds { Bounds bound.old.most 0 (T.means doc.old) }
+    ensures answer { Answers result (T.means doc.old) (add_operation path.now (T.means value))
+        (T.means doc.new) }
+    ensures bounds { OnOk result (Bounds bound.new.most 0 (T.means doc.new)) }
 {
     let fits = bound.admit(&value, path.len());
     put(doc, path, value, fits, alloc)
 }
 
 // Adds a value of which is known whether it fits.
-fn put(
-    doc: &mut Doc,
+fn put<T: Node>(
+    doc: &mut T,
     path: &Pointer,
-    value: Doc,
+    value: T,
     fits: bool,
     alloc: Global,
 ) -> Result<(), Refusal<Cause>>
-    requires { IsTrue fits ↔ (length path.now + depth (document value) ≤ depth_limit) }
-    ensures { Answers result (document doc.old) (add_operation path.now (document value))
-        (document doc.new) }
+    requires { IsTrue fits ↔ (length path.now + depth (T.means value) ≤ depth_limit) }
+    ensures { Answers result (T.means doc.old) (add_operation path.now (T.means value))
+        (T.means doc.new) }
 {
     let Some((last, token)) = last_token(path) else {
         return set(doc, value, fits);
     };
-    match edit_part(
+    match edit_part_in(
         doc,
         path,
         last,
@@ -103,17 +131,17 @@ fn put(
 }
 
 // The part that was at the place.
-fn remove(doc: &mut Doc, path: &Pointer) -> Result<Doc, Refusal<Cause>>
+fn remove<T: Node>(doc: &mut T, path: &Pointer) -> Result<T, Refusal<Cause>>
     ensures { MatchResult result
-        (λ x. (path.now ≢ []) × (part (document doc.old) path.now ≡ Some (document x))
-        × Removes path.now (document doc.old) (document doc.new))
-        (λ fault. Answers (Err fault) (document doc.old) (remove_operation path.now)
-        (document doc.new)) }
+        (λ x. (path.now ≢ []) × (part (T.means doc.old) path.now ≡ Some (T.means x))
+        × Removes path.now (T.means doc.old) (T.means doc.new))
+        (λ fault. Answers (Err fault) (T.means doc.old) (remove_operation path.now)
+        (T.means doc.new)) }
 {
     let Some((last, token)) = last_token(path) else {
         return Err(Refusal::By(Cause::RemoveRoot));
     };
-    let Some(taken) = edit_part(doc, path, last, |container| take(container, token)) else {
+    let Some(taken) = edit_part_in(doc, path, last, |container| take(container, token)) else {
         return Err(Refusal::By(Cause::Missing));
     };
     match taken {
@@ -122,42 +150,44 @@ fn remove(doc: &mut Doc, path: &Pointer) -> Result<Doc, Refusal<Cause>>
     }
 }
 
-fn replace(
-    doc: &mut Doc,
+fn replace<T: Node>(
+    doc: &mut T,
     path: &Pointer,
-    value: Doc,
+    value: T,
     bound: &mut DepthBound,
 ) -> Result<(), Refusal<Cause>>
-    requires { Bounds bound.old.most 0 (document doc.old) }
-    ensures answer { Answers result (document doc.old)
-        (replace_operation path.now (document value)) (document doc.new) }
-    ensures bounds { OnOk result (Bounds bound.new.most 0 (document doc.new)) }
+    requires documents { (d : T) → IsDocument (T.means d) }
+    requires bounds { Bounds bound.old.most 0 (T.means doc.old) }
+    ensures answer { Answers result (T.means doc.old)
+        (replace_operation path.now (T.means value)) (T.means doc.new) }
+    ensures bounds { OnOk result (Bounds bound.new.most 0 (T.means doc.new)) }
 {
     let fits = bound.admit(&value, path.len());
-    match edit_part(doc, path, path.len(), |part| set(part, value, fits)) {
+    match edit_part_in(doc, path, path.len(), |part| set(part, value, fits)) {
         Some(outcome) => outcome,
         None => Err(Refusal::By(Cause::Missing)),
     }
 }
 
 // The part itself goes to its new place: nothing of it is copied.
-fn move_part(
-    doc: &mut Doc,
+fn move_part<T: Node>(
+    doc: &mut T,
     origin: &Pointer,
     path: &Pointer,
     bound: &mut DepthBound,
     alloc: Global,
 ) -> Result<(), Refusal<Cause>>
-    requires { Bounds bound.old.most 0 (document doc.old) }
-    ensures answer { Answers result (document doc.old) (move_operation origin.now path.now)
-        (document doc.new) }
-    ensures bounds { OnOk result (Bounds bound.new.most 0 (document doc.new)) }
+    requires documents { (d : T) → IsDocument (T.means d) }
+    requires bounds { Bounds bound.old.most 0 (T.means doc.old) }
+    ensures answer { Answers result (T.means doc.old) (move_operation origin.now path.now)
+        (T.means doc.new) }
+    ensures bounds { OnOk result (Bounds bound.new.most 0 (T.means doc.new)) }
 {
     if origin.is_proper_prefix_of(path) {
         return Err(Refusal::By(Cause::IntoItself));
     }
     if origin == path {
-        return match get(doc, origin) {
+        return match part_in(doc, origin) {
             Some(_) => Ok(()),
             None => Err(Refusal::By(Cause::Missing)),
         };
@@ -167,32 +197,33 @@ fn move_part(
     put(doc, path, part, fits, alloc)
 }
 
-fn copy_part(
-    doc: &mut Doc,
+fn copy_part<T: Node>(
+    doc: &mut T,
     origin: &Pointer,
     path: &Pointer,
     bound: &mut DepthBound,
     alloc: Global,
 ) -> Result<(), Refusal<Cause>>
-    requires { Bounds bound.old.most 0 (document doc.old) }
-    ensures answer { Answers result (document doc.old) (copy_operation origin.now path.now)
-        (document doc.new) }
-    ensures bounds { OnOk result (Bounds bound.new.most 0 (document doc.new)) }
+    requires documents { (d : T) → IsDocument (T.means d) }
+    requires bounds { Bounds bound.old.most 0 (T.means doc.old) }
+    ensures answer { Answers result (T.means doc.old) (copy_operation origin.now path.now)
+        (T.means doc.new) }
+    ensures bounds { OnOk result (Bounds bound.new.most 0 (T.means doc.new)) }
 {
-    let part = match get(doc, origin) {
-        Some(part) => part.copy(alloc)?,
+    let part = match part_in(doc, origin) {
+        Some(part) => part.copied(alloc)?,
         None => return Err(Refusal::By(Cause::Missing)),
     };
     add(doc, path, part, bound, alloc)
 }
 
 // RFC 6902's `test`.
-fn check(doc: &Doc, path: &Pointer, value: &Doc) -> Result<(), Refusal<Cause>>
-    ensures { Answers result (document doc.now) (test_operation path.now (document value.now))
-        (document doc.now) }
+fn check<T: Node>(doc: &T, path: &Pointer, value: &T) -> Result<(), Refusal<Cause>>
+    ensures { Answers result (T.means doc.now) (test_operation path.now (T.means value.now))
+        (T.means doc.now) }
 {
-    match get(doc, path) {
-        Some(part) => if part.same(value) {
+    match part_in(doc, path) {
+        Some(part) => if part.equals(value) {
             Ok(())
         } else {
             Err(Refusal::By(Cause::TestFailed))

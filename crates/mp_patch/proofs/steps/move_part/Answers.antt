@@ -1,8 +1,6 @@
 use Rattle.std.proofs.Common.{◌≡◌, ◌≢◌, rules, true≢false, sym, ◌∙◌, subst}
 use Rattle.std.proofs.lemmas.Result.{err_from_is_err_and}
 use Rattle.std.proofs.lemmas.Bool.Decides.{Decides-at}
-use Rattle.mp_tree.specs.View.{document}
-use Rattle.mp_tree.proofs.Facts.{IsDocument-document}
 use Rattle.mp_pointer.specs.Spelling.{IsProperPrefix}
 use Rattle.mp_pointer.proofs.Facts.{are_same_tokens-Decides}
 use Rattle.mp_patch.specs.Private.Bounds.{Bounds}
@@ -11,46 +9,52 @@ use Rattle.mp_patch.proofs.Operations.Moves.{moved, not_moved, stays}
 use Rattle.mp_patch.proofs.steps.move_part.Goals as goal
 
 pub returns-in-Some-clause-answer : goal.returns-in-Some-clause-answer
-returns-in-Some-clause-answer c =
+returns-in-Some-clause-answer g c =
+    let m = g.T.Node.means in
     let f = c.args.origin.now in
     let t = c.args.path.now in
     let apart : ¬ IsProperPrefix f t = λ h. true≢false (sym (c.is_proper_prefix_of.ensures.1 h) ∙ c.if-is_proper_prefix_of.false) in
     let same : f ≡ t = (Decides-at _ _ c.eq.ensures (are_same_tokens-Decides f t)).0 c.if-eq.true in
-    stays (document c.args.doc.now) (document c.in-Some.field-0.now) f t apart same (search rules)
+    stays (m c.args.doc.now) (m c.in-Some.field-0.now) f t apart same (search rules)
 
 pub returns-in_err-part-clause-answer : goal.returns-in_err-part-clause-answer
-returns-in_err-part-clause-answer c =
+returns-in_err-part-clause-answer g c =
+    let m = g.T.Node.means in
     let f = c.args.origin.now in
     let t = c.args.path.now in
     let apart : ¬ IsProperPrefix f t = λ h. true≢false (sym (c.is_proper_prefix_of.ensures.1 h) ∙ c.if-is_proper_prefix_of.false) in
     let other : f ≢ t = λ h. true≢false (sym ((Decides-at _ _ c.eq.ensures (are_same_tokens-Decides f t)).1 h) ∙ c.if-eq.false) in
     let p = err_from_is_err_and c.from_residual.result c.from_residual.ensures.1 in
-    rw (p.1, p.2) (not_moved c.in_err-part.field-0.0 f t (document c.args.doc.now) (document c.remove.new.doc) (document c.remove.new.doc) apart other c.in_err-part.ensures)
+    rw (p.1, p.2) (not_moved c.in_err-part.field-0.0 f t (m c.args.doc.now) (m c.remove.new.doc) (m c.remove.new.doc) apart other c.in_err-part.ensures)
 
 pub returns-clause-answer : goal.returns-clause-answer
-returns-clause-answer c =
+returns-clause-answer g c =
+    let m = g.T.Node.means in
     let f = c.args.origin.now in
     let t = c.args.path.now in
     let d = c.args.doc.now in
     let apart : ¬ IsProperPrefix f t = λ h. true≢false (sym (c.is_proper_prefix_of.ensures.1 h) ∙ c.if-is_proper_prefix_of.false) in
     let other : f ≢ t = λ h. true≢false (sym ((Decides-at _ _ c.eq.ensures (are_same_tokens-Decides f t)).1 h) ∙ c.if-eq.false) in
-    moved f t (document c.in_ok-part.part) (document d) (document c.remove.new.doc) (IsDocument-document d) apart other c.in_ok-part.ensures.1 c.in_ok-part.ensures.2 c.put.result (document c.put.new.doc) c.put.ensures
+    moved f t (m c.in_ok-part.part) (m d) (m c.remove.new.doc) (c.requires.documents d) apart other c.in_ok-part.ensures.1 c.in_ok-part.ensures.2 c.put.result (m c.put.new.doc) c.put.ensures
 
 -- the part is as much less deep than the document as it stood below it
 pub admit_part-fits-requires-clause-part : goal.admit_part-fits-requires-clause-part
-admit_part-fits-requires-clause-part c =
+admit_part-fits-requires-clause-part g c =
+    let m = g.T.Node.means in
     let most = c.args.bound.now.most in
-    let x = document c.in_ok-part.part in
-    subst (λ n. Bounds most n x) (sym c.len.ensures) (part-bounds most c.args.origin.now (document c.args.doc.now) x c.in_ok-part.ensures.1 c.requires)
+    let x = m c.in_ok-part.part in
+    subst (λ n. Bounds most n x) (sym c.len.ensures) (part-bounds most c.args.origin.now (m c.args.doc.now) x c.in_ok-part.ensures.1 c.requires.bounds)
 
 pub admit_part-fits-requires-clause-rest : goal.admit_part-fits-requires-clause-rest
-admit_part-fits-requires-clause-rest c =
+admit_part-fits-requires-clause-rest g c =
+    let m = g.T.Node.means in
     let left = c.remove.new.doc in
-    Removes-bounds c.args.bound.now.most c.args.origin.now (document c.args.doc.now) (document left) c.in_ok-part.ensures.2 (IsDocument-document left) c.requires
+    Removes-bounds c.args.bound.now.most c.args.origin.now (m c.args.doc.now) (m left) c.in_ok-part.ensures.2 (c.requires.documents left) c.requires.bounds
 
 pub returns-clause-bounds : goal.returns-clause-bounds
-returns-clause-bounds c =
+returns-clause-bounds g c =
+    let m = g.T.Node.means in
     let end = c.put.new.doc in
     let admits = c.admit_part-fits.ensures in
-    added-bounds c.admit_part-fits.result c.admit_part-fits.new.self.most c.len-2.result c.args.path.now (document c.in_ok-part.part) (document c.remove.new.doc) (document end)
-    c.len-2.ensures admits.fits.1 admits.bounds (IsDocument-document end) admits.kept c.put.result c.put.ensures
+    added-bounds c.admit_part-fits.result c.admit_part-fits.new.self.most c.len-2.result c.args.path.now (m c.in_ok-part.part) (m c.remove.new.doc) (m end)
+    c.len-2.ensures admits.fits.1 admits.bounds (c.requires.documents end) admits.kept c.put.result c.put.ensures

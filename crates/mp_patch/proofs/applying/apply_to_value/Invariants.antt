@@ -5,7 +5,7 @@ use Rattle.mp_tree.specs.Values.{value_document}
 use Rattle.mp_patch.specs.Private.Bounds.{Bounds}
 use Rattle.mp_patch.specs.View.{value_operation_of}
 use Rattle.mp_patch.proofs.Runs.Growth.{HasRunTo}
-use Rattle.mp_patch.proofs.value_applying.apply_to_value.Given as goal
+use Rattle.mp_patch.proofs.applying.apply_to_value.Given as goal
 
 abbrev pub invariant-loop-op : goal.invariant-loop-op
 invariant-loop-op l = record {

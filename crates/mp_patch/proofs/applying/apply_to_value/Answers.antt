@@ -7,7 +7,7 @@ use Rattle.mp_patch.specs.View.{value_operation_of, value_operations}
 use Rattle.mp_patch.specs.declared.fault.ApplyFault.{ApplyFault}
 use Rattle.mp_patch.proofs.Operations.Depth.{Step-depth}
 use Rattle.mp_patch.proofs.Runs.Growth.{run_further, run_end, few_done, fault_next}
-use Rattle.mp_patch.proofs.value_applying.apply_to_value.Goals as goal
+use Rattle.mp_patch.proofs.applying.apply_to_value.Goals as goal
 
 pub loop-op-init : goal.loop-op-init
 loop-op-init c = record {
@@ -31,9 +31,9 @@ loop-op-preserved c =
     let l = c.loop-op in
     let answer = c.in_default.ensures.answer in
     record {
-      ran = run_further value_operation_of (value_document c.args.value) c.args.ops.items (into_iter_items l.op-iterator) l.done (value_document l.result) l.invariant.ran c.in-Some.op (into_iter_items c.next.new.self) c.in-Some.ensures.steps.0 (value_document c.step.new.doc) answer.0 answer.1;
+      ran = run_further value_operation_of (value_document c.args.value) c.args.ops.items (into_iter_items l.op-iterator) l.done (value_document l.result) l.invariant.ran c.in-Some.op (into_iter_items c.next.new.self) c.in-Some.ensures.steps.0 (value_document c.step_value.new.doc) answer.0 answer.1;
       bounds = c.in_default.ensures.bounds;
-      shallow = λ shallow. Step-depth (value_document l.result) (value_operation_of c.in-Some.op) (value_document c.step.new.doc) answer.0 answer.1 (IsDocument-value l.result) (IsDocument-value c.step.new.doc) (l.invariant.shallow shallow);
+      shallow = λ shallow. Step-depth (value_document l.result) (value_operation_of c.in-Some.op) (value_document c.step_value.new.doc) answer.0 answer.1 (IsDocument-value l.result) (IsDocument-value c.step_value.new.doc) (l.invariant.shallow shallow);
       can_next = tt;
       is_finite = tt;
     }
@@ -42,7 +42,7 @@ pub returns-in-Err-clause-runs : goal.returns-in-Err-clause-runs
 returns-in-Err-clause-runs c =
     let l = c.loop-op in
     subst (λ (fault : ApplyFault). IsApplyFault fault (value_document c.args.value) (value_operations c.args.ops.items)) (sym c.of_operation.ensures)
-    (fault_next value_operation_of (value_document c.args.value) c.args.ops.items (into_iter_items l.op-iterator) l.done (value_document l.result) l.invariant.ran c.in-Some.op (into_iter_items c.next.new.self) c.in-Some.ensures.steps.0 c.in-Err.refusal (value_document c.step.new.doc) c.in-Err.ensures.answer)
+    (fault_next value_operation_of (value_document c.args.value) c.args.ops.items (into_iter_items l.op-iterator) l.done (value_document l.result) l.invariant.ran c.in-Some.op (into_iter_items c.next.new.self) c.in-Some.ensures.steps.0 c.in-Err.refusal (value_document c.step_value.new.doc) c.in-Err.ensures.answer)
 
 pub returns-clause-runs : goal.returns-clause-runs
 returns-clause-runs c =

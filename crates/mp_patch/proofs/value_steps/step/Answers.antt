@@ -1,9 +1,0 @@
-use Rattle.mp_tree.specs.Values.{value_document}
-use Rattle.mp_tree.proofs.Facts.{IsDocument-value}
-use Rattle.mp_patch.proofs.Operations.Bounds.{Removes-bounds}
-use Rattle.mp_patch.proofs.value_steps.step.Goals as goal
-
-pub returns-in_ok-remove-in-Remove-clause-bounds : goal.returns-in_ok-remove-in-Remove-clause-bounds
-returns-in_ok-remove-in-Remove-clause-bounds c =
-    let end = c.remove.new.doc in
-    Removes-bounds c.args.bound.now.most c.in-Remove.path (value_document c.args.doc.now) (value_document end) c.in_ok-remove-in-Remove.ensures.2 (IsDocument-value end) c.requires
