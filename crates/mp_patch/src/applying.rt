@@ -1,6 +1,6 @@
 //! Applying a patch to a document.
-ghost use Rattle.std.specs.Prelude.{◌≤◌, MatchResult, IfOk};
-ghost use Rattle.mp_tree.specs.Document.{depth, depth_limit};
+ghost use Rattle.std.specs.Prelude.{◌≤◌, map, MatchResult, IfOk};
+ghost use Rattle.mp_tree.specs.Document.{IsDocument, depth, depth_limit};
 ghost use Rattle.mp_tree.specs.Values.{value_document};
 ghost use Rattle.mp_tree.specs.View.{document};
 ghost use Rattle.mp_patch.specs.Run.{Runs, IsApplyFault};
@@ -10,8 +10,8 @@ use crate::bound::DepthBound;
 use crate::fault::ApplyFault;
 use crate::op::ValueOp;
 use crate::patch::JsonPatch;
-use crate::steps::{step, step_owned, step_value};
-use mp_tree::Doc;
+use crate::steps::{StepOwned, step};
+use mp_tree::{Doc, Node};
 use serde_json::Value;
 use std::alloc::Global;
 
@@ -60,16 +60,7 @@ pub fn apply_once(alloc: Global, doc: Doc, patch: JsonPatch) -> Result<Doc, Appl
     ensures depth { IfOk result (λ e. depth (document doc) ≤ depth_limit
         → depth (document e) ≤ depth_limit) }
 {
-    let mut result = doc;
-    let mut bound = DepthBound::unknown();
-    let mut done = 0;
-    for op in patch.into_ops() {
-        if let Err(refusal) = step_owned(op, &mut result, &mut bound, alloc) {
-            return Err(refusal.of_operation(done));
-        }
-        done += 1;
-    }
-    Ok(result)
+    run(doc, patch.into_ops(), alloc)
 }
 
 /// As `apply_once`, of a document and of operations that are values: the document is changed in place, and what the operations
@@ -85,11 +76,23 @@ pub fn apply_to_value(alloc: Global, value: Value, ops: Vec<ValueOp>) -> Result<
     ensures depth { IfOk result (λ e. depth (value_document value) ≤ depth_limit
         → depth (value_document e) ≤ depth_limit) }
 {
-    let mut result = value;
+    run(value, ops, alloc)
+}
+
+// The operations in order, on a node that is owned: each is counted as it is taken.
+fn run<T: Node, O: StepOwned<T>>(doc: T, ops: Vec<O>, alloc: Global) -> Result<T, ApplyFault>
+    requires documents { (d : T) → IsDocument (T.means d) }
+    ensures runs { MatchResult result
+        (λ e. Runs (T.means doc) (map O.means ops.items) (T.means e))
+        (λ fault. IsApplyFault fault (T.means doc) (map O.means ops.items)) }
+    ensures depth { IfOk result (λ e. depth (T.means doc) ≤ depth_limit
+        → depth (T.means e) ≤ depth_limit) }
+{
+    let mut result = doc;
     let mut bound = DepthBound::unknown();
     let mut done = 0;
     for op in ops {
-        if let Err(refusal) = step_value(op, &mut result, &mut bound, alloc) {
+        if let Err(refusal) = op.step_owned(&mut result, &mut bound, alloc) {
             return Err(refusal.of_operation(done));
         }
         done += 1;

@@ -4,7 +4,7 @@ ghost use Rattle.mp_tree.specs.Document.{IsDocument, depth, depth_limit};
 ghost use Rattle.mp_tree.specs.Values.{value_document};
 ghost use Rattle.mp_tree.specs.View.{document};
 ghost use Rattle.mp_pointer.specs.Part.{part};
-ghost use Rattle.mp_patch.specs.Operation.{add as add_operation, remove as remove_operation, replace as replace_operation, move as move_operation, copy as copy_operation, test as test_operation, Removes};
+ghost use Rattle.mp_patch.specs.Operation.{Operation, add as add_operation, remove as remove_operation, replace as replace_operation, move as move_operation, copy as copy_operation, test as test_operation, Removes};
 ghost use Rattle.mp_patch.specs.Refusal.{RefusedBy};
 ghost use Rattle.mp_patch.specs.Run.{IsRefused};
 ghost use Rattle.mp_patch.specs.Private.Bounds.{Bounds};
@@ -44,46 +44,58 @@ pub(crate) fn step(
     }
 }
 
-// The same of an operation that is owned: its value is moved into the document.
-pub(crate) fn step_owned(
-    op: Op,
-    doc: &mut Doc,
-    bound: &mut DepthBound,
-    alloc: Global,
-) -> Result<(), Refusal<Cause>>
-    requires { Bounds bound.old.most 0 (document doc.old) }
-    ensures answer { Answers result (document doc.old) (operation_of op) (document doc.new) }
-    ensures bounds { OnOk result (Bounds bound.new.most 0 (document doc.new)) }
-{
-    match op {
-        Op::Add(path, value) => add(doc, &path, value, bound, alloc),
-        Op::Replace(path, value) => replace(doc, &path, value, bound),
-        other => step(&other, doc, bound, alloc),
+// An operation that is owned: its value is moved into the node that it is taken on.
+pub(crate) trait StepOwned<T: Node>: Drop {
+    ghost means: { Self → Operation };
+
+    fn step_owned(
+        self,
+        doc: &mut T,
+        bound: &mut DepthBound,
+        alloc: Global,
+    ) -> Result<(), Refusal<Cause>>
+        requires { Bounds bound.old.most 0 (T.means doc.old) }
+        ensures answer { Answers result (T.means doc.old) (means self) (T.means doc.new) }
+        ensures bounds { OnOk result (Bounds bound.new.most 0 (T.means doc.new)) };
+}
+
+impl StepOwned<Doc> for Op {
+    ghost means = { operation_of };
+
+    fn step_owned(
+        self,
+        doc: &mut Doc,
+        bound: &mut DepthBound,
+        alloc: Global,
+    ) -> Result<(), Refusal<Cause>> {
+        match self {
+            Op::Add(path, value) => add(doc, &path, value, bound, alloc),
+            Op::Replace(path, value) => replace(doc, &path, value, bound),
+            other => step(&other, doc, bound, alloc),
+        }
     }
 }
 
-// The same of an operation whose values are those of `serde_json`, on such a value.
-pub(crate) fn step_value(
-    op: ValueOp,
-    doc: &mut Value,
-    bound: &mut DepthBound,
-    alloc: Global,
-) -> Result<(), Refusal<Cause>>
-    requires { Bounds bound.old.most 0 (value_document doc.old) }
-    ensures answer { Answers result (value_document doc.old) (value_operation_of op)
-        (value_document doc.new) }
-    ensures bounds { OnOk result (Bounds bound.new.most 0 (value_document doc.new)) }
-{
-    match op {
-        ValueOp::Add(path, value) => add(doc, &path, value, bound, alloc),
-        ValueOp::Remove(path) => {
-            drop(remove(doc, &path)?);
-            Ok(())
+impl StepOwned<Value> for ValueOp {
+    ghost means = { value_operation_of };
+
+    fn step_owned(
+        self,
+        doc: &mut Value,
+        bound: &mut DepthBound,
+        alloc: Global,
+    ) -> Result<(), Refusal<Cause>> {
+        match self {
+            ValueOp::Add(path, value) => add(doc, &path, value, bound, alloc),
+            ValueOp::Remove(path) => {
+                drop(remove(doc, &path)?);
+                Ok(())
+            }
+            ValueOp::Replace(path, value) => replace(doc, &path, value, bound),
+            ValueOp::Move { origin, path } => move_part(doc, &origin, &path, bound, alloc),
+            ValueOp::Copy { origin, path } => copy_part(doc, &origin, &path, bound, alloc),
+            ValueOp::Test(path, value) => check(doc, &path, &value),
         }
-        ValueOp::Replace(path, value) => replace(doc, &path, value, bound),
-        ValueOp::Move { origin, path } => move_part(doc, &origin, &path, bound, alloc),
-        ValueOp::Copy { origin, path } => copy_part(doc, &origin, &path, bound, alloc),
-        ValueOp::Test(path, value) => check(doc, &path, &value),
     }
 }
 

@@ -1,5 +1,5 @@
 use Rattle.mp_tree.proofs.Facts.{IsDocument-document}
-use Rattle.mp_patch.proofs.steps.step_owned.Goals as goal
+use Rattle.mp_patch.proofs.steps.OpStepOwnedDoc.step_owned.Goals as goal
 
 pub add-requires-clause-documents : goal.add-requires-clause-documents
 add-requires-clause-documents c = IsDocument-document

@@ -1,12 +1,7 @@
 use Rattle.mp_tree.specs.Values.{value_document}
 use Rattle.mp_tree.proofs.Facts.{IsDocument-value}
 use Rattle.mp_patch.proofs.Operations.Bounds.{Removes-bounds}
-use Rattle.mp_patch.proofs.steps.step_value.Goals as goal
-
-pub returns-in_ok-remove-in-Remove-clause-bounds : goal.returns-in_ok-remove-in-Remove-clause-bounds
-returns-in_ok-remove-in-Remove-clause-bounds c =
-    let end = c.remove.new.doc in
-    Removes-bounds c.args.bound.now.most c.in-Remove.path (value_document c.args.doc.now) (value_document end) c.in_ok-remove-in-Remove.ensures.2 (IsDocument-value end) c.requires
+use Rattle.mp_patch.proofs.steps.ValueOpStepOwnedValue.step_owned.Goals as goal
 
 pub add-requires-clause-documents : goal.add-requires-clause-documents
 add-requires-clause-documents c = IsDocument-value
@@ -19,3 +14,8 @@ move_part-requires-clause-documents c = IsDocument-value
 
 pub copy_part-requires-clause-documents : goal.copy_part-requires-clause-documents
 copy_part-requires-clause-documents c = IsDocument-value
+
+pub returns-in_ok-remove-in-Remove-clause-bounds : goal.returns-in_ok-remove-in-Remove-clause-bounds
+returns-in_ok-remove-in-Remove-clause-bounds c =
+    let end = c.remove.new.doc in
+    Removes-bounds c.args.bound.now.most c.in-Remove.path (value_document c.args.doc.now) (value_document end) c.in_ok-remove-in-Remove.ensures.2 (IsDocument-value end) c.requires
