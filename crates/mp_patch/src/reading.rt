@@ -22,9 +22,9 @@ use std::collections::BTreeMap;
 
 // Where a part is, and where it goes.
 #[derive(Drop)]
-pub(crate) struct Pointers {
-    pub(crate) origin: Pointer,
-    pub(crate) path: Pointer,
+struct Pointers {
+    origin: Pointer,
+    path: Pointer,
 }
 
 // An operation as it is read, before it is one of those that callers have.

@@ -245,7 +245,7 @@ fn check<T: Node>(doc: &T, path: &Pointer, value: &T) -> Result<(), Refusal<Caus
 }
 
 // The last token, with its number: the tokens before it lead to the object or the array that it names a part of.
-pub(crate) fn last_token(path: &Pointer) -> Option<(usize, &str)>
+fn last_token(path: &Pointer) -> Option<(usize, &str)>
     ensures { MatchOption result (path.now ≡ [])
         (λ last. path.now ≡ take last.0 path.now ++ last.1.now ∷ []) }
 {
