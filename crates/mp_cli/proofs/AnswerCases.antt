@@ -1,7 +1,7 @@
 -- What the commands over lists of patches answer.
 use Rattle.std.proofs.Common.{◌≡◌, ◌≢◌, ℕ, List, [], ◌∷◌, Some, map, refl, sym, subst}
 use Rattle.mp_tree.specs.Document.{Document}
-use Rattle.mp_tree.specs.Private.Entries.{items_by}
+use Rattle.mp_tree.specs.View.{items_by}
 use Rattle.mp_merge.specs.Lists.{IsJoinAllFault, IsReplayFault}
 use Rattle.mp_merge.specs.declared.fault.ListFault.{ListFault}
 use Rattle.mp_merge.specs.declared.fault.ListFault.TheVariants.{NoPatches, ConflictOf, OutOfMemory}

@@ -1,15 +1,15 @@
 //! Whether two merge patches are compatible, and where they conflict.
 ghost use Rattle.std.specs.Prelude.{◌≡◌, ◌↔◌, Some, IsTrue, IfOk, OnOk};
-ghost use Rattle.std.specs.Prelude.{List, ℕ};
-ghost use Rattle.mp_tree.specs.Document.{object};
-ghost use Rattle.mp_tree.specs.View.{document};
-ghost use Rattle.mp_tree.specs.Private.Entries.{members};
+ghost use Rattle.mp_tree.specs.Document.{object, IsDocument};
+ghost use Rattle.mp_tree.specs.Values.{value_document};
+ghost use Rattle.mp_tree.specs.View.{document, members_by};
 ghost use Rattle.mp_merge.specs.Clash.{Compatible, AreAllClashes};
 ghost use Rattle.mp_merge.specs.Private.Clashes.{IsOneClash, WalksClashes, WalksMembers};
 ghost use Rattle.mp_merge.specs.Private.Growth.{Grew};
 
 use mp_pointer::Pointer;
-use mp_tree::Doc;
+use mp_tree::{Doc, Node};
+use serde_json::Value;
 use std::alloc::{AllocError, Global};
 use std::collections::BTreeMap;
 
@@ -21,24 +21,45 @@ use std::collections::BTreeMap;
 /// ```text
 /// compatible(&p, &q)  // true for {"a":{"x":1}} and {"a":{"y":null}}, false for {"a":1} and {"a":2}
 /// ```
-#[cycle(compatible)]
 pub fn compatible(p: &Doc, q: &Doc) -> bool
     ensures { IsTrue result ↔ Compatible (document p.now) (document q.now) }
 {
-    match (p, q) {
-        (Doc::Members(changes), Doc::Members(others)) => are_members_compatible(changes, others),
-        _ => p.same(q),
+    are_compatible(p, q)
+}
+
+/// As `compatible`, of patches that are values. Takes no memory.
+///
+/// ```text
+/// compatible_values(&p, &q)  // true for {"a":{"x":1}} and {"a":{"y":null}}, false for {"a":1} and {"a":2}
+/// ```
+pub fn compatible_values(p: &Value, q: &Value) -> bool
+    ensures { IsTrue result ↔ Compatible (value_document p.now) (value_document q.now) }
+{
+    are_compatible(p, q)
+}
+
+#[cycle(compatible)]
+pub(crate) fn are_compatible<T: Node>(p: &T, q: &T) -> bool
+    ensures { IsTrue result ↔ Compatible (T.means p.now) (T.means q.now) }
+{
+    match (p.members(), q.members()) {
+        (Some(changes), Some(others)) => are_members_compatible(changes, others),
+        _ => p.equals(q),
     }
 }
 
 #[cycle(compatible)]
-fn are_members_compatible(changes: &BTreeMap<String, Doc>, others: &BTreeMap<String, Doc>) -> bool
-    ensures { IsTrue result ↔ Compatible (object (members changes.now.entries))
-        (object (members others.now.entries)) }
+fn are_members_compatible<T: Node>(
+    changes: &BTreeMap<String, T>,
+    others: &BTreeMap<String, T>,
+) -> bool
+    requires documents { (d : T) → IsDocument (T.means d) }
+    ensures { IsTrue result ↔ Compatible (object (members_by T.means changes.now.entries))
+        (object (members_by T.means others.now.entries)) }
 {
     for (name, change) in changes.iter() {
         if let Some(other) = others.get(name.as_str()) {
-            if !compatible(change, other) {
+            if !are_compatible(change, other) {
                 return false;
             }
         }
@@ -60,6 +81,25 @@ pub fn conflict(alloc: Global, p: &Doc, q: &Doc) -> Result<Vec<Pointer>, AllocEr
     ensures { IfOk result (λ places.
         AreAllClashes (document p.now) (document q.now) places.items) }
 {
+    all_clashes(alloc, p, q)
+}
+
+/// As `conflict`, of patches that are values. `AllocError` if memory ran out.
+///
+/// ```text
+/// conflict_values(alloc, &p, &q)  // /a/z and /b for {"a":{"z":1},"b":1} and {"a":{"z":2},"b":2}
+/// ```
+pub fn conflict_values(alloc: Global, p: &Value, q: &Value) -> Result<Vec<Pointer>, AllocError>
+    ensures { IfOk result (λ places.
+        AreAllClashes (value_document p.now) (value_document q.now) places.items) }
+{
+    all_clashes(alloc, p, q)
+}
+
+pub(crate) fn all_clashes<T: Node>(alloc: Global, p: &T, q: &T) -> Result<Vec<Pointer>, AllocError>
+    requires { IsDocument (T.means p.now) }
+    ensures { IfOk result (λ places. AreAllClashes (T.means p.now) (T.means q.now) places.items) }
+{
     let mut places = Vec::new(alloc);
     let mut path = Pointer::empty(alloc);
     push_clashes(p, q, &mut path, &mut places, alloc)?;
@@ -69,36 +109,36 @@ pub fn conflict(alloc: Global, p: &Doc, q: &Doc) -> Result<Vec<Pointer>, AllocEr
 // Each function adds to the places at their end, in the order of paths. The patches come first: the recursion goes down
 // them. `path` leads to both, and is as it was at the end.
 #[cycle(push_clashes)]
-fn push_clashes(
-    p: &Doc,
-    q: &Doc,
+fn push_clashes<T: Node>(
+    p: &T,
+    q: &T,
     path: &mut Pointer,
     places: &mut Vec<Pointer>,
     alloc: Global,
 ) -> Result<(), AllocError>
     ensures path { OnOk result (path.new ≡ path.old) }
     ensures places { OnOk result (Grew places.old.items places.new.items
-        (WalksClashes path.old (document p.now) (Some (document q.now)))) }
+        (WalksClashes path.old (T.means p.now) (Some (T.means q.now)))) }
 {
-    match (p, q) {
-        (Doc::Members(changes), Doc::Members(others)) => {
-            push_member_clashes(changes, others, path, places, alloc)
-        }
+    match (p.members(), q.members()) {
+        (Some(changes), Some(others)) => push_member_clashes(changes, others, path, places, alloc),
         _ => push_clash(p, q, path, places, alloc),
     }
 }
 
 #[cycle(push_clashes)]
-fn push_member_clashes(
-    changes: &BTreeMap<String, Doc>,
-    others: &BTreeMap<String, Doc>,
+fn push_member_clashes<T: Node>(
+    changes: &BTreeMap<String, T>,
+    others: &BTreeMap<String, T>,
     path: &mut Pointer,
     places: &mut Vec<Pointer>,
     alloc: Global,
 ) -> Result<(), AllocError>
+    requires documents { (d : T) → IsDocument (T.means d) }
     ensures path { OnOk result (path.new ≡ path.old) }
     ensures places { OnOk result (Grew places.old.items places.new.items
-        (WalksMembers path.old (members changes.now.entries) (members others.now.entries))) }
+        (WalksMembers path.old (members_by T.means changes.now.entries)
+        (members_by T.means others.now.entries))) }
 {
     for (name, change) in changes.iter() {
         if let Some(other) = others.get(name.as_str()) {
@@ -111,17 +151,17 @@ fn push_member_clashes(
 }
 
 // Where at most one of the two is an object.
-fn push_clash(
-    p: &Doc,
-    q: &Doc,
+fn push_clash<T: Node>(
+    p: &T,
+    q: &T,
     path: &Pointer,
     places: &mut Vec<Pointer>,
     alloc: Global,
 ) -> Result<(), AllocError>
     ensures { OnOk result (Grew places.old.items places.new.items
-        (IsOneClash path.now (document p.now) (document q.now))) }
+        (IsOneClash path.now (T.means p.now) (T.means q.now))) }
 {
-    if p.same(q) {
+    if p.equals(q) {
         return Ok(());
     }
     places.push(path.copy(alloc)?)?;

@@ -7,8 +7,8 @@ ghost use Rattle.mp_merge.specs.Application.{set_or_remove, merge_patch, merge_p
 ghost use Rattle.mp_merge.specs.Private.Merging.{ResumesAt, NeedsNoneAt, NeedsNoneIn};
 ghost use Rattle.mp_merge.specs.Resumption.{NeedsNoMemory, Resumes};
 
-use crate::values::{entries_of, is_null};
-use mp_tree::{Doc, members_mut};
+use crate::merging::entries_of;
+use mp_tree::{Doc, Node, members_mut};
 use std::alloc::{AllocError, Global};
 use std::collections::BTreeMap;
 use std::mem;
@@ -107,7 +107,7 @@ fn merge_entry(
     ensures no_memory { NeedsNoneAt (document change.now)
         (find name.now (members entries.old.entries)) → IsOk result }
 {
-    if is_null(change) {
+    if change.is_null() {
         drop(entries.remove(name));
         return Ok(());
     }

@@ -1,14 +1,13 @@
 //! The join of two merge patches.
 ghost use Rattle.std.specs.Prelude.{◌≤◌, ◌∷◌, [], max, Some, IfOk, MatchResult};
-ghost use Rattle.mp_tree.specs.Document.{depth, object};
-ghost use Rattle.mp_tree.specs.View.{document};
-ghost use Rattle.mp_tree.specs.Private.Entries.{members};
+ghost use Rattle.mp_tree.specs.Document.{depth, object, IsDocument};
+ghost use Rattle.mp_tree.specs.View.{document, members_by};
 ghost use Rattle.mp_merge.specs.Join.{IsJoin, IsJoinFault};
 ghost use Rattle.mp_merge.specs.Private.Unions.{UnitesAt, UnitesTo};
 
 use crate::comparing::conflict;
 use crate::fault::JoinFault;
-use mp_tree::{Doc, members_mut};
+use mp_tree::{Doc, Node};
 use std::alloc::{AllocError, Global};
 use std::collections::BTreeMap;
 
@@ -40,29 +39,32 @@ pub fn join(alloc: Global, p: &Doc, q: &Doc) -> Result<Doc, JoinFault>
 // Whether the two are compatible. If they are, what was joined before has grown by the patch, and was not copied;
 // if they conflict it may have grown in part.
 #[cycle(unite)]
-pub(crate) fn unite(patch: &Doc, joined: &mut Doc, alloc: Global) -> Result<bool, AllocError>
-    ensures { IfOk result (λ united. UnitesTo united (document patch.now)
-        (Some (document joined.old)) (document joined.new)) }
+pub(crate) fn unite<T: Node>(patch: &T, joined: &mut T, alloc: Global) -> Result<bool, AllocError>
+    ensures { IfOk result (λ united. UnitesTo united (T.means patch.now)
+        (Some (T.means joined.old)) (T.means joined.new)) }
 {
-    match patch {
-        Doc::Members(changes) => {
-            let Some(entries) = members_mut(joined) else {
+    match patch.members() {
+        Some(changes) => {
+            let Some(entries) = joined.members_mut() else {
                 return Ok(false);
             };
             unite_members(changes, entries, alloc)
         }
-        _ => Ok(patch.same(joined)),
+        None => Ok(patch.equals(joined)),
     }
 }
 
 #[cycle(unite)]
-fn unite_members(
-    changes: &BTreeMap<String, Doc>,
-    entries: &mut BTreeMap<String, Doc>,
+fn unite_members<T: Node>(
+    changes: &BTreeMap<String, T>,
+    entries: &mut BTreeMap<String, T>,
     alloc: Global,
 ) -> Result<bool, AllocError>
-    ensures { IfOk result (λ united. UnitesTo united (object (members changes.now.entries))
-        (Some (object (members entries.old.entries))) (object (members entries.new.entries))) }
+    requires documents { (d : T) → IsDocument (T.means d) }
+    ensures { IfOk result (λ united.
+        UnitesTo united (object (members_by T.means changes.now.entries))
+        (Some (object (members_by T.means entries.old.entries)))
+        (object (members_by T.means entries.new.entries))) }
 {
     for (name, change) in changes.iter() {
         if !unite_entry(change, name.as_str(), entries, alloc)? {
@@ -73,19 +75,20 @@ fn unite_members(
 }
 
 #[cycle(unite)]
-fn unite_entry(
-    change: &Doc,
+fn unite_entry<T: Node>(
+    change: &T,
     name: &str,
-    entries: &mut BTreeMap<String, Doc>,
+    entries: &mut BTreeMap<String, T>,
     alloc: Global,
 ) -> Result<bool, AllocError>
-    ensures { IfOk result (λ united. UnitesAt united name.now (document change.now)
-        (members entries.old.entries) (members entries.new.entries)) }
+    requires documents { (d : T) → IsDocument (T.means d) }
+    ensures { IfOk result (λ united. UnitesAt united name.now (T.means change.now)
+        (members_by T.means entries.old.entries) (members_by T.means entries.new.entries)) }
 {
     match entries.get_mut(name) {
         Some(before) => unite(change, before, alloc),
         None => {
-            drop(entries.insert(String::from_str(alloc, name)?, change.copy(alloc)?)?);
+            drop(entries.insert(String::from_str(alloc, name)?, change.copied(alloc)?)?);
             Ok(true)
         }
     }

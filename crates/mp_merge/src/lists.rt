@@ -1,18 +1,20 @@
 //! Lists of merge patches: their join, and the document that they make of a start.
 ghost use Rattle.std.specs.Prelude.{◌≡◌, ◌<◌, ◌≤◌, ◌+◌, ℕ, List, [], length, map, take, slice_get, Some, IfOk, MatchOption, MatchResult};
-ghost use Rattle.mp_tree.specs.Document.{depth};
+ghost use Rattle.mp_tree.specs.Document.{depth, IsDocument};
+ghost use Rattle.mp_tree.specs.Values.{value_document};
 ghost use Rattle.mp_tree.specs.View.{document};
 ghost use Rattle.mp_merge.specs.Join.{IsJoin};
 ghost use Rattle.mp_merge.specs.Lists.{AreWithin, IsJoinAllFault, IsReplayFault, IsClashBelow};
 ghost use Rattle.mp_merge.specs.Private.Clashes.{IsFreeBelow};
 ghost use Rattle.mp_merge.specs.Outcome.{IsOutcome};
 
-use crate::comparing::{compatible, conflict};
+use crate::comparing::{all_clashes, are_compatible};
 use crate::fault::ListFault;
 use crate::joining::unite;
-use crate::merging::merge_owned;
+use crate::merging::merged;
 use mp_pointer::Pointer;
-use mp_tree::Doc;
+use mp_tree::{Doc, Node};
+use serde_json::Value;
 use std::alloc::{AllocError, Global};
 
 /// The join of a list of patches: one patch with the effect of all, in any order and with any repeats.
@@ -31,10 +33,36 @@ pub fn join_all(alloc: Global, patches: &[Doc]) -> Result<Doc, ListFault>
     ensures depth { IfOk result (λ j. (n : ℕ)
         → AreWithin n (map document patches.now) → depth (document j) ≤ n) }
 {
+    joined(alloc, patches)
+}
+
+/// As `join_all`, of patches that are values: what is read needs no tree of its own. `NoPatches`, `ConflictOf` and `OutOfMemory`
+/// come when `join_all` answers them.
+///
+/// ```text
+/// join_all_values(alloc, &patches)  // {"a":1,"b":2} for {"a":1}, {"b":2} and {"a":1}
+/// ```
+pub fn join_all_values(alloc: Global, patches: &[Value]) -> Result<Value, ListFault>
+    ensures joined { MatchResult result
+        (λ j. IsJoin (map value_document patches.now) (value_document j))
+        (λ fault. IsJoinAllFault fault (map value_document patches.now)) }
+    ensures depth { IfOk result (λ j. (n : ℕ)
+        → AreWithin n (map value_document patches.now) → depth (value_document j) ≤ n) }
+{
+    joined(alloc, patches)
+}
+
+fn joined<T: Node>(alloc: Global, patches: &[T]) -> Result<T, ListFault>
+    requires documents { (d : T) → IsDocument (T.means d) }
+    ensures joined { MatchResult result (λ j. IsJoin (map T.means patches.now) (T.means j))
+        (λ fault. IsJoinAllFault fault (map T.means patches.now)) }
+    ensures depth { IfOk result (λ j. (n : ℕ)
+        → AreWithin n (map T.means patches.now) → depth (T.means j) ≤ n) }
+{
     let Some(first) = patches.first() else {
         return Err(ListFault::NoPatches);
     };
-    let mut joined = first.copy(alloc)?;
+    let mut joined = first.copied(alloc)?;
     for second in 1..patches.len() {
         joined = join_next(alloc, patches, second, joined)?;
     }
@@ -42,22 +70,24 @@ pub fn join_all(alloc: Global, patches: &[Doc]) -> Result<Doc, ListFault>
 }
 
 // The join of the patches up to and with number `second`, from the join of those before it.
-fn join_next(
+fn join_next<T: Node>(
     alloc: Global,
-    patches: &[Doc],
+    patches: &[T],
     second: usize,
-    mut joined: Doc,
-) -> Result<Doc, ListFault>
+    mut joined: T,
+) -> Result<T, ListFault>
+    requires documents { (d : T) → IsDocument (T.means d) }
     requires within { second < length patches.now }
-    requires joined { IsJoin (take second (map document patches.now)) (document joined) }
+    requires joined { IsJoin (take second (map T.means patches.now)) (T.means joined) }
     ensures { MatchResult result
-        (λ j. IsJoin (take (second + 1) (map document patches.now)) (document j))
-        (λ fault. IsReplayFault fault (map document patches.now)) }
+        (λ j. IsJoin (take (second + 1) (map T.means patches.now)) (T.means j))
+        (λ fault. IsReplayFault fault (map T.means patches.now)) }
 {
     let patch = &patches[second];
     if unite(patch, &mut joined, alloc)? {
         return Ok(joined);
     }
+    drop(joined);
     let Some((first, places)) = clash_before(alloc, patches, second)? else {
         unreachable!();
     };
@@ -69,20 +99,21 @@ fn join_next(
 }
 
 // The first of the patches below number `second` that conflicts with it, and all conflicts of the two.
-fn clash_before(
+fn clash_before<T: Node>(
     alloc: Global,
-    patches: &[Doc],
+    patches: &[T],
     second: usize,
 ) -> Result<Option<(usize, Vec<Pointer>)>, AllocError>
-    requires { second < length patches.now }
+    requires documents { (d : T) → IsDocument (T.means d) }
+    requires within { second < length patches.now }
     ensures { IfOk result (λ found.
-        MatchOption found (IsFreeBelow (map document patches.now) second)
-        (λ c. IsClashBelow (map document patches.now) c.0 second c.1.items)) }
+        MatchOption found (IsFreeBelow (map T.means patches.now) second)
+        (λ c. IsClashBelow (map T.means patches.now) c.0 second c.1.items)) }
 {
     let patch = &patches[second];
     for first in 0..second {
-        if !compatible(&patches[first], patch) {
-            let places = conflict(alloc, &patches[first], patch)?;
+        if !are_compatible(&patches[first], patch) {
+            let places = all_clashes(alloc, &patches[first], patch)?;
             return Ok(Some((first, places)));
         }
     }
@@ -118,9 +149,38 @@ pub fn replay_owned(alloc: Global, start: Doc, patches: &[Doc]) -> Result<Doc, L
         → AreWithin n (map document patches.now) → depth (document e) ≤ n) }
     ensures none { patches.now ≡ [] → IfOk result (λ e. document e ≡ document start) }
 {
+    replayed(alloc, start, patches)
+}
+
+/// As `replay_owned`, of a start and patches that are values. `ConflictOf` and `OutOfMemory` come when `replay_owned` answers
+/// them.
+///
+/// ```text
+/// replay_values(alloc, start, &patches)  // {"a":1} for {"k":0} and {"a":1}, {"k":null}
+/// ```
+pub fn replay_values(alloc: Global, start: Value, patches: &[Value]) -> Result<Value, ListFault>
+    ensures outcome { MatchResult result
+        (λ e. IsOutcome (value_document start) (map value_document patches.now) (value_document e))
+        (λ fault. IsReplayFault fault (map value_document patches.now)) }
+    ensures depth { IfOk result (λ e. (n : ℕ) → depth (value_document start) ≤ n
+        → AreWithin n (map value_document patches.now) → depth (value_document e) ≤ n) }
+    ensures none { patches.now ≡ [] → IfOk result (λ e. value_document e ≡ value_document start) }
+{
+    replayed(alloc, start, patches)
+}
+
+fn replayed<T: Node>(alloc: Global, start: T, patches: &[T]) -> Result<T, ListFault>
+    requires documents { (d : T) → IsDocument (T.means d) }
+    ensures outcome { MatchResult result
+        (λ e. IsOutcome (T.means start) (map T.means patches.now) (T.means e))
+        (λ fault. IsReplayFault fault (map T.means patches.now)) }
+    ensures depth { IfOk result (λ e. (n : ℕ) → depth (T.means start) ≤ n
+        → AreWithin n (map T.means patches.now) → depth (T.means e) ≤ n) }
+    ensures none { patches.now ≡ [] → IfOk result (λ e. T.means e ≡ T.means start) }
+{
     if patches.is_empty() {
         return Ok(start);
     }
-    let joined = join_all(alloc, patches)?;
-    Ok(merge_owned(alloc, Some(start), joined)?)
+    let joined = joined(alloc, patches)?;
+    Ok(merged(joined, Some(start), alloc)?)
 }

@@ -1,13 +1,13 @@
 //! Applying a merge patch (RFC 7396 section 2).
-ghost use Rattle.std.specs.Prelude.{◌≡◌, ◌≤◌, length, max, IfOk, OnOk, option_map, string_bytes};
-ghost use Rattle.mp_tree.specs.Document.{find, depth};
-ghost use Rattle.mp_tree.specs.View.{document};
-ghost use Rattle.mp_tree.specs.Private.Entries.{members};
-ghost use Rattle.mp_merge.specs.Application.{set_or_remove, depth_of, merge_patch, merge_patch_members};
+ghost use Rattle.std.specs.Prelude.{◌≡◌, ◌≤◌, length, max, Some, IfOk, OnOk, option_map, string_bytes};
+ghost use Rattle.mp_tree.specs.Document.{find, depth, IsDocument};
+ghost use Rattle.mp_tree.specs.Values.{value_document};
+ghost use Rattle.mp_tree.specs.View.{document, members_by};
+ghost use Rattle.mp_merge.specs.Application.{set_or_remove, depth_of, merge_patch, merge_patch_members, target_members};
 
 use crate::in_place::merge_into;
-use crate::values::{entries_of, is_null};
-use mp_tree::Doc;
+use mp_tree::{Doc, Node};
+use serde_json::Value;
 use std::alloc::{AllocError, Global};
 use std::collections::BTreeMap;
 use std::mem;
@@ -45,35 +45,57 @@ pub fn merge_owned(alloc: Global, target: Option<Doc>, patch: Doc) -> Result<Doc
     ensures depth { IfOk result (λ d. depth (document d)
         ≤ max (depth_of (option_map document target)) (depth (document patch))) }
 {
-    owned_merge(patch, target, alloc)
+    merged(patch, target, alloc)
+}
+
+/// As `merge_owned`: the target after the merge patch (RFC 7396 section 2); `None` is a target that is absent. Parts of the
+/// target and of the patch are moved and not copied. `AllocError` if memory ran out.
+pub fn merge_value(alloc: Global, target: Option<Value>, patch: Value) -> Result<Value, AllocError>
+    ensures merged { IfOk result (λ v. value_document v
+        ≡ merge_patch (option_map value_document target) (value_document patch)) }
+    ensures depth { IfOk result (λ v. depth (value_document v)
+        ≤ max (depth_of (option_map value_document target)) (depth (value_document patch))) }
+{
+    merged(patch, target, alloc)
 }
 
 // The patch comes first: the recursion goes down it.
-#[cycle(owned_merge)]
-fn owned_merge(patch: Doc, target: Option<Doc>, alloc: Global) -> Result<Doc, AllocError>
+#[cycle(merged)]
+pub(crate) fn merged<T: Node>(patch: T, target: Option<T>, alloc: Global) -> Result<T, AllocError>
     ensures { IfOk result (λ d.
-        document d ≡ merge_patch (option_map document target) (document patch)) }
+        T.means d ≡ merge_patch (option_map T.means target) (T.means patch)) }
 {
-    match patch {
-        Doc::Members(changes) => {
-            let entries = entries_of(target, alloc);
-            Ok(Doc::Members(owned_merge_members(changes, entries, alloc)?))
-        }
-        other => Ok(other),
+    let Some(_) = patch.members() else {
+        return Ok(patch);
+    };
+    let entries = entries_of(target, alloc);
+    let changes = patch.into_members(alloc);
+    Ok(T::from_members(merged_members(changes, entries, alloc)?))
+}
+
+// An absent target, or one that is not an object, counts as the empty object.
+pub(crate) fn entries_of<T: Node>(target: Option<T>, alloc: Global) -> BTreeMap<String, T>
+    ensures { members_by T.means result.entries ≡ target_members (option_map T.means target) }
+{
+    match target {
+        Some(before) => before.into_members(alloc),
+        None => BTreeMap::new(alloc),
     }
 }
 
-#[cycle(owned_merge)]
-fn owned_merge_members(
-    changes: BTreeMap<String, Doc>,
-    mut entries: BTreeMap<String, Doc>,
+#[cycle(merged)]
+fn merged_members<T: Node>(
+    changes: BTreeMap<String, T>,
+    mut entries: BTreeMap<String, T>,
     alloc: Global,
-) -> Result<BTreeMap<String, Doc>, AllocError>
-    ensures { IfOk result (λ m. members m.entries
-        ≡ merge_patch_members (members entries.entries) (members changes.entries)) }
+) -> Result<BTreeMap<String, T>, AllocError>
+    requires documents { (d : T) → IsDocument (T.means d) }
+    ensures { IfOk result (λ m. members_by T.means m.entries
+        ≡ merge_patch_members (members_by T.means entries.entries)
+        (members_by T.means changes.entries)) }
 {
     if changes.len() == 1 {
-        return owned_merge_member(changes, entries, alloc);
+        return merged_member(changes, entries, alloc);
     }
     for (name, change) in changes {
         change_entry(change, name, &mut entries, alloc)?;
@@ -82,15 +104,17 @@ fn owned_merge_members(
 }
 
 // The same of one change: to take it out costs less than to walk the map.
-#[cycle(owned_merge)]
-fn owned_merge_member(
-    mut changes: BTreeMap<String, Doc>,
-    mut entries: BTreeMap<String, Doc>,
+#[cycle(merged)]
+fn merged_member<T: Node>(
+    mut changes: BTreeMap<String, T>,
+    mut entries: BTreeMap<String, T>,
     alloc: Global,
-) -> Result<BTreeMap<String, Doc>, AllocError>
-    requires { length changes.entries ≡ 1 }
-    ensures { IfOk result (λ m. members m.entries
-        ≡ merge_patch_members (members entries.entries) (members changes.entries)) }
+) -> Result<BTreeMap<String, T>, AllocError>
+    requires documents { (d : T) → IsDocument (T.means d) }
+    requires one { length changes.entries ≡ 1 }
+    ensures { IfOk result (λ m. members_by T.means m.entries
+        ≡ merge_patch_members (members_by T.means entries.entries)
+        (members_by T.means changes.entries)) }
 {
     if let Some((name, change)) = changes.pop_first() {
         change_entry(change, name, &mut entries, alloc)?;
@@ -99,31 +123,45 @@ fn owned_merge_member(
 }
 
 // A null takes the name out; another value is merged with what stood there.
-#[cycle(owned_merge)]
+#[cycle(merged)]
 #[inline(always)]
-fn change_entry(
-    change: Doc,
+fn change_entry<T: Node>(
+    change: T,
     name: String,
-    entries: &mut BTreeMap<String, Doc>,
+    entries: &mut BTreeMap<String, T>,
     alloc: Global,
 ) -> Result<(), AllocError>
-    ensures { OnOk result (let n = string_bytes name in let ts = members entries.old.entries in
-        members entries.new.entries
-        ≡ set_or_remove n (document change) (merge_patch (find n ts) (document change)) ts) }
+    requires documents { (d : T) → IsDocument (T.means d) }
+    ensures { OnOk result (let n = string_bytes name in let p = T.means change in
+        let ts = members_by T.means entries.old.entries in
+        members_by T.means entries.new.entries
+        ≡ set_or_remove n p (merge_patch (find n ts) p) ts) }
 {
-    if is_null(&change) {
+    if change.is_null() {
         drop(entries.remove(name.as_str()));
         return Ok(());
     }
     match entries.get_mut(name.as_str()) {
-        Some(slot) => {
-            let target = mem::replace(slot, Doc::Null);
-            *slot = owned_merge(change, Some(target), alloc)?;
-            Ok(())
-        }
+        Some(value) => change_value(change, value, alloc),
         None => {
-            drop(entries.insert(name, owned_merge(change, None, alloc)?)?);
+            drop(entries.insert(name, merged(change, None, alloc)?)?);
             Ok(())
         }
     }
+}
+
+// What is no object takes the place of what stood there.
+#[cycle(merged)]
+#[inline(always)]
+fn change_value<T: Node>(change: T, value: &mut T, alloc: Global) -> Result<(), AllocError>
+    ensures { OnOk result
+        (T.means value.new ≡ merge_patch (Some (T.means value.old)) (T.means change)) }
+{
+    let Some(_) = change.members() else {
+        *value = change;
+        return Ok(());
+    };
+    let target = mem::replace(value, T::null());
+    *value = merged(change, Some(target), alloc)?;
+    Ok(())
 }

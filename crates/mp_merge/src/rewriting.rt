@@ -1,21 +1,21 @@
 //! Merge patches rewritten as JSON Patches.
-ghost use Rattle.std.specs.Prelude.{◌≡◌, ◌≤◌, ◌++◌, ◌∷◌, [], Some, IfOk, OnOk, option_map};
+ghost use Rattle.std.specs.Prelude.{◌≡◌, ◌≤◌, ◌++◌, ◌∷◌, [], None, Some, IfOk, OnOk, option_map};
 ghost use Rattle.mp_patch.specs.Operation.{test};
-ghost use Rattle.mp_tree.specs.Document.{depth, depth_limit};
-ghost use Rattle.mp_tree.specs.View.{document};
+ghost use Rattle.mp_tree.specs.Document.{depth, depth_limit, no_members, IsDocument};
 ghost use Rattle.mp_tree.specs.Private.Entries.{members};
+ghost use Rattle.mp_tree.specs.Values.{value_document};
+ghost use Rattle.mp_tree.specs.View.{document, members_by};
 ghost use Rattle.mp_patch.specs.Run.{Runs};
 ghost use Rattle.mp_patch.specs.View.{operation_of, operations_of};
-ghost use Rattle.mp_merge.specs.Application.{merge_patch};
+ghost use Rattle.mp_merge.specs.Application.{merge_patch, merge_patch_members};
 ghost use Rattle.mp_merge.specs.Private.Edits.{IsOneEdit, NotBothMaps, AreEdits, AreMemberEdits, Gathered, lists_of, followed_by};
 ghost use Rattle.mp_merge.specs.Rewriting.{IsRewriting};
 
 use crate::laws;
-use crate::merging::merge;
-use crate::values::is_null;
 use mp_patch::{JsonPatch, Op};
 use mp_pointer::Pointer;
-use mp_tree::Doc;
+use mp_tree::{Doc, Node};
+use serde_json::Value;
 use std::alloc::{AllocError, Global};
 use std::collections::BTreeMap;
 
@@ -45,6 +45,33 @@ pub fn rewrite(alloc: Global, doc: &Doc, patch: &Doc) -> Result<JsonPatch, Alloc
         → Runs (document doc.now) (operations_of ops)
         (merge_patch (Some (document doc.now)) (document patch.now))) }
 {
+    rewritten(alloc, doc, patch)
+}
+
+/// As `rewrite`, of a document and a patch that are values: of both, what stands in the result alone becomes a document.
+///
+/// ```text
+/// // [{"op":"test","path":"/b/c","value":2},{"op":"remove","path":"/b/c"}], for {"a":1,"b":{"c":2}} and {"b":{"c":null}}
+/// rewrite_value(alloc, &doc, &patch)
+/// ```
+pub fn rewrite_value(alloc: Global, doc: &Value, patch: &Value) -> Result<JsonPatch, AllocError>
+    ensures rewriting { IfOk result (λ ops.
+        IsRewriting (value_document doc.now) (value_document patch.now) (operations_of ops)) }
+    ensures runs { IfOk result (λ ops. depth (value_document patch.now) ≤ depth_limit
+        → Runs (value_document doc.now) (operations_of ops)
+        (merge_patch (Some (value_document doc.now)) (value_document patch.now))) }
+{
+    rewritten(alloc, doc, patch)
+}
+
+fn rewritten<T: Node>(alloc: Global, doc: &T, patch: &T) -> Result<JsonPatch, AllocError>
+    requires documents { (d : T) → IsDocument (T.means d) }
+    ensures rewriting { IfOk result (λ ops.
+        IsRewriting (T.means doc.now) (T.means patch.now) (operations_of ops)) }
+    ensures runs { IfOk result (λ ops. depth (T.means patch.now) ≤ depth_limit
+        → Runs (T.means doc.now) (operations_of ops)
+        (merge_patch (Some (T.means doc.now)) (T.means patch.now))) }
+{
     laws::rewriting_runs();
     let mut found = Edits {
         guards: JsonPatch::new(alloc),
@@ -59,12 +86,12 @@ pub fn rewrite(alloc: Global, doc: &Doc, patch: &Doc) -> Result<JsonPatch, Alloc
 // The tests of the places that were passed, and their edits: both in the order of paths. No place is kept with its test,
 // so that a rewriting is these two lists and no third one.
 #[derive(Drop)]
-pub(crate) struct Edits {
-    pub(crate) guards: JsonPatch,
-    pub(crate) edits: Vec<Op>,
+struct Edits {
+    guards: JsonPatch,
+    edits: Vec<Op>,
 }
 
-pub(crate) fn push_ops(ops: Vec<Op>, patch: &mut JsonPatch) -> Result<(), AllocError>
+fn push_ops(ops: Vec<Op>, patch: &mut JsonPatch) -> Result<(), AllocError>
     ensures { OnOk result (patch.new ≡ patch.old ++ ops.items) }
 {
     for op in ops {
@@ -74,12 +101,12 @@ pub(crate) fn push_ops(ops: Vec<Op>, patch: &mut JsonPatch) -> Result<(), AllocE
 }
 
 // Each function adds to both lists at their ends.
-fn push_all(patch: &Doc, doc: &Doc, found: &mut Edits, alloc: Global) -> Result<(), AllocError>
+fn push_all<T: Node>(patch: &T, doc: &T, found: &mut Edits, alloc: Global) -> Result<(), AllocError>
     ensures { OnOk result (Gathered found.old found.new
-        (AreEdits [] (document patch.now) (Some (document doc.now)))) }
+        (AreEdits [] (T.means patch.now) (Some (T.means doc.now)))) }
 {
-    match (patch, doc) {
-        (Doc::Members(changes), Doc::Members(entries)) => {
+    match (patch.members(), doc.members()) {
+        (Some(changes), Some(entries)) => {
             push_member_edits(changes, entries, &mut Pointer::empty(alloc), found, alloc)
         }
         _ => push_root_edit(patch, doc, found, alloc),
@@ -87,35 +114,37 @@ fn push_all(patch: &Doc, doc: &Doc, found: &mut Edits, alloc: Global) -> Result<
 }
 
 // At the root a null is a value like any other.
-fn push_root_edit(
-    patch: &Doc,
-    doc: &Doc,
+fn push_root_edit<T: Node>(
+    patch: &T,
+    doc: &T,
     found: &mut Edits,
     alloc: Global,
 ) -> Result<(), AllocError>
-    ensures { OnOk result (NotBothMaps (document patch.now) (Some (document doc.now))
+    ensures { OnOk result (NotBothMaps (T.means patch.now) (Some (T.means doc.now))
         → Gathered found.old found.new
-        (IsOneEdit [] (document patch.now) (Some (document doc.now)))) }
+        (IsOneEdit [] (T.means patch.now) (Some (T.means doc.now)))) }
 {
-    if patch.same(doc) {
+    if patch.equals(doc) {
         return Ok(());
     }
-    let op = Op::Replace(Pointer::empty(alloc), merge(alloc, None, patch)?);
+    let op = Op::Replace(Pointer::empty(alloc), left_by(patch, alloc)?);
     push_guarded(Pointer::empty(alloc), doc, op, found, alloc)
 }
 
 // `path` leads to both objects, and is as it was at the end.
 #[cycle(push_edits)]
-fn push_member_edits(
-    changes: &BTreeMap<String, Doc>,
-    entries: &BTreeMap<String, Doc>,
+fn push_member_edits<T: Node>(
+    changes: &BTreeMap<String, T>,
+    entries: &BTreeMap<String, T>,
     path: &mut Pointer,
     found: &mut Edits,
     alloc: Global,
 ) -> Result<(), AllocError>
+    requires documents { (d : T) → IsDocument (T.means d) }
     ensures path { OnOk result (path.new ≡ path.old) }
     ensures edits { OnOk result (Gathered found.old found.new
-        (AreMemberEdits path.old (members changes.now.entries) (members entries.now.entries))) }
+        (AreMemberEdits path.old (members_by T.means changes.now.entries)
+        (members_by T.means entries.now.entries))) }
 {
     for (name, change) in changes.iter() {
         let value = entries.get(name.as_str());
@@ -127,9 +156,9 @@ fn push_member_edits(
 // The patch comes first: the recursion goes down it. `path` leads to what has the name; a copy of it is made only where
 // there is an edit.
 #[cycle(push_edits)]
-fn push_edits(
-    change: &Doc,
-    value: Option<&Doc>,
+fn push_edits<T: Node>(
+    change: &T,
+    value: Option<&T>,
     path: &mut Pointer,
     name: &str,
     found: &mut Edits,
@@ -137,11 +166,11 @@ fn push_edits(
 ) -> Result<(), AllocError>
     ensures path { OnOk result (path.new ≡ path.old) }
     ensures edits { OnOk result (Gathered found.old found.new
-        (AreEdits (path.old ++ name.now ∷ []) (document change.now)
-        (option_map (λ v. document v.now) value.entry))) }
+        (AreEdits (path.old ++ name.now ∷ []) (T.means change.now)
+        (option_map (λ v. T.means v.now) value.entry))) }
 {
     if let Some(there) = value {
-        if let (Doc::Members(changes), Doc::Members(entries)) = (change, there) {
+        if let (Some(changes), Some(entries)) = (change.members(), there.members()) {
             path.push(name)?;
             push_member_edits(changes, entries, path, found, alloc)?;
             path.pop();
@@ -152,39 +181,39 @@ fn push_edits(
 }
 
 // Below the root a null removes.
-fn push_edit(
-    change: &Doc,
-    value: Option<&Doc>,
+fn push_edit<T: Node>(
+    change: &T,
+    value: Option<&T>,
     path: &Pointer,
     name: &str,
     found: &mut Edits,
     alloc: Global,
 ) -> Result<(), AllocError>
-    ensures { OnOk result (let t = option_map (λ v. document v.now) value.entry in
-        NotBothMaps (document change.now) t
+    ensures { OnOk result (let t = option_map (λ v. T.means v.now) value.entry in
+        NotBothMaps (T.means change.now) t
         → Gathered found.old found.new
-        (IsOneEdit (path.now ++ name.now ∷ []) (document change.now) t)) }
+        (IsOneEdit (path.now ++ name.now ∷ []) (T.means change.now) t)) }
 {
     match value {
         Some(there) => {
-            if is_null(change) {
+            if change.is_null() {
                 let place = path.child(alloc, name)?;
                 let op = Op::Remove(place.copy(alloc)?);
                 return push_guarded(place, there, op, found, alloc);
             }
-            if change.same(there) {
+            if change.equals(there) {
                 return Ok(());
             }
             let place = path.child(alloc, name)?;
-            let op = Op::Replace(place.copy(alloc)?, merge(alloc, None, change)?);
+            let op = Op::Replace(place.copy(alloc)?, left_by(change, alloc)?);
             push_guarded(place, there, op, found, alloc)
         }
         None => {
-            if is_null(change) {
+            if change.is_null() {
                 return Ok(());
             }
             let place = path.child(alloc, name)?;
-            let op = Op::Add(place, merge(alloc, None, change)?);
+            let op = Op::Add(place, left_by(change, alloc)?);
             found.edits.push(op)?;
             Ok(())
         }
@@ -192,17 +221,49 @@ fn push_edit(
 }
 
 // The edit, and the test of what is there.
-fn push_guarded(
+fn push_guarded<T: Node>(
     place: Pointer,
-    there: &Doc,
+    there: &T,
     op: Op,
     found: &mut Edits,
     alloc: Global,
 ) -> Result<(), AllocError>
     ensures { OnOk result (lists_of found.new ≡ followed_by (lists_of found.old)
-        ((test place (document there.now) ∷ [], operation_of op) ∷ [])) }
+        ((test place (T.means there.now) ∷ [], operation_of op) ∷ [])) }
 {
-    found.guards.push(Op::Test(place, there.copy(alloc)?))?;
+    found.guards.push(Op::Test(place, there.to_doc(alloc)?))?;
     found.edits.push(op)?;
     Ok(())
+}
+
+// What a patch leaves where there was nothing (RFC 7396 section 2), as a document: a null below the root is left out.
+#[cycle(left_by)]
+fn left_by<T: Node>(patch: &T, alloc: Global) -> Result<Doc, AllocError>
+    ensures { IfOk result (λ d. document d ≡ merge_patch None (T.means patch.now)) }
+{
+    match patch.members() {
+        Some(changes) => Ok(Doc::Members(left_members(changes, alloc)?)),
+        None => patch.to_doc(alloc),
+    }
+}
+
+#[cycle(left_by)]
+fn left_members<T: Node>(
+    changes: &BTreeMap<String, T>,
+    alloc: Global,
+) -> Result<BTreeMap<String, Doc>, AllocError>
+    requires documents { (d : T) → IsDocument (T.means d) }
+    ensures { IfOk result (λ m. members m.entries
+        ≡ merge_patch_members no_members (members_by T.means changes.now.entries)) }
+{
+    let mut entries = BTreeMap::new(alloc);
+    for (name, change) in changes.iter() {
+        if change.is_null() {
+            continue;
+        }
+        let value = left_by(change, alloc)?;
+        let copied = String::from_str(alloc, name.as_str())?;
+        drop(entries.insert(copied, value)?);
+    }
+    Ok(entries)
 }

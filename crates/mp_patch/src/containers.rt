@@ -1,7 +1,7 @@
 // What an operation does to the object or the array that holds its place (RFC 6902 section 4.1).
-ghost use Rattle.std.specs.Prelude.{◌≡◌, ◌≢◌, ◌<◌, ◌≤◌, ◌⊎◌, ℕ, IsTrue, IsFalse, MatchOption, MatchResult};
-ghost use Rattle.mp_tree.specs.Document.{list};
-ghost use Rattle.mp_tree.specs.Private.Entries.{items_by};
+ghost use Rattle.std.specs.Prelude.{◌≡◌, ◌≢◌, ◌<◌, ◌≤◌, ◌⊎◌, ℕ, IsTrue, IsFalse, MatchOption, MatchResult, OnOk};
+ghost use Rattle.mp_tree.specs.Document.{IsDocument, list, put};
+ghost use Rattle.mp_tree.specs.View.{items_by, members_by};
 ghost use Rattle.mp_pointer.specs.Part.{numeral};
 ghost use Rattle.mp_patch.specs.Operation.{dash};
 ghost use Rattle.mp_patch.specs.Private.Steps.{Inserts, TakesOutBy};
@@ -9,7 +9,8 @@ ghost use Rattle.mp_patch.specs.Private.Steps.{Inserts, TakesOutBy};
 use crate::fault::{Cause, Refusal};
 use mp_pointer::index_of;
 use mp_tree::Node;
-use std::alloc::Global;
+use std::alloc::{AllocError, Global};
+use std::collections::BTreeMap;
 
 pub(crate) fn set<T: Node>(part: &mut T, value: T, fits: bool) -> Result<(), Refusal<Cause>>
     ensures { MatchResult result (λ _. IsTrue fits × (part.new ≡ value))
@@ -39,7 +40,7 @@ pub(crate) fn insert<T: Node>(
         if !fits {
             return Err(Refusal::By(Cause::TooDeep));
         }
-        drop(entries.insert(String::from_str(alloc, token)?, value)?);
+        set_member(entries, token, value, alloc)?;
         Ok(())
     } else {
         Err(Refusal::By(Cause::NoPlace))
@@ -62,6 +63,23 @@ fn insert_element<T: Node>(
         return Err(Refusal::By(Cause::TooDeep));
     }
     elements.insert(index, value)?;
+    Ok(())
+}
+
+// What had the name before is looked at only if there is something: to move it out costs more than that.
+fn set_member<T: Node>(
+    entries: &mut BTreeMap<String, T>,
+    name: &str,
+    value: T,
+    alloc: Global,
+) -> Result<(), AllocError>
+    requires documents { (d : T) → IsDocument (T.means d) }
+    ensures { OnOk result (members_by T.means entries.new.entries
+        ≡ put name.now (T.means value) (members_by T.means entries.old.entries)) }
+{
+    if let Some(before) = entries.insert(String::from_str(alloc, name)?, value)? {
+        drop(before);
+    }
     Ok(())
 }
 

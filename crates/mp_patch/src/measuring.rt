@@ -1,7 +1,7 @@
 // How deep a node is, if it is not too deep: nothing is allocated, and the first part that is too deep ends it.
 ghost use Rattle.std.specs.Prelude.{◌≡◌, ◌≤◌, ◌<◌, MatchOption};
 ghost use Rattle.mp_tree.specs.Document.{depth, items_depth, members_depth};
-ghost use Rattle.mp_tree.specs.Private.Entries.{items_by, members_by};
+ghost use Rattle.mp_tree.specs.View.{items_by, members_by};
 
 use mp_tree::Node;
 use std::collections::BTreeMap;

@@ -2,9 +2,8 @@
 ghost use Rattle.std.specs.Prelude.{◌≡◌, ◌≢◌, codes, map, string_bytes, Some, None, MatchOption, MatchResult};
 ghost use Rattle.std.specs.Option.{option_copied};
 ghost use Rattle.mp_tree.specs.Document.{IsDocument, find, list, object};
-ghost use Rattle.mp_tree.specs.Private.Entries.{items_by, members_by};
 ghost use Rattle.mp_tree.specs.Values.{value_document};
-ghost use Rattle.mp_tree.specs.View.{document};
+ghost use Rattle.mp_tree.specs.View.{document, items_by, members_by};
 ghost use Rattle.mp_pointer.specs.Spelling.{spell};
 ghost use Rattle.mp_patch.specs.Form.{AreForms, Carries, EachForm, IsFormFault, IsForm, needed_members, text_at as text_under};
 ghost use Rattle.mp_patch.specs.Operation.{Operation};

@@ -6,9 +6,8 @@ pub use Rattle.mp_pointer.proofs.Parts.Children.{no_index_here-by, past_end-by}
 pub use Rattle.mp_pointer.proofs.Parts.Depths.{depth-changed, part-depth}
 pub use Rattle.mp_pointer.proofs.Parts.Documents.{document-changed, part-document}
 pub use Rattle.mp_pointer.proofs.Parts.Kinds.{equals_by_part}
-pub use Rattle.mp_pointer.proofs.Parts.Borrowed.{no_child, no_index_here, past_end}
-pub use Rattle.mp_pointer.proofs.Parts.Valued.{no_index_in_array, past_array}
+pub use Rattle.mp_pointer.proofs.Parts.Borrowed.{no_child}
 pub use Rattle.mp_pointer.proofs.Results.{handed_on}
 pub use Rattle.mp_pointer.proofs.Spellings.ReadBack.{has_one_spelling, spellings_have_no_fault, spells_or_is_faulty}
-pub use Rattle.mp_pointer.proofs.Tokens.Indices.{numeral-decimal, same_numeral, numeral_first, bytes_differ, child-numeral, borrowed_part, borrowed_part-by, element_found}
+pub use Rattle.mp_pointer.proofs.Tokens.Indices.{numeral-decimal, same_numeral, numeral_first, bytes_differ, child-numeral, element_found}
 pub use Rattle.mp_pointer.proofs.Tokens.Lists.{are_same_tokens-Decides, back_again, decide_prefix, last_of, not_empty, root_is_prefix, same_last, some_last, to_end, to_last}

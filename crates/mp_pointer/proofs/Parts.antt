@@ -6,4 +6,3 @@ pub mod Documents
 pub mod Kinds
 pub mod Borrowed
 pub mod Readable
-pub mod Valued

@@ -2,9 +2,8 @@
 ghost use Rattle.std.specs.Prelude.{◌≡◌, ◌≤◌, ◌<◌, length, take, slice_range, MatchOption};
 ghost use Rattle.std.specs.Fn.{FnOnceReturnsAtMut};
 ghost use Rattle.mp_tree.specs.Document.{list, object, IsDocument};
-ghost use Rattle.mp_tree.specs.Private.Entries.{items_by, members_by};
 ghost use Rattle.mp_tree.specs.Values.{value_document};
-ghost use Rattle.mp_tree.specs.View.{document};
+ghost use Rattle.mp_tree.specs.View.{document, items_by, members_by};
 ghost use Rattle.mp_pointer.specs.Editing.{EditsAt, EditsBy};
 ghost use Rattle.mp_pointer.specs.Part.{part};
 
@@ -109,10 +108,10 @@ fn edit_between<T: Node, R, F: FnOnce(&mut T) -> R>(
     if number == end {
         return Some(edit(node));
     }
-    if let Some(entries) = node.members_mut() {
-        edit_member(entries, pointer, number, end, edit)
-    } else if let Some(elements) = node.items_mut() {
+    if let Some(elements) = node.items_mut() {
         edit_element(elements, pointer, number, end, edit)
+    } else if let Some(entries) = node.members_mut() {
+        edit_member(entries, pointer, number, end, edit)
     } else {
         None
     }

@@ -1,5 +1,6 @@
 -- What there is and what there is not: a value of an `Option` is one, and what holds of one that is made of others.
-use Rattle.std.proofs.Common.{◌≡◌, Bool, true, false, cond, Option, None, Some, IfSome, option_map, option_and_then, refl}
+use Rattle.std.proofs.Common.{◌≡◌, Bool, true, false, cond, Option, None, Some, IfSome, option_map, option_and_then, Bor, refl}
+use Rattle.std.specs.Option.{option_copied}
 
 -- ---- one value
 
@@ -11,6 +12,11 @@ same_some o x y here there = cc
 
 pub some_none : {X P : Type 0} (o : Option X) (x : X) → o ≡ Some x → o ≡ None → P
 some_none o x here none = cc
+
+-- of a value that is lent, what is said of the value
+pub lent_value : {X Y : Type 0} (f : X → Y) (r : Option (Bor X)) → option_map (λ (v : Bor X). f v.now) r ≡ option_map f (option_copied r)
+lent_value f None = refl
+lent_value f (Some v) = refl
 
 -- ---- what holds if there is one
 

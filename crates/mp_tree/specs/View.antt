@@ -36,3 +36,13 @@ document = fold-Doc Document document_step
 -- the documents of a list's elements
 abbrev pub items : List Doc → Items
 items ds = items_of (map document ds)
+
+-- ---- of whatever means documents by f
+
+-- the elements of a list
+abbrev pub items_by : {V : Type 0} → (V → Document) → List V → Items
+items_by f vs = items_of (map f vs)
+
+-- the members of a map's entries
+abbrev pub members_by : {V : Type 0} → (V → Document) → List (String Global × V) → Members
+members_by f es = members_of (map (λ e. (string_bytes e.0, f e.1)) es)

@@ -7,8 +7,7 @@ ghost use Rattle.std.specs.declared.alloc.Global.{Global};
 ghost use Rattle.std.specs.BTreeMap.{BTreeMap};
 ghost use Rattle.mp_tree.specs.Rows.{list_row_of, map_row_of};
 ghost use Rattle.mp_tree.specs.Document.{Document, null, string, list, object, IsDocument};
-ghost use Rattle.mp_tree.specs.View.{document};
-ghost use Rattle.mp_tree.specs.Private.Entries.{items_by, members_by};
+ghost use Rattle.mp_tree.specs.View.{document, items_by, members_by};
 
 use crate::borrowing::{items_mut, members_mut};
 use crate::doc::Doc;
@@ -59,7 +58,8 @@ pub trait Node: Drop {
             (LendsIf Self.row (list_row_of Self.row) self.entry result of_items self.old) }
         ensures value { MatchOption result ((ds : _) → means self.old ≢ list ds)
             (λ v. self.old ≡ of_items v.now) }
-        ensures made { (v : _) → means (of_items v) ≡ list (items_by means v.items) };
+        ensures made { (v : _) → means (of_items v) ≡ list (items_by means v.items) }
+        ensures documents { (d : Self) → IsDocument (means d) };
 
     /// The members of an object, borrowed for writing: what is left there is the document's. None for any other document.
     fn members_mut(&mut self) -> Option<&mut BTreeMap<String, Self>>
@@ -102,6 +102,7 @@ impl Node for Doc {
 
     ghost of_members = { Members };
 
+    #[inline(always)]
     fn null() -> Doc {
         Doc::Null
     }
@@ -163,14 +164,17 @@ impl Node for Doc {
         Doc::Members(entries)
     }
 
+    #[inline(always)]
     fn copied(&self, alloc: Global) -> Result<Doc, AllocError> {
         self.copy(alloc)
     }
 
+    #[inline(always)]
     fn to_doc(&self, alloc: Global) -> Result<Doc, AllocError> {
         self.copy(alloc)
     }
 
+    #[inline(always)]
     fn equals(&self, other: &Doc) -> bool {
         self.same(other)
     }
@@ -186,6 +190,7 @@ impl Node for Value {
 
     ghost of_members = { Object };
 
+    #[inline(always)]
     fn null() -> Value {
         Value::Null
     }
@@ -247,14 +252,17 @@ impl Node for Value {
         Value::Object(entries)
     }
 
+    #[inline(always)]
     fn copied(&self, alloc: Global) -> Result<Value, AllocError> {
         copy_value(alloc, self)
     }
 
+    #[inline(always)]
     fn to_doc(&self, alloc: Global) -> Result<Doc, AllocError> {
         copy_to_doc(alloc, self)
     }
 
+    #[inline(always)]
     fn equals(&self, other: &Value) -> bool {
         same_value(self, other)
     }

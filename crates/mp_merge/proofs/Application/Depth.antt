@@ -1,5 +1,6 @@
 -- A merged document is no deeper than the deeper of target and patch.
-use Rattle.std.proofs.Common.{◌≤◌, ℕ, List, Bool, true, false, cond, max, Option, Some, None, arith}
+use Rattle.std.proofs.Common.{◌≡◌, ◌≤◌, ℕ, List, Bool, true, false, cond, max, Option, Some, None, Result, IfOk, sym, subst, arith}
+use Rattle.std.proofs.lemmas.Result.{IfOk-weaker}
 use Rattle.mp_tree.specs.Document.{Document, null, flag, whole, string, list, object, Members, no_members, member, is_name, find, depth, members_depth}
 use Rattle.mp_merge.specs.Application.{target_members, set_or_remove, depth_of, merge_patch, merge_patch_members}
 use Rattle.mp_tree.proofs.Facts.{members_depth-put, members_depth-without}
@@ -42,3 +43,7 @@ mutual
   depth-merge_patch_members ts no_members = omega arith
   depth-merge_patch_members ts (member n p ps) =
       omega (arith, depth-set_or_remove n p (merge_patch (find n ts) p) (merge_patch_members ts ps), depth-merge_patch (find n ts) p, depth-find n ts, depth-merge_patch_members ts ps)
+
+pub merged_is_no_deeper : {T E : Type 0} (f : T → Document) (r : Result T E) (t : Option Document) (p : Document) → IfOk r (λ d. f d ≡ merge_patch t p) → IfOk r (λ d. depth (f d) ≤ max (depth_of t) (depth p))
+merged_is_no_deeper f r t p is =
+    IfOk-weaker r (λ d. f d ≡ merge_patch t p) (λ d. depth (f d) ≤ max (depth_of t) (depth p)) (λ d same. subst (λ x. depth x ≤ max (depth_of t) (depth p)) (sym same) (depth-merge_patch t p)) is

@@ -1,10 +1,7 @@
 -- Clashes name by name.
-use Rattle.std.proofs.Common.{◌≡◌, ◌↔◌, ℕ, List, [], ◌∷◌, Bool, true, false, Option, Some, None, IfSome, String, BTreeMap, Global, refl, sym, ap, ◌∙◌, subst, rules, true≢false}
+use Rattle.std.proofs.Common.{◌≡◌, ◌≢◌, ◌↔◌, ℕ, List, [], ◌∷◌, Bool, true, false, Option, Some, None, IfSome, refl, sym, ap, ◌∙◌, subst, true≢false}
 use Rattle.mp_tree.specs.Document.{Document, object, Members, no_members, member, find, put, IsMap}
 use Rattle.mp_tree.specs.Look.{Path, nothing, an_object, plain, look, look_of, look_here}
-use Rattle.mp_tree.specs.View.{document, document_step}
-use Rattle.mp_tree.specs.declared.doc.Doc.{Doc, Members as Map, ind-Doc, roll-Doc, fold-roll-Doc, the_lemmas}
-use Rattle.mp_tree.specs.declared.doc.Doc.TheOpen.{Doc-F}
 use Rattle.mp_tree.proofs.Facts.{is_here, find-below, find-put, cases_same, find-here, same_plain}
 use Rattle.mp_merge.specs.Clash.{Clash, Compatible}
 use Rattle.mp_merge.specs.Private.Edits.{NotBothMaps}
@@ -14,22 +11,10 @@ use Rattle.mp_merge.specs.Private.Edits.{NotBothMaps}
 abbrev pub IsNoMap : Document → Type 0
 IsNoMap d = look_here d ≡ plain d
 
--- a `Doc` that is not an object
-abbrev NoMapUnless : Doc → Type 0
-NoMapUnless d = ((m : BTreeMap (String Global) Doc) → d ≡ Map m → ⊥) → IsNoMap (document d)
+pub no_map : (d : Document) → ((ms : Members) → d ≢ object ms) → IsNoMap d
+no_map (object ms) never = absurd (never ms refl)
+no_map d never = refl
 
-pub no_map : (d : Doc) → ((m : BTreeMap (String Global) Doc) → d ≡ Map m → ⊥) → IsNoMap (document d)
-no_map = ind-Doc NoMapUnless (λ x y is. opened x)
-  where
-    opened : (x : Doc-F Doc) → NoMapUnless (roll-Doc x)
-    opened Doc-F.Null never = subst IsNoMap (sym (fold-roll-Doc Document document_step Doc-F.Null)) refl
-    opened (Doc-F.Flag b) never = subst IsNoMap (sym (fold-roll-Doc Document document_step (Doc-F.Flag b))) refl
-    opened (Doc-F.Whole n) never = subst IsNoMap (sym (fold-roll-Doc Document document_step (Doc-F.Whole n))) refl
-    opened (Doc-F.Text s) never = subst IsNoMap (sym (fold-roll-Doc Document document_step (Doc-F.Text s))) refl
-    opened (Doc-F.Items v) never = subst IsNoMap (sym (fold-roll-Doc Document document_step (Doc-F.Items v))) refl
-    opened (Doc-F.Members m) never = absurd (never m (search (rules, the_lemmas)))
-
--- one of the two is no map
 pub not_both_first : (p : Document) (t : Option Document) → IsNoMap p → NotBothMaps p t
 not_both_first p t plain_p map = absurd (let never : an_object ≡ plain p = sym map ∙ plain_p in cc)
 

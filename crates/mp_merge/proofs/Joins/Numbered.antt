@@ -5,8 +5,6 @@ use Rattle.std.proofs.lemmas.Option.{slice_get-map, slice_get_read, get_or_from_
 use Rattle.std.specs.List.{Contains}
 use Rattle.mp_tree.specs.Document.{Document, IsDocument}
 use Rattle.mp_tree.specs.Look.{Path}
-use Rattle.mp_tree.specs.View.{document}
-use Rattle.mp_tree.specs.declared.doc.Doc.{Doc}
 use Rattle.mp_merge.specs.Clash.{Compatible}
 use Rattle.mp_merge.specs.Join.{IsJoin}
 use Rattle.mp_merge.specs.Lists.{CompatibleBelow, IsClashBelow, IsReportedPair}
@@ -16,11 +14,8 @@ use Rattle.mp_merge.proofs.Clashes.ByName.{compatible-sym}
 use Rattle.mp_merge.proofs.Joins.Laws.{compatible_from_join, compatible_with_join}
 use Rattle.mp_merge.proofs.Joins.Union.{union_grows_join}
 
-pub at_number-by : {V : Type 0} (f : V → Document) (vs : List V) (i : ℕ) (v : V) → i < length vs → v ≡ get_or vs i v → slice_get (map f vs) i ≡ Some (f v)
-at_number-by f vs i v below is = slice_get-map f vs i ∙ ap (option_map f) (slice_get_read vs (length vs) i v refl below is)
-
-pub at_number : (ds : List Doc) (i : ℕ) (d : Doc) → i < length ds → d ≡ get_or ds i d → slice_get (map document ds) i ≡ Some (document d)
-at_number = at_number-by document
+pub at_number : {V : Type 0} (f : V → Document) (vs : List V) (i : ℕ) (v : V) → i < length vs → v ≡ get_or vs i v → slice_get (map f vs) i ≡ Some (f v)
+at_number f vs i v below is = slice_get-map f vs i ∙ ap (option_map f) (slice_get_read vs (length vs) i v refl below is)
 
 pub same_at : (patches : List Document) (k : ℕ) (p q : Document) → slice_get patches k ≡ Some p → slice_get patches k ≡ Some q → p ≡ q
 same_at patches k p q one other = let same = sym one ∙ other in cc

@@ -11,7 +11,7 @@ use Rattle.mp_merge.specs.Join.{IsJoin}
 use Rattle.mp_merge.specs.Private.Unions.{earlier_or, union_over, union_with, union_members, union, UnitesTo}
 use Rattle.mp_merge.proofs.Application.ByName.{IsMap-target_members}
 use Rattle.mp_merge.proofs.Application.Depth.{depth-find}
-use Rattle.mp_merge.proofs.Clashes.ByName.{clash_at_root, clash_of_others, compatible-self}
+use Rattle.mp_merge.proofs.Clashes.ByName.{clash_at_root, clash_of_others, compatible-self, no_map}
 
 -- ---- the union is a document
 
@@ -202,9 +202,5 @@ pub unites_plain : (united : Bool) (p j : Document) → look_here p ≡ plain p 
 unites_plain true p j plain_p same = (compatible-self p j (same.0 refl), sym (union_with-plain p j plain_p))
 unites_plain false p j plain_p same = λ free. free [] (clash_of_others p j plain_p (λ is. true≢false (sym (same.1 is))))
 
-no_object : (j : Document) → ((ms : Members) → j ≢ object ms) → look_here j ≡ plain j
-no_object (object ms) never = absurd (never ms refl)
-no_object j never = refl
-
 pub clash_with_other : (ps : Members) (j : Document) → ((ms : Members) → j ≢ object ms) → ¬ Compatible (object ps) j
-clash_with_other ps j never free = free [] (clash_at_root (object ps) j (λ same. let other : an_object ≡ plain j = same ∙ no_object j never in cc))
+clash_with_other ps j never free = free [] (clash_at_root (object ps) j (λ same. let other : an_object ≡ plain j = same ∙ no_map j never in cc))

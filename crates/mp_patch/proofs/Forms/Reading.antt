@@ -2,7 +2,7 @@
 use Rattle.std.proofs.Common.{◌≡◌, ◌≢◌, ◌⊎◌, inl, inr, ◌∷◌, ◌++◌, ℕ, List, [], length, map, None, Some, suc, append_assoc, append-nil, Result, Ok, Err, MatchResult, refl, sym, ap, ◌∙◌, subst, arith, codes}
 use Rattle.std.proofs.lemmas.List.{map-append}
 use Rattle.mp_tree.specs.Document.{Document, object, list, Members}
-use Rattle.mp_tree.specs.Private.Entries.{items_by}
+use Rattle.mp_tree.specs.View.{items_by}
 use Rattle.mp_pointer.specs.Spelling.{Tokens, spell, IsPointerFault}
 use Rattle.mp_pointer.specs.declared.fault.PointerFault.{PointerFault}
 use Rattle.mp_pointer.proofs.Facts.{spellings_have_no_fault}

@@ -2,7 +2,7 @@
 use Rattle.std.proofs.Common.{◌≡◌, ◌≢◌, ◌<◌, ◌≤◌, ◌+◌, ◌⊎◌, inl, inr, ℕ, suc, List, [], ◌∷◌, ◌++◌, length, get_or, take, drop, Bool, Option, None, Some, option_and_then, option_map, Result, Ok, Err, IsTrue, refl, sym, ap, ap₂, ◌∙◌, subst, arith, true≢false, add-one, MatchResult, MatchOption, IsFalse}
 use Rattle.std.proofs.lemmas.List.{take-append-drop, drop_more, length-take-le}
 use Rattle.mp_tree.specs.Document.{Document, Members, list, object, find, put, without, depth, depth_limit}
-use Rattle.mp_tree.specs.Private.Entries.{items_by}
+use Rattle.mp_tree.specs.View.{items_by}
 use Rattle.mp_tree.specs.Elements.{count_of}
 use Rattle.mp_tree.proofs.Facts.{count_of-items-by, nth-here-by, items-append-by}
 use Rattle.mp_pointer.specs.Difference.{DifferOnlyAt}

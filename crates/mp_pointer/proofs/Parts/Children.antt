@@ -5,7 +5,7 @@ use Rattle.std.specs.BTreeMap.{UpdatesBy, get_by_text}
 use Rattle.std.specs.Option.{IsSome}
 use Rattle.std.specs.Vec.{with_item}
 use Rattle.mp_tree.specs.Document.{Document, IsDocument, list, object, name_cmp, find, put}
-use Rattle.mp_tree.specs.Private.Entries.{items_by, members_by}
+use Rattle.mp_tree.specs.View.{items_by, members_by}
 use Rattle.mp_tree.proofs.Facts.{find-by, inserted-by, IsMap-by, nth-items-by, count_of-items-by, nth-here-by, items-set-by, set_item}
 use Rattle.mp_pointer.specs.Borrowing.{PartBecomes}
 use Rattle.mp_pointer.specs.Part.{child, numeral}

@@ -1,5 +1,5 @@
 -- Tokens that spell an index, and the elements that they name.
-use Rattle.std.proofs.Common.{◌≡◌, ◌≢◌, ◌<◌, ◌≤◌, ◌+◌, ◌^◌, ℕ, zero, suc, List, [], ◌∷◌, length, get_or, map, Bool, true, false, Option, None, Some, MatchOption, option_map, Result, Ok, Err, refl, sym, ap, ◌∙◌, subst, arith, add-zero, true≢false, cond}
+use Rattle.std.proofs.Common.{◌≡◌, ◌≢◌, ◌<◌, ◌≤◌, ◌+◌, ◌^◌, ℕ, zero, suc, List, [], ◌∷◌, length, get_or, map, Bool, true, false, Option, None, Some, MatchOption, Result, Ok, Err, refl, sym, ap, ◌∙◌, subst, arith, add-zero, true≢false, cond}
 use Rattle.std.proofs.lemmas.Fmt.{decimal_digit, decimal-digits_of, decimal-digits_value, digits_decimal, digits_value-decimal}
 use Rattle.std.proofs.lemmas.Int.Digits.{first_digits_of, same_from_digits_of, all_below_base_digits_of}
 use Rattle.std.proofs.lemmas.Slice.Eq.{bytes_eq-Decides}
@@ -15,8 +15,6 @@ use Rattle.std.specs.Result.{result_ok}
 use Rattle.std.specs.Str.{bytes_eq}
 use Rattle.std.specs.Str.Parse.{AllDigits, digits_value, ParsesUnsigned}
 use Rattle.mp_tree.specs.Document.{Document, Items, no_items, item, list}
-use Rattle.mp_tree.specs.View.{document}
-use Rattle.mp_tree.specs.declared.doc.Doc.{Doc}
 use Rattle.mp_pointer.specs.Bytes.{digit_zero, digit_one}
 use Rattle.mp_pointer.specs.Laws.{NamesElements, NamesNothingElse, NumeralsArePrinted}
 use Rattle.mp_pointer.specs.Part.{numeral, element_from, child}
@@ -141,13 +139,6 @@ child-numeral token i ds is = ap (λ n. element_from 0 n ds) is ∙ element_from
 pub child-no_index : (token : List ℕ) (ds : Items) → ((i : ℕ) → token ≡ numeral i → count_of ds ≤ i) → child token (list ds) ≡ None
 unfolding child
 child-no_index token ds none = element_from-none 0 token ds (λ j below e. omega (arith, none j (e ∙ ap numeral (omega arith))))
-
-pub borrowed_part-by : {V : Type 0} (f : V → Document) (r : Option (Bor V)) → option_map (λ (d : Bor V). f d.now) r ≡ option_map f (option_copied r)
-borrowed_part-by f None = refl
-borrowed_part-by f (Some d) = refl
-
-pub borrowed_part : (r : Option (Bor Doc)) → option_map (λ (d : Bor Doc). document d.now) r ≡ option_map document (option_copied r)
-borrowed_part = borrowed_part-by document
 
 -- what `get` of a list answers
 pub item_at : {X : Type 0} (xs : List X) (i : ℕ) (r : Option (Bor X)) → IsItemAt xs i r → option_copied r ≡ slice_get xs i

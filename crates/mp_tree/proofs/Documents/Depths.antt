@@ -3,8 +3,8 @@ use Rattle.std.proofs.Common.{◌≡◌, ◌≤◌, ◌<◌, ℕ, zero, suc, max
 use Rattle.std.specs.List.Sorted.{IsStrictlySortedBy}
 use Rattle.std.specs.Map.{keys_of, values_of}
 use Rattle.mp_tree.specs.Document.{Document, Members, no_members, member, is_name, find, put, without, depth, items_depth, members_depth}
-use Rattle.mp_tree.specs.View.{document, items}
-use Rattle.mp_tree.specs.Private.Entries.{items_by, members, members_by}
+use Rattle.mp_tree.specs.View.{document, items, items_by, members_by}
+use Rattle.mp_tree.specs.Private.Entries.{members}
 use Rattle.mp_tree.specs.declared.doc.Doc.{Doc}
 use Rattle.mp_tree.proofs.Maps.EachMember.{each_after_put, each_after_without}
 use Rattle.mp_tree.proofs.Texts.IntoData.{put-below, IsBelow-by}

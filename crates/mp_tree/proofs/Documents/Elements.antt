@@ -3,19 +3,14 @@ use Rattle.std.proofs.Common.{◌≡◌, ◌≤◌, ◌<◌, ◌++◌, ℕ, zero
 use Rattle.std.proofs.lemmas.List.Elements.{All-head, All-tail, All-weaker}
 use Rattle.std.specs.List.{All, slice_get}
 use Rattle.mp_tree.specs.Document.{Document, Items, no_items, item, IsDocument, IsReadable, AreDocuments, items_depth}
-use Rattle.mp_tree.specs.Elements.{append, count_of, items_of, list_of, nth}
-use Rattle.mp_tree.specs.Private.Entries.{items_by}
-use Rattle.mp_tree.specs.View.{document, items}
-use Rattle.mp_tree.specs.declared.doc.Doc.{Doc}
+use Rattle.mp_tree.specs.Elements.{append, count_of, list_of, nth}
+use Rattle.mp_tree.specs.View.{items_by}
 
 -- ---- as many, and as a list
 
 pub count_of-items-by : {V : Type 0} (f : V → Document) (vs : List V) → count_of (items_by f vs) ≡ length vs
 count_of-items-by f [] = refl
 count_of-items-by f (v ∷ vs) = ap suc (count_of-items-by f vs)
-
-pub count_of-items : (docs : List Doc) → count_of (items docs) ≡ length docs
-count_of-items = count_of-items-by document
 
 pub list_of-by : {V : Type 0} (f : V → Document) (vs : List V) → list_of (items_by f vs) ≡ map f vs
 list_of-by f [] = refl
@@ -28,16 +23,10 @@ nth-items-by f i [] = refl
 nth-items-by f zero (v ∷ vs) = refl
 nth-items-by f (suc i) (v ∷ vs) = nth-items-by f i vs
 
-pub nth-items : (i : ℕ) (docs : List Doc) → nth i (items docs) ≡ option_map document (slice_get docs i)
-nth-items = nth-items-by document
-
 pub nth-here-by : {V : Type 0} (f : V → Document) (vs : List V) (i : ℕ) (x : V) → i < length vs → x ≡ get_or vs i x → nth i (items_by f vs) ≡ Some (f x)
 nth-here-by f [] i x less is = absurd (omega arith)
 nth-here-by f (v ∷ vs) zero x less is = ap (λ z. Some (f z)) (sym is)
 nth-here-by f (v ∷ vs) (suc i) x less is = nth-here-by f vs i x (omega arith) is
-
-pub nth-here : (ds : List Doc) (i : ℕ) (x : Doc) → i < length ds → x ≡ get_or ds i x → nth i (items ds) ≡ Some (document x)
-nth-here = nth-here-by document
 
 pub nth_past : (i : ℕ) (ds : Items) → count_of ds ≤ i → nth i ds ≡ None
 nth_past i no_items past = refl
@@ -65,9 +54,6 @@ pub items-set-by : {V : Type 0} (f : V → Document) (vs : List V) (i : ℕ) (y 
 items-set-by f [] i y = refl
 items-set-by f (v ∷ vs) zero y = refl
 items-set-by f (v ∷ vs) (suc i) y = ap (item (f v)) (items-set-by f vs i y)
-
-pub items-set : (ds : List Doc) (i : ℕ) (y : Doc) → items (set ds i y) ≡ set_item i (document y) (items ds)
-items-set = items-set-by document
 
 -- ---- one list after another
 

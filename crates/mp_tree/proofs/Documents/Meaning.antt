@@ -1,6 +1,6 @@
 -- What a `Doc` means, variant by variant, and what each such document is.
 use Rattle.std.proofs.Common.{◌≡◌, ◌≤◌, ℕ, ℤ, List, [], ◌∷◌, map, Bool, IsUtf8, String, Vec, BTreeMap, Global, string_bytes, refl, sym, ap, ◌∙◌, subst, rules}
-use Rattle.mp_tree.specs.Document.{Document, null, flag, whole, string, list, object, IsDocument, AreDocuments, IsMap, IsWhole, IsInRange, HasTexts, IsReadable, depth, depth_limit, Throughout, ThroughoutItems, ThroughoutMembers, Items as Elements, no_items, item, Members, no_members, put}
+use Rattle.mp_tree.specs.Document.{Document, null, flag, string, list, object, IsDocument, AreDocuments, IsMap, IsWhole, IsInRange, HasTexts, IsReadable, depth, depth_limit, Throughout, ThroughoutItems, ThroughoutMembers, Items as Elements, no_items, item, Members, no_members, put}
 use Rattle.mp_tree.specs.Laws.{DocsAreDocuments}
 use Rattle.mp_tree.specs.View.{number_of, byte_entries, members_of, document, document_step, items}
 use Rattle.mp_tree.specs.Private.Entries.{members}
@@ -22,9 +22,6 @@ document-Null = search (rules, the_lemmas)
 
 pub document-Flag : (b : Bool) → document (Flag b) ≡ flag b
 document-Flag b = search (rules, the_lemmas)
-
-pub document-Whole : (n : Whole) → document (Doc.Whole n) ≡ whole (number_of n)
-document-Whole n = search (rules, the_lemmas)
 
 pub document-Text : (s : String Global) → document (Text s) ≡ string (string_bytes s)
 document-Text s = search (rules, the_lemmas)
@@ -73,8 +70,8 @@ IsDocument-opened scalar = tt
 pub IsDocument-document : (d : Doc) → IsDocument (document d)
 IsDocument-document = by_parts IsDocument IsDocument-opened
 
-pub documents_of_docs : (ds : List Doc) → All IsDocument (map document ds)
-documents_of_docs ds = All-map IsDocument document ds (All-weaker (Contains ds) (λ d. IsDocument (document d)) (λ d at. IsDocument-document d) ds (All-contains_itself ds))
+pub documents_by : {V : Type 0} (f : V → Document) (good : (v : V) → IsDocument (f v)) (vs : List V) → All IsDocument (map f vs)
+documents_by f good vs = All-map IsDocument f vs (All-weaker (Contains vs) (λ v. IsDocument (f v)) (λ v at. good v) vs (All-contains_itself vs))
 
 -- ---- what holds of each `Whole` and of each `String` holds throughout the document
 

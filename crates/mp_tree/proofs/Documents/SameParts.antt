@@ -4,8 +4,8 @@ use Rattle.std.proofs.lemmas.List.{length-map}
 use Rattle.std.specs.List.Sorted.{IsStrictlySortedBy}
 use Rattle.std.specs.Map.{keys_of}
 use Rattle.mp_tree.specs.Document.{Document, string, list, object, Items, no_items, item, Members, no_members, find}
-use Rattle.mp_tree.specs.View.{document, members_of, items}
-use Rattle.mp_tree.specs.Private.Entries.{items_by, members, members_by}
+use Rattle.mp_tree.specs.View.{document, members_of, items, items_by, members_by}
+use Rattle.mp_tree.specs.Private.Entries.{members}
 use Rattle.mp_tree.specs.declared.doc.Doc.{Doc}
 use Rattle.mp_tree.proofs.Maps.Building.{seen}
 use Rattle.mp_tree.proofs.Texts.IntoData.{put-below, IsBelow-by}

@@ -5,8 +5,8 @@ use Rattle.std.proofs.lemmas.Map.Text.{is_eq-slice_cmp, btree_map_updates_text}
 use Rattle.std.specs.BTreeMap.{UpdatesBy, get_by_text, is_at}
 use Rattle.std.specs.Map.{lookup}
 use Rattle.mp_tree.specs.Document.{Document, name_cmp, is_name, find, put, without, IsMap, IsDocument}
-use Rattle.mp_tree.specs.View.{document}
-use Rattle.mp_tree.specs.Private.Entries.{members, members_by}
+use Rattle.mp_tree.specs.View.{document, members_by}
+use Rattle.mp_tree.specs.Private.Entries.{members}
 use Rattle.mp_tree.specs.declared.doc.Doc.{Doc}
 use Rattle.mp_tree.proofs.Maps.Finite.{find-put, find-without, IsMap-put, IsMap-without, members_same}
 use Rattle.mp_tree.proofs.Documents.Meaning.{IsDocument-document}
@@ -66,9 +66,6 @@ module _ {V : Type 0} (f : V → Document) (good : (v : V) → IsDocument (f v))
 
 pub IsMap-members : (es : List (String Global × Doc)) → IsMap (members es)
 IsMap-members = IsMap-by document IsDocument-document
-
-pub find-members : (q : List ℕ) (es : List (String Global × Doc)) → find q (members es) ≡ option_map document (lookup (is_at (λ k. name_cmp q (string_bytes k))) es)
-find-members = find-by document IsDocument-document
 
 pub members-inserted : (k : List ℕ) (m n : BTreeMap (String Global) Doc) (d : Doc) → UpdatesBy string_cmp (λ l. name_cmp k (string_bytes l)) m n (Some d) → members n.entries ≡ put k (document d) (members m.entries)
 members-inserted = inserted-by document IsDocument-document

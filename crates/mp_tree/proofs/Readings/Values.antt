@@ -8,9 +8,8 @@ use Rattle.serde_json.specs.Data.{Data}
 use Rattle.serde_json.specs.Read as serde_json
 use Rattle.mp_tree.specs.Document.{Document, depth, depth_limit, items_depth}
 use Rattle.mp_tree.specs.Text.{data_in, from_data, document_in, json_document, read, shallow_document, whole_document}
-use Rattle.mp_tree.specs.View.{document, items}
+use Rattle.mp_tree.specs.View.{document, items, items_by}
 use Rattle.mp_tree.specs.declared.doc.Doc.{Doc}
-use Rattle.mp_tree.specs.Private.Entries.{items_by}
 use Rattle.mp_tree.proofs.Texts.Written.{depth-from_data}
 
 pub data_in-some : (b : List ℕ) (x : Data) → IsUtf8 b → serde_json.read b ≡ Some x → data_in b ≡ Some x

@@ -8,8 +8,8 @@ use Rattle.serde_json.specs.Events.{items_len, members_len}
 use Rattle.mp_tree.specs.Document.{Document, Members, no_members, member, put, IsBelow}
 use Rattle.mp_tree.specs.Elements.{items_of}
 use Rattle.mp_tree.specs.Values.{value_document}
-use Rattle.mp_tree.specs.View.{document, items}
-use Rattle.mp_tree.specs.Private.Entries.{members, members_by}
+use Rattle.mp_tree.specs.View.{document, items, members_by}
+use Rattle.mp_tree.specs.Private.Entries.{members}
 use Rattle.serde_json.specs.declared.value.Value.{Value}
 use Rattle.mp_tree.specs.Text.{data_of, items_data, members_data}
 use Rattle.mp_tree.specs.declared.doc.Doc.{Doc}

@@ -3,10 +3,9 @@ use Rattle.std.proofs.Common.{◌≡◌, ◌≤◌, ℕ, ℤ, List, [], ◌∷�
 use Rattle.std.proofs.lemmas.Str.{IsUtf8-string_bytes}
 use Rattle.serde_json.specs.View.{number_view}
 use Rattle.serde_json.specs.declared.number.Number.{Number}
-use Rattle.serde_json.specs.declared.value.Value.{Value, Null, Bool as Flag, String as Text, Array, Object, map-Value, fold-roll-Value, ind-Value, the_lemmas}
-use Rattle.serde_json.specs.declared.value.Value as value
+use Rattle.serde_json.specs.declared.value.Value.{Value, Bool as Flag, Array, Object, map-Value, fold-roll-Value, ind-Value, the_lemmas}
 use Rattle.serde_json.specs.declared.value.Value.TheOpen.{Value-F}
-use Rattle.mp_tree.specs.Document.{Document, null, flag, whole, string, list, object, IsDocument, AreDocuments, IsMap, IsWhole, IsInRange, HasTexts, IsReadable, depth, depth_limit, Throughout, ThroughoutItems, ThroughoutMembers, Items as Elements, no_items, item, Members, no_members, put}
+use Rattle.mp_tree.specs.Document.{Document, flag, list, object, IsDocument, AreDocuments, IsMap, IsWhole, IsInRange, HasTexts, IsReadable, depth, depth_limit, Throughout, ThroughoutItems, ThroughoutMembers, Items as Elements, no_items, item, Members, no_members, put}
 use Rattle.mp_tree.specs.Laws.{ValuesAreDocuments}
 use Rattle.mp_tree.specs.Text.{whole_number}
 use Rattle.mp_tree.specs.View.{byte_entries, members_of}
@@ -17,17 +16,8 @@ use Rattle.mp_tree.proofs.Documents.Throughout.{Throughout-put}
 use Rattle.mp_tree.proofs.Maps.Finite.{IsMap-put}
 use Rattle.mp_tree.proofs.Valued.Numbers.{IsWhole-number_or_zero}
 
-pub value-Null : value_document Null ≡ null
-value-Null = search (rules, the_lemmas)
-
 pub value-Bool : (b : Bool) → value_document (Flag b) ≡ flag b
 value-Bool b = search (rules, the_lemmas)
-
-pub value-Number : (n : Number) → value_document (value.Number n) ≡ whole (number_in n)
-value-Number n = search (rules, the_lemmas)
-
-pub value-String : (s : String Global) → value_document (Text s) ≡ string (string_bytes s)
-value-String s = search (rules, the_lemmas)
 
 pub value-Array : (v : Vec Value Global) → value_document (Array v) ≡ list (value_items v.items)
 value-Array v = search (rules, the_lemmas)

@@ -1,17 +1,5 @@
-use Rattle.std.proofs.Common.{◌≡◌, ◌++◌, List, Some, sym, ap, ◌∙◌, subst}
-use Rattle.mp_tree.specs.Look.{Path}
-use Rattle.mp_tree.specs.View.{document}
-use Rattle.mp_merge.specs.Clash.{AreAllClashes}
-use Rattle.mp_merge.specs.Private.Clashes.{WalksClashes}
 use Rattle.mp_tree.proofs.Facts.{IsDocument-document}
-use Rattle.mp_merge.proofs.Clashes.Conflicts.{walk_finds_all}
 use Rattle.mp_merge.proofs.comparing.conflict.Goals as goal
 
-pub returns : goal.returns
-returns c =
-    let p = document c.args.p.now in
-    let q = document c.args.q.now in
-    let walk = c.in_ok-push_clashes.ensures.places in
-    let is : c.push_clashes.new.places.items ≡ walk.0 = walk.1 ∙ ap (λ ws. ws ++ walk.0) c.new-places.ensures.items in
-    subst (λ (ws : List Path). AreAllClashes p q ws) (sym is)
-    (walk_finds_all p q walk.0 (IsDocument-document c.args.p.now) (subst (λ (s : Path). WalksClashes s p (Some q) walk.0) c.empty-path.ensures walk.2))
+pub all_clashes-requires : goal.all_clashes-requires
+all_clashes-requires c = IsDocument-document c.args.p.now

@@ -5,13 +5,13 @@ use Rattle.mp_tree.specs.Document.{Document, object, find, put}
 use Rattle.mp_tree.specs.View.{document}
 use Rattle.mp_tree.specs.Private.Entries.{members}
 use Rattle.mp_tree.specs.declared.doc.Doc.{Doc, Members as Map}
-use Rattle.mp_tree.proofs.Facts.{IsMap-members, members-inserted, members-removed, document-Members, document-Null, document_of_map, looked_up, members-put}
+use Rattle.mp_tree.proofs.Facts.{IsDocument-document, IsMap-members, members-inserted, members-removed, document-Members, document-Null, document_of_map, looked_up, members-put}
 use Rattle.mp_merge.specs.Application.{set_or_remove, merge_patch, merge_patch_members, target_members}
 use Rattle.mp_merge.specs.Private.Merging.{NeedsNoneAt, ResumesAt}
 use Rattle.mp_merge.specs.Resumption.{NeedsNoMemory}
 use Rattle.mp_merge.proofs.Application.ByName.{set_or_remove-other}
 use Rattle.mp_merge.proofs.Application.Resumption.{absent_needs, merges_again, merges_into_null, merges_on, needs_in, needs_none_next, present_needs, set_resumes}
-use Rattle.mp_merge.proofs.Collections.Members.{next_change, pass_change}
+use Rattle.mp_merge.proofs.Collections.Members.{next_change_by, pass_change_by}
 use Rattle.mp_merge.proofs.in_place.+merge_at.Goals as goal
 
 -- ---- an object into a target
@@ -83,7 +83,7 @@ merge_members-loop-name-preserved t c =
     let p = document c.in-Some.change.now in
     let ts = members l.entries.entries in
     let made = c.in_ok-merge_entry.ensures.merged ∙ ap (λ k. set_or_remove k p (merge_patch (find k ts) p) ts) c.as_str.ensures.value in
-    pass_change l.invariant c.in-Some.ensures.steps (λ map on. merges_on (IsMap-members l.entries.entries) (IsMap-members c.args.changes.now.entries) on (IsMap-members c.merge_entry.new.entries.entries) map made)
+    pass_change_by document IsDocument-document l.invariant c.in-Some.ensures.steps (λ map on. merges_on (IsMap-members l.entries.entries) (IsMap-members c.args.changes.now.entries) on (IsMap-members c.merge_entry.new.entries.entries) map made)
 
 pub merge_members-returns-in_err-merge_entry : goal.merge_members-returns-in_err-merge_entry
 merge_members-returns-in_err-merge_entry t c =
@@ -92,7 +92,7 @@ merge_members-returns-in_err-merge_entry t c =
     let ts = members l.entries.entries in
     let now = c.merge_entry.new.entries.entries in
     let named = c.as_str.ensures.value in
-    let on = (next_change l.invariant c.in-Some.ensures.steps).holds in
+    let on = (next_change_by document IsDocument-document l.invariant c.in-Some.ensures.steps).holds in
     let map = IsMap-members l.entries.entries in
     let good = IsMap-members c.args.changes.now.entries in
     let failed = err_from_is_err_and c.from_residual.result c.from_residual.ensures.1 in

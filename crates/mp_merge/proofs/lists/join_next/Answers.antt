@@ -1,8 +1,6 @@
 use Rattle.std.proofs.Common.{◌≡◌, ◌<◌, ◌+◌, ℕ, length, take, map, Vec, Global, Option, Some, MatchOption, slice_get, true, false, sym, subst, arith}
 use Rattle.std.proofs.lemmas.List.{length-map}
 use Rattle.mp_tree.specs.Look.{Path}
-use Rattle.mp_tree.specs.View.{document}
-use Rattle.mp_tree.proofs.Facts.{IsDocument-document}
 use Rattle.mp_merge.specs.Join.{IsJoin}
 use Rattle.mp_merge.specs.Lists.{IsClashBelow}
 use Rattle.mp_merge.specs.Private.Clashes.{IsFreeBelow}
@@ -11,33 +9,36 @@ use Rattle.mp_merge.proofs.Joins.Numbered.{at_number, reported_pair, free_of_joi
 use Rattle.mp_merge.proofs.lists.join_next.Goals as goal
 
 pub returns-then-branch : goal.returns-then-branch
-returns-then-branch c =
-    let patches = map document c.args.patches.now in
+returns-then-branch g c =
+    let f = g.T.Node.means in
+    let patches = map f c.args.patches.now in
     let k = c.args.second in
     let d = c.index-patches-second.result in
-    let j = document c.args.joined in
-    let within : k < length patches = omega (arith, length-map c.args.patches.now document, c.requires.within) in
-    let at : slice_get patches k ≡ Some (document d) = at_number c.args.patches.now k d c.requires.within c.index-patches-second.is in
-    let now = document c.unite.new.joined in
-    let united : UnitesTo true (document d) (Some j) now = subst (λ b. UnitesTo b (document d) (Some j) now) c.if-branch.true c.in_ok-unite.ensures in
-    subst (λ x. IsJoin (take (k + 1) patches) x) (sym united.1) (joined_more patches k (document d) j within at (IsDocument-document d) (IsDocument-document c.args.joined) c.requires.joined united.0)
+    let j = f c.args.joined in
+    let within : k < length patches = omega (arith, length-map c.args.patches.now f, c.requires.within) in
+    let at : slice_get patches k ≡ Some (f d) = at_number f c.args.patches.now k d c.requires.within c.index-patches-second.is in
+    let now = f c.unite.new.joined in
+    let united : UnitesTo true (f d) (Some j) now = subst (λ b. UnitesTo b (f d) (Some j) now) c.if-branch.true c.in_ok-unite.ensures in
+    subst (λ x. IsJoin (take (k + 1) patches) x) (sym united.1) (joined_more patches k (f d) j within at (c.requires.documents d) (c.requires.documents c.args.joined) c.requires.joined united.0)
 
 pub unreachable-requires : goal.unreachable-requires
-unreachable-requires c =
-    let patches = map document c.args.patches.now in
+unreachable-requires g c =
+    let f = g.T.Node.means in
+    let patches = map f c.args.patches.now in
     let k = c.args.second in
     let d = c.index-patches-second.result in
-    let j = document c.args.joined in
-    let within : k < length patches = omega (arith, length-map c.args.patches.now document, c.requires.within) in
-    let at : slice_get patches k ≡ Some (document d) = at_number c.args.patches.now k d c.requires.within c.index-patches-second.is in
-    let now = document c.unite.new.joined in
-    let clash : UnitesTo false (document d) (Some j) now = subst (λ b. UnitesTo b (document d) (Some j) now) c.if-branch.false c.in_ok-unite.ensures in
-    let free : IsFreeBelow patches k = subst (λ (o : Option (ℕ × Vec Path Global)). MatchOption o (IsFreeBelow patches k) (λ f. IsClashBelow patches f.0 k f.1.items)) c.in_default.is c.in_ok-first.ensures in
-    clash (free_of_join patches k j (document d) within at c.requires.joined free)
+    let j = f c.args.joined in
+    let within : k < length patches = omega (arith, length-map c.args.patches.now f, c.requires.within) in
+    let at : slice_get patches k ≡ Some (f d) = at_number f c.args.patches.now k d c.requires.within c.index-patches-second.is in
+    let now = f c.unite.new.joined in
+    let clash : UnitesTo false (f d) (Some j) now = subst (λ b. UnitesTo b (f d) (Some j) now) c.if-branch.false c.in_ok-unite.ensures in
+    let free : IsFreeBelow patches k = subst (λ (o : Option (ℕ × Vec Path Global)). MatchOption o (IsFreeBelow patches k) (λ found. IsClashBelow patches found.0 k found.1.items)) c.in_default.is c.in_ok-first.ensures in
+    clash (free_of_join patches k j (f d) within at c.requires.joined free)
 
 pub returns : goal.returns
-returns c =
-    let patches = map document c.args.patches.now in
+returns g c =
+    let f = g.T.Node.means in
+    let patches = map f c.args.patches.now in
     let k = c.args.second in
-    let clash : IsClashBelow patches c.in-Some.first k c.in-Some.places.items = subst (λ (o : Option (ℕ × Vec Path Global)). MatchOption o (IsFreeBelow patches k) (λ f. IsClashBelow patches f.0 k f.1.items)) c.in-Some.is c.in_ok-first.ensures in
-    reported_pair patches c.in-Some.first k c.in-Some.places.items (document c.args.joined) (omega (arith, length-map c.args.patches.now document, c.requires.within)) c.requires.joined clash
+    let clash : IsClashBelow patches c.in-Some.first k c.in-Some.places.items = subst (λ (o : Option (ℕ × Vec Path Global)). MatchOption o (IsFreeBelow patches k) (λ found. IsClashBelow patches found.0 k found.1.items)) c.in-Some.is c.in_ok-first.ensures in
+    reported_pair patches c.in-Some.first k c.in-Some.places.items (f c.args.joined) (omega (arith, length-map c.args.patches.now f, c.requires.within)) c.requires.joined clash

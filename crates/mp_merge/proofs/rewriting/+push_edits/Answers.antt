@@ -1,36 +1,41 @@
-use Rattle.std.proofs.Common.{Some, option_map, string_bytes, sym, ap, ◌∙◌, Bor}
+use Rattle.std.proofs.Common.{Some, option_map, string_bytes, sym, ap, ◌∙◌, Bor, arith}
 use Rattle.mp_tree.specs.Document.{find}
-use Rattle.mp_tree.specs.View.{document}
-use Rattle.mp_tree.specs.Private.Entries.{members}
-use Rattle.mp_tree.specs.declared.doc.Doc.{Doc}
-use Rattle.mp_tree.proofs.Facts.{document_of_map, looked_up}
+use Rattle.mp_tree.specs.View.{members_by}
+use Rattle.mp_tree.proofs.Facts.{lent_value, looked_up-by}
 use Rattle.mp_merge.specs.Private.Edits.{lists_of}
-use Rattle.mp_pointer.proofs.Facts.{borrowed_part}
 use Rattle.mp_merge.proofs.Rewritings.Walk.{all_edits, both_maps, edits_after_one, renamed}
-use Rattle.mp_merge.proofs.Collections.Members.{pass_change, no_changes}
+use Rattle.mp_merge.proofs.Collections.Members.{next_change_by, pass_change_by, no_changes_by}
 use Rattle.mp_merge.proofs.rewriting.+push_edits.Goals as goal
 
-pub push_edits-returns-in-Members-Members-clause-edits : goal.push_edits-returns-in-Members-Members-clause-edits
-push_edits-returns-in-Members-Members-clause-edits t c =
-    let both = c.in-Members-Members in
-    let target = ap (option_map (λ (v : Bor Doc). document v.now)) c.in-Some.is ∙ ap Some (document_of_map both.entries both.is-1) in
-    both_maps _ _ _ _ _ _ _ _ (document_of_map both.changes both.is-0) target c.in_ok-push.ensures.ok c.in_ok-push_member_edits.ensures.edits
+pub push_edits-returns-in-Some-Some-clause-edits : goal.push_edits-returns-in-Some-Some-clause-edits
+push_edits-returns-in-Some-Some-clause-edits g t c =
+    let f = g.T.Node.means in
+    let both = c.in-Some-Some in
+    let target = ap (option_map (λ (v : Bor _). f v.now)) c.in-Some.is ∙ ap Some both.ensures'.value in
+    both_maps _ _ _ _ _ _ _ _ both.ensures.value target c.in_ok-push.ensures.ok c.in_ok-push_member_edits.ensures.edits
+
+pub push_member_edits-push_edits-requires : goal.push_member_edits-push_edits-requires
+push_member_edits-push_edits-requires g t c κs within =
+    let next = next_change_by g.T.Node.means c.requires.documents c.loop-name.invariant.changes c.in-Some.ensures.steps in
+    let no_deeper = next.holds.1 in (omega (arith, c.decreases), within)
 
 pub push_member_edits-loop-name-preserved : goal.push_member_edits-loop-name-preserved
-push_member_edits-loop-name-preserved t c =
+push_member_edits-loop-name-preserved g t c =
+    let f = g.T.Node.means in
+    let good = c.requires.documents in
     let l = c.loop-name in
     let s = c.args.path.now in
     let n = string_bytes c.in-Some.name.now in
-    let p = document c.in-Some.change.now in
+    let p = f c.in-Some.change.now in
     let entries = c.args.entries.now.entries in
     let value = c.get-value.result in
-    let found = looked_up entries c.as_str.ensures.value c.get-value.ensures.value in
-    let grew = renamed (lists_of l.found) (lists_of c.push_edits.new.found) l.path s c.as_str-in-loop-name.result.now n p (option_map (λ (v : Bor Doc). document v.now) value) (find n (members entries))
-    l.invariant.path c.as_str-in-loop-name.ensures.value (borrowed_part value ∙ sym found) c.in_ok-push_edits.ensures.edits in
+    let found = looked_up-by f good entries c.as_str.ensures.value c.get-value.ensures.value in
+    let grew = renamed (lists_of l.found) (lists_of c.push_edits.new.found) l.path s c.as_str-in-loop-name.result.now n p (option_map (λ (v : Bor _). f v.now) value) (find n (members_by f entries))
+    l.invariant.path c.as_str-in-loop-name.ensures.value (lent_value f value ∙ sym found) c.in_ok-push_edits.ensures.edits in
     record {
       path = c.in_ok-push_edits.ensures.path ∙ l.invariant.path;
-      changes = pass_change l.invariant.changes c.in-Some.ensures.steps (λ map rest. edits_after_one _ _ _ _ _ (members c.next.new.self) _ _ _ rest grew);
+      changes = pass_change_by f good l.invariant.changes c.in-Some.ensures.steps (λ map rest. (edits_after_one _ _ _ _ _ (members_by f c.next.new.self) _ _ _ rest.0 grew, let deep = rest.1 in omega arith));
     }
 
 pub push_member_edits-returns-clause-edits : goal.push_member_edits-returns-clause-edits
-push_member_edits-returns-clause-edits t c = all_edits _ _ _ _ _ (no_changes c.loop-name.invariant.changes c.in-None.ensures.steps.0)
+push_member_edits-returns-clause-edits g t c = all_edits _ _ _ _ _ ((no_changes_by g.T.Node.means c.loop-name.invariant.changes c.in-None.ensures.steps.0).0)

@@ -1,6 +1,5 @@
-use Rattle.std.proofs.Common.{Some, IsTrue, refl, ap, ◌∙◌}
-use Rattle.mp_tree.specs.Private.Entries.{members_by}
-use Rattle.mp_tree.proofs.Facts.{put-by}
+use Rattle.std.proofs.Common.{Some, IsTrue, ap, ◌∙◌}
+use Rattle.mp_tree.specs.View.{members_by}
 use Rattle.mp_patch.specs.Operation.{AddsTo}
 use Rattle.mp_patch.specs.Refusal.{LacksPlace}
 use Rattle.mp_patch.specs.Private.Steps.{Inserts}
@@ -16,16 +15,14 @@ returns-in-Some g c =
     let out : Inserts c.insert_element.result c.args.fits c.args.token.now (f c.args.value) (f c.args.container.now) (f (g.T.Node.of_items w)) = rw (before, made w) c.insert_element.ensures in
     out
 
-pub returns-in_ok-insert : goal.returns-in_ok-insert
-returns-in_ok-insert g c =
+pub returns-in_ok-set_member : goal.returns-in_ok-set_member
+returns-in_ok-set_member g c =
     let f = g.T.Node.means in
-    let good = c.in-Some-members_mut.ensures.documents in
     let token = c.args.token.now in
     let v = f c.args.value in
     let old = c.in-Some-members_mut.entries.now in
-    let w = c.insert.new.self in
+    let w = c.set_member.new.entries in
     let made = c.in-Some-members_mut.ensures.made in
     let before = ap f c.in-Some-members_mut.ensures.value ∙ made old in
-    let set = put-by f good old w c.args.value refl c.in_ok-from_str.ensures.ok refl c.in_ok-insert.ensures.updates in
-    let out : IsTrue c.args.fits × (¬ LacksPlace token (Some (f c.args.container.now))) × AddsTo v token (f c.args.container.now) (f (g.T.Node.of_members w)) = rw (before, made w) (c.if-not-fits.false, (λ lacks. lacks), value_inserted token v (members_by f old.entries) (members_by f w.entries) set) in
+    let out : IsTrue c.args.fits × (¬ LacksPlace token (Some (f c.args.container.now))) × AddsTo v token (f c.args.container.now) (f (g.T.Node.of_members w)) = rw (before, made w) (c.if-not-fits.false, (λ lacks. lacks), value_inserted token v (members_by f old.entries) (members_by f w.entries) c.in_ok-set_member.ensures) in
     out

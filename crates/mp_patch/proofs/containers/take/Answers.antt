@@ -1,6 +1,6 @@
 use Rattle.std.proofs.Common.{ap, refl, ◌∙◌}
 use Rattle.mp_tree.proofs.Facts.{looked_up-by, removed-by}
-use Rattle.mp_tree.specs.Private.Entries.{members_by}
+use Rattle.mp_tree.specs.View.{members_by}
 use Rattle.mp_patch.specs.Private.Steps.{TakesOutBy}
 use Rattle.mp_pointer.proofs.Facts.{no_child}
 use Rattle.mp_patch.proofs.Operations.SingleSteps.{value_removed-by}

@@ -1,7 +1,7 @@
 use Rattle.std.proofs.Common.{◌≡◌, ◌<◌, ◌+◌, ℕ, List, max, length, drop, get_or, sym, ap, ◌∙◌, arith}
 use Rattle.std.proofs.lemmas.List.{drop_more}
 use Rattle.mp_tree.specs.Document.{Document, depth, items_depth, members_depth}
-use Rattle.mp_tree.specs.Private.Entries.{items_by, members_by}
+use Rattle.mp_tree.specs.View.{items_by, members_by}
 use Rattle.mp_tree.proofs.Facts.{members_depth-by}
 use Rattle.mp_patch.proofs.measuring.+measure.Goals as goal
 

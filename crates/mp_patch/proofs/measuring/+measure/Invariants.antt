@@ -1,7 +1,7 @@
 use Rattle.std.proofs.Common.{◌≡◌, ◌≤◌, ◌*◌, suc, max, drop}
 use Rattle.std.specs.BTreeMap.{values}
 use Rattle.mp_tree.specs.Document.{depth, items_depth, members_depth}
-use Rattle.mp_tree.specs.Private.Entries.{items_by, members_by}
+use Rattle.mp_tree.specs.View.{items_by, members_by}
 use Rattle.mp_patch.proofs.measuring.+measure.Given as goal
 
 abbrev pub decreases-depth_within : goal.decreases-depth_within

@@ -2,7 +2,7 @@ use Rattle.std.proofs.Common.{◌≡◌, Some, inl, inr, ap, sym, ◌∙◌, cod
 use Rattle.std.proofs.lemmas.Result.{err_from_is_err_and}
 use Rattle.std.specs.Option.{option_copied}
 use Rattle.mp_tree.specs.Document.{object}
-use Rattle.mp_tree.specs.Private.Entries.{members_by}
+use Rattle.mp_tree.specs.View.{members_by}
 use Rattle.mp_patch.specs.Form.{text_at}
 use Rattle.mp_patch.specs.Private.Names.{name_of}
 use Rattle.mp_patch.proofs.Forms.Reading.{origin_fault, path_fault, text_fault}

@@ -1,7 +1,7 @@
 use Rattle.std.proofs.Common.{Err, Ok, ap, sym, ◌∙◌}
 use Rattle.std.proofs.lemmas.Result.{err_from_is_err_and}
 use Rattle.mp_tree.specs.Document.{object}
-use Rattle.mp_tree.specs.Private.Entries.{members_by}
+use Rattle.mp_tree.specs.View.{members_by}
 use Rattle.mp_patch.specs.Private.Reading.{drafted}
 use Rattle.mp_patch.proofs.Forms.Reading.{form_of_map}
 use Rattle.mp_patch.proofs.reading.read_op.Goals as goal

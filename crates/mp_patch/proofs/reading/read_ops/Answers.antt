@@ -1,7 +1,7 @@
 use Rattle.std.proofs.Common.{◌≡◌, length, ap, sym, ◌∙◌, subst, arith}
 use Rattle.std.specs.Vec.Iter.{into_iter_items}
 use Rattle.mp_tree.specs.Document.{list}
-use Rattle.mp_tree.specs.Private.Entries.{items_by}
+use Rattle.mp_tree.specs.View.{items_by}
 use Rattle.mp_patch.specs.Form.{IsFormFault}
 use Rattle.mp_patch.specs.declared.fault.FormFault.{FormFault}
 use Rattle.mp_patch.specs.Private.Faults.{fault_of_element}

@@ -11,14 +11,14 @@ pub edit_between-returns-then-number-end : goal.edit_between-returns-then-number
 edit_between-returns-then-number-end g t c =
     edits_here-by g.T.Node.means _ _ c.args.node.now c.edit.new.arg2 (slice_range-none c.args.pointer.now c.args.number c.args.end c.if-number-end.true) (search rules)
 
-pub edit_between-returns-in_default-items_mut : goal.edit_between-returns-in_default-items_mut
-edit_between-returns-in_default-items_mut g t c =
+pub edit_between-returns-in_default-members_mut : goal.edit_between-returns-in_default-members_mut
+edit_between-returns-in_default-members_mut g t c =
     let f = g.T.Node.means in
     let path = c.args.pointer.now in
     let token = get_or path c.args.number [] in
     let more : c.args.number < c.args.end = omega (arith, c.requires.ordered, c.if-number-end.false) in
     let tokens = slice_range-more path c.args.number c.args.end token (slice_get-get_or path c.args.number [] (omega (arith, more, c.requires.within))) more in
-    (part-none (f c.args.node.now) _ _ token tokens (no_child token (f c.args.node.now) c.in_default-items_mut.ensures.value c.in_default.ensures.value), refl)
+    (part-none (f c.args.node.now) _ _ token tokens (no_child token (f c.args.node.now) c.in_default.ensures.value c.in_default-members_mut.ensures.value), refl)
 
 pub edit_element-returns-in_err-index : goal.edit_element-returns-in_err-index
 edit_element-returns-in_err-index g t c =

@@ -1,12 +1,12 @@
 use Rattle.std.proofs.Common.{◌≡◌, ◌<◌, ◌^◌, length, option_map, sym, ap, ◌∙◌, arith}
 use Rattle.std.specs.List.{slice_get}
 use Rattle.std.specs.Option.{option_copied}
-use Rattle.mp_tree.specs.Private.Entries.{items_by}
-use Rattle.mp_tree.proofs.Facts.{nth-items-by}
+use Rattle.mp_tree.specs.View.{items_by}
+use Rattle.mp_tree.proofs.Facts.{lent_value, nth-items-by}
 use Rattle.mp_pointer.specs.Part.{child}
 use Rattle.mp_pointer.proofs.Parts.Borrowed.{no_child}
 use Rattle.mp_pointer.proofs.Parts.Children.{no_index_here-by, value_here-by}
-use Rattle.mp_pointer.proofs.Tokens.Indices.{borrowed_part-by, child-numeral, item_at}
+use Rattle.mp_pointer.proofs.Tokens.Indices.{child-numeral, item_at}
 use Rattle.mp_pointer.proofs.evaluating.child_of.Goals as goal
 
 pub returns-in_err-index_of-in-Some : goal.returns-in_err-index_of-in-Some
@@ -27,7 +27,7 @@ returns-in_ok-index_of-in-Some g c =
     let elements = c.in-Some.elements.now in
     let i = c.in_ok-index_of-in-Some.field-0 in
     let read : option_copied c.get.result ≡ slice_get elements.items i = item_at elements.items i c.get.result (rw (← c.deref.ensures.value) c.get.ensures.lookup) in
-    borrowed_part-by f c.get.result ∙ ap (option_map f) read
+    lent_value f c.get.result ∙ ap (option_map f) read
     ∙ sym (ap (child token) c.in-Some.ensures.value ∙ child-numeral token i (items_by f elements.items) c.in_ok-index_of-in-Some.ensures ∙ nth-items-by f i elements.items)
 
 pub returns-in_ok-members-in-None : goal.returns-in_ok-members-in-None
@@ -37,4 +37,4 @@ returns-in_ok-members-in-None g c =
     let found = c.get-in-None.result in
     let members = c.in_ok-members-in-None.ensures in
     let entries = c.in_ok-members-in-None.field-0.now in
-    borrowed_part-by f found ∙ sym (ap (child token) members.value ∙ value_here-by f members.documents token entries (option_copied found) c.get-in-None.ensures.value)
+    lent_value f found ∙ sym (ap (child token) members.value ∙ value_here-by f members.documents token entries (option_copied found) c.get-in-None.ensures.value)
