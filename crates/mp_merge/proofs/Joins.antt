@@ -2,4 +2,5 @@
 pub mod ByName
 pub mod Laws
 pub mod Numbered
+pub mod Reunited
 pub mod Union

@@ -6,8 +6,7 @@ use Rattle.mp_tree.specs.Look.{Path, Look, nothing, an_object, plain, look}
 use Rattle.mp_tree.proofs.Facts.{equal_looks, Contains-head, Contains-one, some_or_all, nothing_or}
 use Rattle.mp_merge.specs.Application.{merge_patch}
 use Rattle.mp_merge.specs.Join.{IsJoin}
-use Rattle.mp_merge.specs.Laws.{ApplicationIsOutcome, HasOneOutcome, ReplicasAgree, JoinGivesOutcome}
-use Rattle.mp_merge.specs.Lists.{HaveSameMembers}
+use Rattle.mp_merge.specs.Laws.{ApplicationIsOutcome, HasOneOutcome, OutcomeOfSame, ReplicasAgree, JoinGivesOutcome}
 use Rattle.mp_merge.specs.Outcome.{left_by, LeavesAlone, IsOutcome}
 use Rattle.mp_merge.proofs.Joins.Laws.{from_join}
 use Rattle.mp_merge.proofs.Application.Looks.{says, or_else, left_of, look-merge_patch, says-has, says-below, IsBelowPlain, Reach, has, below, alone, reach}
@@ -100,7 +99,7 @@ one_outcome d patches e f good other first second =
       | inr quiet ↦ one.kept w quiet ∙ sym (two.kept w quiet)
     ])
 
-outcome_of_same : (d : Document) (ps qs : List Document) (e : Document) → HaveSameMembers ps qs → IsOutcome d ps e → IsOutcome d qs e
+pub outcome_of_same : OutcomeOfSame
 outcome_of_same d ps qs e same outcome = record {
   set = λ p at. outcome.set p ((same p).1 at);
   entered = λ p at. outcome.entered p ((same p).1 at);

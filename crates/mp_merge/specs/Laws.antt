@@ -14,7 +14,7 @@ use Rattle.mp_pointer.specs.Part.{part}
 use Rattle.mp_merge.specs.EditPlace.{IsEditPlace}
 use Rattle.mp_merge.specs.Application.{merge_patch, in_turn, target_members, after_patch}
 use Rattle.mp_merge.specs.Clash.{Clash, Compatible, AreAllClashes}
-use Rattle.mp_merge.specs.Join.{IsJoin, JoinsNames, HasJoin}
+use Rattle.mp_merge.specs.Join.{IsJoin, JoinsNames, HasJoin, AreJoinTries}
 use Rattle.mp_merge.specs.Lists.{PairwiseCompatible, AreWithin, IsReportedPair, HaveSameMembers}
 use Rattle.mp_merge.specs.Outcome.{IsOutcome, HasOutcome}
 use Rattle.mp_merge.specs.Resumption.{AreTries, last_of}
@@ -80,6 +80,21 @@ OutcomeExists = (d : Document) (patches : List Document) → IsDocument d → Al
 abbrev pub ReplicasAgree : Type 0
 ReplicasAgree = (d : Document) (ps qs : List Document) (e f : Document) → HaveSameMembers ps qs → IsDocument e
     → IsDocument f → IsOutcome d ps e → IsOutcome d qs f → e ≡ f
+
+-- the outcome of patches and one more, if each two are compatible, is one application of that one to their outcome
+abbrev pub OutcomeGrows : Type 0
+OutcomeGrows = (d : Document) (patches : List Document) (e q : Document) → IsDocument d → All IsDocument patches
+    → IsDocument e → IsDocument q → PairwiseCompatible (patches ++ q ∷ []) → IsOutcome d patches e
+    → IsOutcome d (patches ++ q ∷ []) (merge_patch (Some e) q)
+
+-- no patch leaves the start as it is
+abbrev pub OutcomeOfNone : Type 0
+OutcomeOfNone = (d : Document) → IsOutcome d [] d
+
+-- lists with the same members have the same outcomes
+abbrev pub OutcomeOfSame : Type 0
+OutcomeOfSame = (d : Document) (ps qs : List Document) (e : Document) → HaveSameMembers ps qs → IsOutcome d ps e
+    → IsOutcome d qs e
 
 -- ---- two patches, one after the other
 
@@ -191,6 +206,28 @@ EmptyHasNoJoin = (j : Document) → ¬ IsJoin [] j
 abbrev pub JoinGrows : Type 0
 JoinGrows = (patches : List Document) (q kept j : Document) → IsJoin patches kept
     → IsJoin (patches ++ q ∷ []) j ↔ IsJoin (kept ∷ q ∷ []) j
+
+-- the join of a list and that of others is the join of all of them
+abbrev pub JoinInParts : Type 0
+JoinInParts = (patches others : List Document) (kept j : Document) → IsJoin others kept
+    → IsJoin (patches ++ others) j ↔ IsJoin (patches ++ kept ∷ []) j
+
+-- lists with the same members have the same joins
+abbrev pub JoinOfSame : Type 0
+JoinOfSame = (ps qs : List Document) (j : Document) → HaveSameMembers ps qs → IsJoin ps j → IsJoin qs j
+
+-- one patch is its own join
+abbrev pub JoinOfOne : Type 0
+JoinOfOne = (p : Document) → IsJoin (p ∷ []) p
+
+-- joining a patch to a join that has it already gives that join
+abbrev pub JoinAbsorbs : Type 0
+JoinAbsorbs = (p q j : Document) → IsJoin (p ∷ q ∷ []) j → IsJoin (j ∷ q ∷ []) j
+
+-- after any number of tries that ran out of memory, what is left has with the patch the joins that the first had
+abbrev pub JoinTriesResume : Type 0
+JoinTriesResume = (before p : Document) (tries : List Document) (j : Document) → IsDocument j → AreJoinTries before p tries
+    → IsJoin (last_of before tries ∷ p ∷ []) j ↔ IsJoin (before ∷ p ∷ []) j
 
 -- a collection that is not empty has a join exactly if its members are pairwise compatible
 abbrev pub JoinExists : Type 0

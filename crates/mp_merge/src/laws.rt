@@ -1,6 +1,6 @@
 //! Laws over documents and merge patches alone: each function runs nothing, and its contract is the law.
 ghost use Rattle.mp_merge.specs.Convergence.{ReplicasConverge};
-ghost use Rattle.mp_merge.specs.Laws.{JoinIsReadable, MergedIsDocument, MergedIsReadable, RewritingIsNoDeeper, RewritingIsWritable, AppliesAtEachName, OthersReplace, MergesIntoNull, AppliedOnce, TriesResume, ApplicationIsOutcome, HasOneOutcome, AppliedInTurn, OutcomeExists, ReplicasAgree, Exchange, ClashesExist, HaveOneList, EmptyIfCompatible, CompatibleOrReported, CompatibleHaveNone, HasOneReportedPair, ClashWithAJoin, CompatibleByNames, CompatibleIfEqual, JoinByNames, JoinOfEqual, JoinIsIdempotent, JoinIsCommutative, JoinIsAssociative, JoinGrows, HasOneJoin, EmptyHasNoJoin, JoinExists, PairHasJoin, JoinIsNoDeeper, JoinGivesOutcome, RewritingExists, HasOneRewriting, RewritingHasDocuments, GuardedList, RefusedGuardShows, EmptyRewriting, EditsInAnyOrder, RewritingRuns};
+ghost use Rattle.mp_merge.specs.Laws.{JoinIsReadable, MergedIsDocument, MergedIsReadable, RewritingIsNoDeeper, RewritingIsWritable, AppliesAtEachName, OthersReplace, MergesIntoNull, AppliedOnce, TriesResume, ApplicationIsOutcome, HasOneOutcome, AppliedInTurn, OutcomeExists, ReplicasAgree, Exchange, ClashesExist, HaveOneList, EmptyIfCompatible, CompatibleOrReported, CompatibleHaveNone, HasOneReportedPair, ClashWithAJoin, CompatibleByNames, CompatibleIfEqual, JoinByNames, JoinOfEqual, JoinIsIdempotent, JoinIsCommutative, JoinIsAssociative, JoinGrows, JoinInParts, JoinOfSame, JoinOfOne, JoinAbsorbs, JoinTriesResume, OutcomeGrows, OutcomeOfNone, OutcomeOfSame, HasOneJoin, EmptyHasNoJoin, JoinExists, PairHasJoin, JoinIsNoDeeper, JoinGivesOutcome, RewritingExists, HasOneRewriting, RewritingHasDocuments, GuardedList, RefusedGuardShows, EmptyRewriting, EditsInAnyOrder, RewritingRuns};
 
 /// Application in the words of RFC 7396 section 2: a patch that is not an object is the result. An object makes an
 /// object of every target, in which a name that the patch does not carry stays as it was, a null removes it, and any
@@ -39,6 +39,13 @@ pub fn one_outcome()
 /// replica has that applies each patch as it arrives is what any other has.
 pub fn applied_in_turn()
     ensures { AppliedInTurn }
+{}
+
+/// The outcome of no patch is the start; the outcome of patches and one more, no two of which conflict, is what that one
+/// makes of their outcome: so a replica may merge each patch into what it shows as it arrives.
+pub fn outcome_grows()
+    ensures none { OutcomeOfNone }
+    ensures more { OutcomeGrows }
 {}
 
 /// Patches have an outcome exactly if no two of them conflict, and then on every document.
@@ -114,6 +121,28 @@ pub fn join_is_associative()
 /// may keep the join of what it received, and join each patch to it as it arrives.
 pub fn join_grows()
     ensures { JoinGrows }
+{}
+
+/// The join of patches and others is the join of the first with the join of the others: so joins that were made apart
+/// are joined, and not the patches again.
+pub fn join_in_parts()
+    ensures { JoinInParts }
+{}
+
+/// A join in place that ran out of memory, however often, is made whole by one that succeeds: that leaves a join of what
+/// was there at first with the patch. One patch is its own join, and a join that has a patch already takes it again
+/// unchanged.
+pub fn joining_again()
+    ensures one { JoinOfOne }
+    ensures absorbs { JoinAbsorbs }
+    ensures tries { JoinTriesResume }
+{}
+
+/// Neither the order nor the repeats of patches count: lists with the same members have the same outcomes of each start,
+/// and the same joins.
+pub fn only_members_count()
+    ensures outcomes { OutcomeOfSame }
+    ensures joins { JoinOfSame }
 {}
 
 /// Lists of the same patches, in any orders and with any repeats, have at most one join: replicas that join the same

@@ -1,12 +1,12 @@
 -- Compatible patches, applied one after another.
 use Rattle.std.proofs.Common.{◌≡◌, inl, inr, List, [], ◌∷◌, ◌++◌, Some, refl, sym, ap, ◌∙◌, subst, append-nil, append_assoc}
-use Rattle.std.proofs.lemmas.List.Elements.{All-head, All-tail, Contains-append_cases, Contains-append_left, Contains-append_right}
+use Rattle.std.proofs.lemmas.List.Elements.{All-head, All-tail, Contains-append_cases, Contains-append_left, Contains-append_right, Contains-push}
 use Rattle.std.specs.List.{All, Contains}
 use Rattle.mp_tree.specs.Document.{Document, IsDocument}
 use Rattle.mp_tree.specs.Look.{Path, Look, look}
 use Rattle.mp_merge.specs.Application.{merge_patch, in_turn}
 use Rattle.mp_merge.specs.Clash.{Compatible}
-use Rattle.mp_merge.specs.Laws.{AppliedInTurn}
+use Rattle.mp_merge.specs.Laws.{AppliedInTurn, OutcomeGrows, OutcomeOfNone}
 use Rattle.mp_merge.specs.Lists.{PairwiseCompatible}
 use Rattle.mp_merge.specs.Outcome.{IsOutcome}
 use Rattle.mp_merge.proofs.Application.ByName.{IsDocument-merge_patch}
@@ -38,7 +38,11 @@ one_more d patches e p good patch free outcome =
           ∙ before.kept w (λ q at. quiet q (Contains-append_left patches (p ∷ []) q at));
     })
 
-outcome_of_none : (d : Document) → IsOutcome d [] d
+pub outcome_grows : OutcomeGrows
+outcome_grows d patches e q start all good patch free outcome =
+    one_more d patches e q good patch (λ p at. free p q (Contains-append_left patches (q ∷ []) p at) (Contains-push patches q)) outcome
+
+pub outcome_of_none : OutcomeOfNone
 outcome_of_none d = record {
   set = λ p at. absurd (Contains-nil p at);
   entered = λ p at. absurd (Contains-nil p at);

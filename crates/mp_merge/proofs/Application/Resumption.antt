@@ -1,10 +1,10 @@
 -- Merging in place: what one name of an object comes to, and that a try that was refused can be made again.
-use Rattle.std.proofs.Common.{◌≡◌, inl, inr, ℕ, List, [], ◌∷◌, false, cond, Option, Some, None, IfSome, refl, sym, ap, ◌∙◌, subst}
+use Rattle.std.proofs.Common.{◌≡◌, inl, inr, ℕ, List, [], ◌∷◌, cond, Option, Some, None, IfSome, refl, sym, ap, ◌∙◌, subst}
 use Rattle.std.proofs.lemmas.List.Elements.{All-contains_itself, All-weaker}
 use Rattle.std.specs.List.{All, Contains}
-use Rattle.mp_tree.specs.Document.{Document, null, flag, whole, string, list, object, Members, member, is_name, find, put, IsDocument, IsMap, IsBelow}
+use Rattle.mp_tree.specs.Document.{Document, null, flag, whole, string, list, object, Members, member, find, put, IsDocument, IsMap}
 use Rattle.mp_tree.specs.Look.{Path, nothing, an_object, plain, look, look_of}
-use Rattle.mp_tree.proofs.Facts.{IsDocument-find, cases_same, find-below, find-put, is_name-self, members_same, find-here, Contains-twice, Contains-head, Contains-tail}
+use Rattle.mp_tree.proofs.Facts.{IsDocument-find, cases_same, find-put, is_name-self, members_same, find-here, Contains-twice, Contains-head, Contains-tail}
 use Rattle.mp_merge.specs.Application.{after_patch, set_or_remove, in_turn, merge_patch, merge_patch_members, target_members, unless_null}
 use Rattle.mp_merge.specs.Laws.{AppliedOnce, MergesIntoNull, TriesResume}
 use Rattle.mp_merge.specs.Lists.{HaveSameMembers}
@@ -13,6 +13,7 @@ use Rattle.mp_merge.specs.Private.Merging.{NeedsNoneAt, NeedsNoneIn, ResumesAt}
 use Rattle.mp_merge.specs.Resumption.{NeedsNoMemory}
 use Rattle.mp_merge.proofs.Application.ByName.{IsDocument-merge_patch, IsMap-merge_patch_members, find-set_or_remove, find-merge_patch_members, merge_patch_members-step}
 use Rattle.mp_merge.proofs.Clashes.ByName.{compatible-self}
+use Rattle.mp_merge.proofs.Collections.Members.{IsAmong, IsUntouched, left_is_other}
 use Rattle.mp_merge.proofs.Application.InTurn.{applied_in_turn}
 use Rattle.mp_merge.proofs.Outcome.{application_is_outcome, replicas_agree}
 
@@ -85,21 +86,6 @@ resumes_all ts us ps n p map now good carried resumes = members_same (merge_patc
         ∙ sym (find-merge_patch_members ts ps map good q)
 
 -- ---- the names that are left
-
--- what is left of the patch is some of it
-abbrev IsAmong : Members → Members → Type 0
-IsAmong left all = (q : List ℕ) (x : Document) → find q left ≡ Some x → find q all ≡ Some x
-
--- at the names that are left nothing has changed
-abbrev IsUntouched : Members → Members → Members → Type 0
-IsUntouched left before now = (q : List ℕ) (x : Document) → find q left ≡ Some x → find q now ≡ find q before
-
--- a name that is left after the first is another one
-left_is_other : (n q : List ℕ) (p x : Document) (left : Members) → IsBelow n left → find q left ≡ Some x → (is_name q n ≡ false) × (find q (member n p left) ≡ Some x)
-left_is_other n q p x left below found =
-    cases_same q n
-    (λ same. absurd (let none : find q left ≡ None = ap (λ k. find k left) same ∙ find-below n left below in let never = sym found ∙ none in cc))
-    (λ other. (other, ap (λ b. cond b (Some p) (find q left)) other ∙ found))
 
 -- the changes that are left, made to what there is now, give what all give, and so do all of them, made again
 pub record MergesOn (before all now left : Members) : Type 0 where

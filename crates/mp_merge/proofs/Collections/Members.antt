@@ -1,10 +1,10 @@
 -- The loop over the changes of a merge patch.
-use Rattle.std.proofs.Common.{◌≡◌, ℕ, List, [], ◌∷◌, length, String, Global, string_bytes, string_cmp, refl, sym, ap, ◌∙◌, subst, arith}
+use Rattle.std.proofs.Common.{◌≡◌, ℕ, List, [], ◌∷◌, length, false, cond, Some, None, String, Global, string_bytes, string_cmp, refl, sym, ap, ◌∙◌, subst, arith}
 use Rattle.std.specs.List.Sorted.{IsStrictlySortedBy}
 use Rattle.std.specs.Map.{keys_of}
-use Rattle.mp_tree.specs.Document.{Document, Members, no_members, member, IsDocument, IsMap}
+use Rattle.mp_tree.specs.Document.{Document, Members, no_members, member, is_name, find, IsDocument, IsMap, IsBelow}
 use Rattle.mp_tree.specs.View.{members_by}
-use Rattle.mp_tree.proofs.Facts.{IsMap-by, members-cons-by}
+use Rattle.mp_tree.proofs.Facts.{IsMap-by, members-cons-by, cases_same, find-below}
 
 -- the changes that a loop has left: their names ascend, and what `Holds` says holds of them
 pub record ChangesLeftBy {V : Type 0} (f : V → Document) (es : List (String Global × V)) (Holds : Members → Type 0) : Type 0 where
@@ -33,6 +33,23 @@ module _ {V : Type 0} (f : V → Document) (good : (v : V) → IsDocument (f v))
 -- at the end it holds of no members
 pub no_changes_by : {V : Type 0} (f : V → Document) {es : List (String Global × V)} {Holds : Members → Type 0} → ChangesLeftBy f es Holds → es ≡ [] → Holds no_members
 no_changes_by f {Holds = Holds} there none = subst (λ xs. Holds (members_by f xs)) none there.holds
+
+-- ---- the names that are left
+
+-- what is left of the patch is some of it
+abbrev pub IsAmong : Members → Members → Type 0
+IsAmong left all = (q : List ℕ) (x : Document) → find q left ≡ Some x → find q all ≡ Some x
+
+-- at the names that are left nothing has changed
+abbrev pub IsUntouched : Members → Members → Members → Type 0
+IsUntouched left before now = (q : List ℕ) (x : Document) → find q left ≡ Some x → find q now ≡ find q before
+
+-- a name that is left after the first is another one
+pub left_is_other : (n q : List ℕ) (p x : Document) (left : Members) → IsBelow n left → find q left ≡ Some x → (is_name q n ≡ false) × (find q (member n p left) ≡ Some x)
+left_is_other n q p x left below found =
+    cases_same q n
+    (λ same. absurd (let none : find q left ≡ None = ap (λ k. find k left) same ∙ find-below n left below in let never = sym found ∙ none in cc))
+    (λ other. (other, ap (λ b. cond b (Some p) (find q left)) other ∙ found))
 
 -- ---- a patch of one name
 

@@ -1,14 +1,14 @@
 -- The laws of join.
 use Rattle.std.proofs.Common.{◌≡◌, ◌≢◌, ◌≤◌, ◌⊎◌, inl, inr, ◌↔◌, ℕ, List, [], ◌∷◌, ◌++◌, refl, sym, ap, ◌∙◌, subst, arith}
-use Rattle.std.proofs.lemmas.List.Elements.{All-contains, All-contains_itself, All-head, All-tail, All-weaker, Contains-append_cases, Contains-append_left, Contains-append_right}
+use Rattle.std.proofs.lemmas.List.Elements.{All-contains, All-contains_itself, All-head, All-tail, All-weaker, Contains-append_cases, Contains-append_left, Contains-append_right, Contains-push, Contains-push_cases}
 use Rattle.std.specs.List.{All, Contains}
 use Rattle.mp_tree.specs.Document.{Document, IsDocument, depth}
 use Rattle.mp_tree.specs.Look.{Path, nothing, look}
 use Rattle.mp_tree.proofs.Facts.{equal_looks, is_here, speaks_or_silent, Contains-nil, Contains-head, Contains-tail, Contains-cases, Contains-one, nothing_or}
 use Rattle.mp_merge.specs.Clash.{Clash, Compatible}
 use Rattle.mp_merge.specs.Join.{IsJoin}
-use Rattle.mp_merge.specs.Laws.{ClashWithAJoin, ClashesWithAMember, JoinIsIdempotent, JoinIsCommutative, IsJoinFromLeft, IsJoinFromRight, JoinIsAssociative, JoinGrows, HasOneJoin, EmptyHasNoJoin, JoinExists, PairHasJoin, JoinIsNoDeeper}
-use Rattle.mp_merge.specs.Lists.{PairwiseCompatible, AreWithin}
+use Rattle.mp_merge.specs.Laws.{ClashWithAJoin, ClashesWithAMember, JoinIsIdempotent, JoinIsCommutative, IsJoinFromLeft, IsJoinFromRight, JoinIsAssociative, JoinGrows, JoinInParts, JoinOfSame, JoinAbsorbs, JoinTriesResume, HasOneJoin, EmptyHasNoJoin, JoinExists, PairHasJoin, JoinIsNoDeeper}
+use Rattle.mp_merge.specs.Lists.{PairwiseCompatible, AreWithin, HaveSameMembers}
 use Rattle.mp_merge.specs.Private.Unions.{union}
 use Rattle.mp_merge.proofs.Joins.Union.{IsDocument-union, depth-union, join-one, union_is_join, union_joins_first}
 
@@ -22,7 +22,7 @@ from_join patches j joined w has =
 
 -- ---- only membership counts
 
-pub join_of_same : (ps qs : List Document) (j : Document) → ((p : Document) → Contains ps p ↔ Contains qs p) → IsJoin ps j → IsJoin qs j
+pub join_of_same : JoinOfSame
 join_of_same ps qs j same joined = record {
   said = λ p at. joined.said p ((same p).1 at);
   silent = λ w none. joined.silent w (λ p at. none p ((same p).0 at));
@@ -58,6 +58,13 @@ one_join patches i j good other joined also = (equal_looks i j good other).1 (λ
 
 pub same_join : HasOneJoin
 same_join ps qs i j same good other joined also = one_join qs i j good other (join_of_same ps qs i same joined) also
+
+-- lists that have a join in common have the same joins
+pub same_joins : (ps qs : List Document) (j : Document) → IsDocument j → IsJoin ps j → IsJoin qs j → (i : Document) → IsDocument i → IsJoin ps i ↔ IsJoin qs i
+same_joins ps qs j good one two i other = (
+  λ joined. subst (IsJoin qs) (one_join ps j i good other one joined) two,
+  λ joined. subst (IsJoin ps) (one_join qs j i good other two joined) one,
+)
 
 pub empty_has_no_join : EmptyHasNoJoin
 empty_has_no_join j joined = is_here j (joined.silent [] (λ p at. absurd (Contains-nil p at)))
@@ -130,8 +137,8 @@ join_is_no_deeper (p ∷ patches) j n good all joined within =
 -- b is the join of the one list, and `all` has the patches of both: j is the join of `all` exactly if it is that of b and the rest
 module _ (patches rest all : List Document) (b : Document) (joined : IsJoin patches b)
     (cases : (p : Document) → Contains all p → Contains patches p ⊎ Contains rest p) (one : (p : Document) → Contains patches p → Contains all p) (two : (p : Document) → Contains rest p → Contains all p) where
-  pub join_in_parts : (j : Document) → IsJoin all j → IsJoin (b ∷ rest) j
-  join_in_parts j whole = record { said = said; silent = silent }
+  pub join_to_parts : (j : Document) → IsJoin all j → IsJoin (b ∷ rest) j
+  join_to_parts j whole = record { said = said; silent = silent }
     where
       said_by : (p : Document) → (b ≡ p) ⊎ Contains rest p → (w : Path) → look p w ≢ nothing → look j w ≡ look p w
       said_by p (inl is) w has =
@@ -150,8 +157,8 @@ module _ (patches rest all : List Document) (b : Document) (joined : IsJoin patc
       silent : (w : Path) → ((p : Document) → Contains (b ∷ rest) p → look p w ≡ nothing) → look j w ≡ nothing
       silent w none = whole.silent w (λ p at. silent_by w none p (cases p at))
 
-  pub join_of_parts : (j : Document) → IsJoin (b ∷ rest) j → IsJoin all j
-  join_of_parts j whole = record { said = said; silent = silent }
+  pub join_from_parts : (j : Document) → IsJoin (b ∷ rest) j → IsJoin all j
+  join_from_parts j whole = record { said = said; silent = silent }
     where
       said_by : (p : Document) → Contains patches p ⊎ Contains rest p → (w : Path) → look p w ≢ nothing → look j w ≡ look p w
       said_by p (inl at) w has =
@@ -170,10 +177,48 @@ module _ (patches rest all : List Document) (b : Document) (joined : IsJoin patc
       silent w none = whole.silent w (λ p at. silent_by w none p (Contains-cases b p rest at))
 
 pub join_grows : JoinGrows
-join_grows patches q kept j joined = (
-  join_in_parts patches (q ∷ []) (patches ++ q ∷ []) kept joined (λ p. Contains-append_cases patches (q ∷ []) p) (λ p. Contains-append_left patches (q ∷ []) p) (λ p. Contains-append_right patches (q ∷ []) p) j,
-  join_of_parts patches (q ∷ []) (patches ++ q ∷ []) kept joined (λ p. Contains-append_cases patches (q ∷ []) p) (λ p. Contains-append_left patches (q ∷ []) p) (λ p. Contains-append_right patches (q ∷ []) p) j,
+join_grows patches q kept j joined =
+    let cases = λ (p : Document). Contains-append_cases patches (q ∷ []) p in
+    let one = λ (p : Document). Contains-append_left patches (q ∷ []) p in
+    let two = λ (p : Document). Contains-append_right patches (q ∷ []) p in
+    (join_to_parts patches (q ∷ []) (patches ++ q ∷ []) kept joined cases one two j, join_from_parts patches (q ∷ []) (patches ++ q ∷ []) kept joined cases one two j)
+
+Contains-turn : {X : Type 0} (xs ys : List X) (x : X) → Contains (xs ++ ys) x → Contains ys x ⊎ Contains xs x
+Contains-turn xs ys x at = elim (Contains-append_cases xs ys x at) [ inl early ↦ inr early | inr late ↦ inl late ]
+
+pushed_first : (patches : List Document) (q : Document) → HaveSameMembers (patches ++ q ∷ []) (q ∷ patches)
+pushed_first patches q p = (
+  λ at. elim (Contains-push_cases patches q p at) [ inl early ↦ Contains-tail q p patches early | inr last ↦ subst (Contains (q ∷ patches)) last (Contains-head q patches) ],
+  λ at. elim (Contains-cases q p patches at) [ inl first ↦ subst (Contains (patches ++ q ∷ [])) first (Contains-push patches q) | inr rest ↦ Contains-append_left patches (q ∷ []) p rest ],
 )
+
+pub join_in_parts : JoinInParts
+join_in_parts patches others kept j joined =
+    let turned = λ (p : Document). Contains-turn patches others p in
+    let one = λ (p : Document). Contains-append_right patches others p in
+    let two = λ (p : Document). Contains-append_left patches others p in
+    let first = pushed_first patches kept in (
+      λ whole. join_of_same (kept ∷ patches) (patches ++ kept ∷ []) j (λ p. ((first p).1, (first p).0)) (join_to_parts others patches (patches ++ others) kept joined turned one two j whole),
+      λ parts. join_from_parts others patches (patches ++ others) kept joined turned one two j (join_of_same (patches ++ kept ∷ []) (kept ∷ patches) j first parts),
+    )
+
+-- ---- joining again
+
+pub join_absorbs : JoinAbsorbs
+join_absorbs p q j joined = record {
+  said = λ r at w has. elim (Contains-cases j r (q ∷ []) at) [
+    | inl is ↦ ap (λ d. look d w) is
+    | inr there ↦ joined.said r (Contains-tail p r (q ∷ []) there) w has
+  ];
+  silent = λ w none. none j (Contains-head j (q ∷ []));
+}
+
+pub join_tries_resume : JoinTriesResume
+join_tries_resume before p [] j good tries = (λ joined. joined, λ joined. joined)
+join_tries_resume before p (now ∷ rest) j good tries =
+    let here = tries.0.joins j good in
+    let later = join_tries_resume now p rest j good tries.1 in
+    (λ joined. here.0 (later.0 joined), λ joined. later.1 (here.1 joined))
 
 -- ---- joining is associative
 
@@ -183,7 +228,7 @@ module _ (p q r j : Document) (first : IsDocument p) (second : IsDocument q) (th
 
   from_left : IsJoinFromLeft p q r j → IsJoin three j
   from_left left =
-      join_of_parts (p ∷ q ∷ []) (r ∷ []) three left.both left.joined (λ x. Contains-append_cases (p ∷ q ∷ []) (r ∷ []) x)
+      join_from_parts (p ∷ q ∷ []) (r ∷ []) three left.both left.joined (λ x. Contains-append_cases (p ∷ q ∷ []) (r ∷ []) x)
       (λ x. Contains-append_left (p ∷ q ∷ []) (r ∷ []) x) (λ x. Contains-append_right (p ∷ q ∷ []) (r ∷ []) x) j left.whole
 
   -- the last two, and the first
@@ -192,7 +237,7 @@ module _ (p q r j : Document) (first : IsDocument p) (second : IsDocument q) (th
 
   from_right : IsJoinFromRight p q r j → IsJoin three j
   from_right right =
-      join_of_parts (q ∷ r ∷ []) (p ∷ []) three right.both right.joined last_cases
+      join_from_parts (q ∷ r ∷ []) (p ∷ []) three right.both right.joined last_cases
       (λ x. Contains-append_right (p ∷ []) (q ∷ r ∷ []) x) (λ x. Contains-append_left (p ∷ []) (q ∷ r ∷ []) x) j ((join_is_commutative p right.both j).0 right.whole)
 
   to_left : IsJoin three j → IsJoinFromLeft p q r j
@@ -203,7 +248,7 @@ module _ (p q r j : Document) (first : IsDocument p) (second : IsDocument q) (th
         both = union p q;
         good = IsDocument-union p q first second;
         joined = pair;
-        whole = join_in_parts (p ∷ q ∷ []) (r ∷ []) three (union p q) pair (λ x. Contains-append_cases (p ∷ q ∷ []) (r ∷ []) x)
+        whole = join_to_parts (p ∷ q ∷ []) (r ∷ []) three (union p q) pair (λ x. Contains-append_cases (p ∷ q ∷ []) (r ∷ []) x)
             (λ x. Contains-append_left (p ∷ q ∷ []) (r ∷ []) x) (λ x. Contains-append_right (p ∷ q ∷ []) (r ∷ []) x) j joined;
       }
 
@@ -211,7 +256,7 @@ module _ (p q r j : Document) (first : IsDocument p) (second : IsDocument q) (th
   to_right joined =
       let free = compatible_from_join three j joined q r (Contains-tail p q (q ∷ r ∷ []) (Contains-head q (r ∷ []))) (Contains-tail p r (q ∷ r ∷ []) (Contains-tail q r (r ∷ []) (Contains-head r []))) in
       let pair = union_is_join q r second third free in
-      let parts = join_in_parts (q ∷ r ∷ []) (p ∷ []) three (union q r) pair last_cases
+      let parts = join_to_parts (q ∷ r ∷ []) (p ∷ []) three (union q r) pair last_cases
       (λ x. Contains-append_right (p ∷ []) (q ∷ r ∷ []) x) (λ x. Contains-append_left (p ∷ []) (q ∷ r ∷ []) x) j joined in
       record {
         both = union q r;

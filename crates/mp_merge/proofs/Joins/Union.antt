@@ -1,5 +1,5 @@
 -- The computed union of two compatible patches is their join.
-use Rattle.std.proofs.Common.{◌≡◌, ◌≢◌, ◌≤◌, ◌⊎◌, ◌↔◌, inl, inr, ℕ, Bool, true, false, true≢false, List, [], ◌∷◌, ◌++◌, Option, Some, None, IfSome, max, refl, sym, ap, ◌∙◌, arith}
+use Rattle.std.proofs.Common.{◌≡◌, ◌≢◌, ◌≤◌, ◌⊎◌, ◌↔◌, inl, inr, ℕ, Bool, true, false, true≢false, List, [], ◌∷◌, ◌++◌, Option, Some, None, IfSome, max, refl, sym, ap, ◌∙◌, subst, arith}
 use Rattle.std.proofs.lemmas.List.Elements.{Contains-push, Contains-push_cases, Contains-append_left}
 use Rattle.std.specs.List.{Contains}
 use Rattle.mp_tree.specs.Document.{Document, null, flag, whole, string, list, object, Members, no_members, member, find, put, IsDocument, IsMap, depth, members_depth}
@@ -8,6 +8,7 @@ use Rattle.mp_tree.proofs.Facts.{find-put, find-below, IsMap-put, members_same, 
 use Rattle.mp_merge.specs.Application.{target_members, depth_of}
 use Rattle.mp_merge.specs.Clash.{Compatible}
 use Rattle.mp_merge.specs.Join.{IsJoin}
+use Rattle.mp_merge.specs.Laws.{JoinOfOne}
 use Rattle.mp_merge.specs.Private.Unions.{earlier_or, union_over, union_with, union_members, union, UnitesTo}
 use Rattle.mp_merge.proofs.Application.ByName.{IsMap-target_members}
 use Rattle.mp_merge.proofs.Application.Depth.{depth-find}
@@ -54,11 +55,11 @@ union_with-plain (object ps) j is = absurd (cc)
 union_with-plain p j is = refl
 
 -- what was joined before stays if the patch does not carry the name
-abbrev union_at : Option Document → Option Document → Option Document
+abbrev pub union_at : Option Document → Option Document → Option Document
 union_at None j = j
 union_at (Some p) j = Some (union_with p j)
 
-find-union_members : (q : List ℕ) (ps js : Members) → find q (union_members ps js) ≡ union_at (find q ps) (find q js)
+pub find-union_members : (q : List ℕ) (ps js : Members) → find q (union_members ps js) ≡ union_at (find q ps) (find q js)
 find-union_members q no_members js = refl
 find-union_members q (member n p ps) js =
     find-put q n (union_with p (find n js)) (union_members ps js)
@@ -169,7 +170,7 @@ union_joins_first patches p j joined free =
     (Contains-head p patches) (λ q. Contains-tail p q patches) joined free
 
 -- a patch alone is its own join
-pub join-one : (p : Document) → IsJoin (p ∷ []) p
+pub join-one : JoinOfOne
 join-one p = record {
   said = λ q at w has. ap (λ d. look d w) (Contains-one p q at);
   silent = λ w none. none p (Contains-head p []);
@@ -196,7 +197,16 @@ mutual
 pub depth-union : (p j : Document) → depth (union p j) ≤ max (depth p) (depth j)
 depth-union p j = depth-union_with p (Some j)
 
--- ---- what the walk reports if one of the two is not an object
+-- ---- what the walk reports
+
+-- if it united the two, their join is there now
+pub join_of_united : (p j now : Document) → IsDocument p → IsDocument j → UnitesTo true p (Some j) now → IsJoin (j ∷ p ∷ []) now
+join_of_united p j now good other is = subst (IsJoin (j ∷ p ∷ [])) (sym is.1) (union_grows_join (j ∷ []) p j good other (join-one j) is.0)
+
+pub depth_of_united : (p j now : Document) → UnitesTo true p (Some j) now → depth now ≤ max (depth j) (depth p)
+depth_of_united p j now is = subst (λ d. depth d ≤ max (depth j) (depth p)) (sym is.1) (omega (arith, depth-union p j))
+
+-- if one of the two is not an object
 
 pub unites_plain : (united : Bool) (p j : Document) → look_here p ≡ plain p → (united ≡ true) ↔ (p ≡ j) → UnitesTo united p (Some j) j
 unites_plain true p j plain_p same = (compatible-self p j (same.0 refl), sym (union_with-plain p j plain_p))

@@ -1,7 +1,8 @@
 -- What the walk that unites two patches computes, and what it reports. Only private clauses cite it.
-use Rattle.std.specs.Prelude.{◌≡◌, ℕ, Bool, true, false, List, Option, None, Some, IfSome}
+use Rattle.std.specs.Prelude.{◌≡◌, ◌≢◌, ℕ, Bool, true, false, List, Option, None, Some, IfSome}
 use Rattle.mp_tree.specs.Document.{Document, null, flag, whole, string, list, object, Members, no_members, member, find}
-use Rattle.mp_tree.specs.Document.{put}
+use Rattle.mp_tree.specs.Document.{put, is_name}
+use Rattle.mp_tree.specs.Look.{Path, nothing, look, look_of}
 use Rattle.mp_merge.specs.Application.{target_members}
 use Rattle.mp_merge.specs.Clash.{Compatible}
 
@@ -46,3 +47,19 @@ UnitesTo false p j now = ¬ IfSome j (Compatible p)
 -- the same at the name n, and every other name is as it was
 abbrev pub UnitesAt : Bool → List ℕ → Document → Members → Members → Type 0
 UnitesAt united n p js now = (d : Document) × UnitesTo united p (find n js) d × (now ≡ put n d js)
+
+-- ---- what the walk leaves if memory ran out, and when it takes none
+
+-- if the patch was compatible with what was joined before, it is with what is there now, and their unions are the same;
+-- each of the two may be absent
+abbrev pub Reunites : Document → Option Document → Option Document → Type 0
+Reunites p before now = IfSome before (Compatible p) → IfSome now (Compatible p) × (union_with p now ≡ union_with p before)
+
+-- the same at the name n, and every other name is as it was
+pub record ReunitesAt (n : List ℕ) (p : Document) (before now : Members) : Type 0 where
+  pub others : (m : List ℕ) → is_name m n ≡ false → find m now ≡ find m before
+  pub here : Reunites p (find n before) (find n now)
+
+-- the patch has something at no path at which what was joined before, which may be absent, has nothing
+abbrev pub AddsNothingAt : Option Document → Document → Type 0
+AddsNothingAt before p = (w : Path) → look p w ≢ nothing → look_of before w ≢ nothing

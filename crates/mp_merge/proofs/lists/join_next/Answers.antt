@@ -18,7 +18,7 @@ returns-then-branch g c =
     let within : k < length patches = omega (arith, length-map c.args.patches.now f, c.requires.within) in
     let at : slice_get patches k ≡ Some (f d) = at_number f c.args.patches.now k d c.requires.within c.index-patches-second.is in
     let now = f c.unite.new.joined in
-    let united : UnitesTo true (f d) (Some j) now = subst (λ b. UnitesTo b (f d) (Some j) now) c.if-branch.true c.in_ok-unite.ensures in
+    let united : UnitesTo true (f d) (Some j) now = subst (λ b. UnitesTo b (f d) (Some j) now) c.if-branch.true c.in_ok-unite.ensures.united in
     subst (λ x. IsJoin (take (k + 1) patches) x) (sym united.1) (joined_more patches k (f d) j within at (c.requires.documents d) (c.requires.documents c.args.joined) c.requires.joined united.0)
 
 pub unreachable-requires : goal.unreachable-requires
@@ -31,7 +31,7 @@ unreachable-requires g c =
     let within : k < length patches = omega (arith, length-map c.args.patches.now f, c.requires.within) in
     let at : slice_get patches k ≡ Some (f d) = at_number f c.args.patches.now k d c.requires.within c.index-patches-second.is in
     let now = f c.unite.new.joined in
-    let clash : UnitesTo false (f d) (Some j) now = subst (λ b. UnitesTo b (f d) (Some j) now) c.if-branch.false c.in_ok-unite.ensures in
+    let clash : UnitesTo false (f d) (Some j) now = subst (λ b. UnitesTo b (f d) (Some j) now) c.if-branch.false c.in_ok-unite.ensures.united in
     let free : IsFreeBelow patches k = subst (λ (o : Option (ℕ × Vec Path Global)). MatchOption o (IsFreeBelow patches k) (λ found. IsClashBelow patches found.0 k found.1.items)) c.in_default.is c.in_ok-first.ensures in
     clash (free_of_join patches k j (f d) within at c.requires.joined free)
 
