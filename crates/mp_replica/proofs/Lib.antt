@@ -1,0 +1,5 @@
+pub mod Following
+pub mod Growing
+pub mod Keeping
+pub mod Taking
+pub mod TextRuns

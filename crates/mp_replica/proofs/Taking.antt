@@ -1,0 +1,235 @@
+-- What has taken a list of patches takes more.
+use Rattle.std.proofs.Common.{◌≡◌, ◌≢◌, ◌↔◌, ◌⊎◌, inl, inr, List, [], ◌∷◌, ◌++◌, Option, None, Some, IfSome, MatchOption, option_map, refl, sym, ap, ◌∙◌, subst}
+use Rattle.std.specs.List.{All, Contains}
+use Rattle.std.proofs.lemmas.List.{append-nil}
+use Rattle.std.proofs.lemmas.List.Elements.{All-append, All-contains, All-contains_itself, All-push, All-weaker, Contains-append_left, Contains-append_right, Contains-push}
+use Rattle.mp_tree.specs.Document.{Document, IsDocument}
+use Rattle.mp_tree.specs.Look.{Path}
+use Rattle.mp_tree.specs.View.{document}
+use Rattle.mp_tree.specs.declared.doc.Doc.{Doc}
+use Rattle.mp_tree.proofs.Facts.{Contains-head, Contains-nil, IsDocument-document}
+use Rattle.mp_merge.specs.Clash.{AreAllClashes, Clash, Compatible}
+use Rattle.mp_merge.specs.Join.{IsJoin}
+use Rattle.mp_merge.specs.Lists.{HaveSameMembers, PairwiseCompatible}
+use Rattle.mp_replica.specs.Held.{AreClashesAmong, AreClashesBetween, AreClashesWith, HasJoined, HeldPatches, IsJoinOf}
+use Rattle.mp_replica.specs.Laws.{HoldsJoin, TakenSame, TakersAgree}
+use Rattle.mp_replica.specs.Private.LawsBelow.{MergeLaws}
+use Rattle.mp_replica.specs.Private.Steps.{ClashesWithAll, ClashesWithJoin, SameJoins}
+use Rattle.mp_replica.specs.Taking.{HasTaken, HoldsConflict, TakesAll, TakesOne}
+use Rattle.mp_replica.specs.declared.patches.Added.{Added}
+use Rattle.mp_replica.specs.declared.patches.Added.TheVariants.{Joined, Conflict, Pending, Refused}
+use Rattle.mp_replica.proofs.Growing.{clashes_of_join, documents, join_of, joined_none, joined_on, joined_same, one_join_of, same_back}
+
+-- what is held if no two conflict
+pub free_taken : (r : HeldPatches) (taken : List Document) → r.places ≡ None → HasJoined (option_map document r.joined) (option_map document r.pending) taken → HasTaken r taken
+free_taken r taken none has = record {
+  are_documents = has.are_documents;
+  held = subst (λ o. MatchOption o (HasJoined (option_map document r.joined) (option_map document r.pending) taken) (HoldsConflict r taken)) (sym none) has;
+}
+
+pub if_free : (r : HeldPatches) (taken : List Document) → r.places ≡ None → HasTaken r taken → HasJoined (option_map document r.joined) (option_map document r.pending) taken
+if_free r taken none has = subst (λ o. MatchOption o (HasJoined (option_map document r.joined) (option_map document r.pending) taken) (HoldsConflict r taken)) none has.held
+
+-- what is held if two conflict
+pub conflict_taken : (r : HeldPatches) (taken : List Document) (places : List Path) → r.places ≡ Some places → r.joined ≡ None → r.pending ≡ None → All IsDocument taken → AreClashesAmong taken places → HasTaken r taken
+conflict_taken r taken places some no_join none_pending all clashes = record {
+  are_documents = all;
+  held = subst (λ o. MatchOption o (HasJoined (option_map document r.joined) (option_map document r.pending) taken) (HoldsConflict r taken)) (sym some)
+      (record { clashes = clashes; no_join = no_join; none_pending = none_pending });
+}
+
+pub if_conflict : (r : HeldPatches) (taken : List Document) (places : List Path) → r.places ≡ Some places → HasTaken r taken → HoldsConflict r taken places
+if_conflict r taken places some has = subst (λ o. MatchOption o (HasJoined (option_map document r.joined) (option_map document r.pending) taken) (HoldsConflict r taken)) some has.held
+
+-- ---- a conflict stays one
+
+more_clashes : (ds es : List Document) (places : List Path) → ((p : Document) → Contains ds p → Contains es p) → AreClashesAmong ds places → AreClashesAmong es places
+more_clashes ds es places within clashes = record {
+  some = clashes.some;
+  rising = clashes.rising;
+  each = λ w at. let pair = clashes.each w at in (pair.0, pair.1, within pair.0 pair.2, within pair.1 pair.3, pair.4);
+}
+
+never_compatible : (taken : List Document) (places : List Path) → AreClashesAmong taken places → ¬ PairwiseCompatible taken
+never_compatible taken [] clashes free = clashes.some refl
+never_compatible taken (w ∷ places) clashes free = let pair = clashes.each w (Contains-head w places) in free pair.0 pair.1 pair.2 pair.3 w pair.4
+
+either : (o : Option (List Path)) → (o ≡ None) ⊎ ((places : List Path) × (o ≡ Some places))
+either None = inl refl
+either (Some places) = inr (places, refl)
+
+-- what holds a conflict of some patches holds one of these and more, and so does what takes it over
+pub conflict_moved : (o s : HeldPatches) (taken more : List Document) → o.places ≢ None → s.places ≡ o.places → s.joined ≡ None → s.pending ≡ None → All IsDocument more → ((p : Document) → Contains taken p → Contains more p)
+    → HasTaken o taken → HasTaken s more
+conflict_moved o s taken more some same no_join none_pending all within has = elim (either o.places) [
+  | inl none ↦ absurd (some none)
+  | inr there ↦ conflict_taken s more there.0 (same ∙ there.1) no_join none_pending all (more_clashes taken more there.0 within (if_conflict o taken there.0 there.1 has).clashes)
+]
+
+pub conflict_stays : (r : HeldPatches) (taken more : List Document) → r.places ≢ None → All IsDocument more → ((p : Document) → Contains taken p → Contains more p) → HasTaken r taken → HasTaken r more
+conflict_stays r taken more some all within has = elim (either r.places) [
+  | inl none ↦ absurd (some none)
+  | inr there ↦ let held = if_conflict r taken there.0 there.1 has in conflict_moved r r taken more some refl held.no_join held.none_pending all within has
+]
+
+pub conflict_takes : (r : HeldPatches) (taken : List Document) (p : Doc) → r.places ≢ None → HasTaken r taken → HasTaken r (taken ++ document p ∷ [])
+conflict_takes r taken p some has =
+    conflict_stays r taken (taken ++ document p ∷ []) some (All-push IsDocument taken (document p) has.are_documents (IsDocument-document p)) (Contains-append_left taken (document p ∷ [])) has
+
+pub conflict_takes_all : (r o : HeldPatches) (taken others : List Document) → r.places ≢ None → HasTaken r taken → HasTaken o others → HasTaken r (taken ++ others)
+conflict_takes_all r o taken others some has have = conflict_stays r taken (taken ++ others) some (All-append IsDocument taken others has.are_documents have.are_documents) (Contains-append_left taken others) has
+
+pub takes_conflict_over : (r o s : HeldPatches) (taken others : List Document) → o.places ≢ None → s.places ≡ o.places → s.joined ≡ None → s.pending ≡ None → HasTaken r taken → HasTaken o others → HasTaken s (taken ++ others)
+takes_conflict_over r o s taken others some same no_join none_pending has have =
+    conflict_moved o s others (taken ++ others) some same no_join none_pending (All-append IsDocument taken others has.are_documents have.are_documents) (Contains-append_right taken others) have
+
+turned : {p q : Document} {w : Path} → Clash p q w → Clash q p w
+turned clash = record { first = clash.second; second = clash.first; differ = λ same. clash.differ (sym same) }
+
+some_places : (p k : Document) (places : List Path) → (¬ Compatible p k) → AreAllClashes p k places → places ≢ []
+some_places p k [] clash all none = clash (λ w at. Contains-nil w ((all.all w).1 at))
+some_places p k (w ∷ places) clash all none = let differ = none in cc
+
+module _ (laws : MergeLaws) where
+  pub none_taken : (r : HeldPatches) → r.joined ≡ None → r.pending ≡ None → r.places ≡ None → HasTaken r []
+  none_taken r no_join none_pending none = free_taken r [] none (rw (no_join, none_pending) (joined_none laws))
+
+  -- what is joined if nothing is pending
+  pub joins_taken : (r : HeldPatches) (taken : List Document) → r.places ≡ None → r.pending ≡ None → HasTaken r taken → HasJoined (option_map document r.joined) None taken
+  joins_taken r taken none settled has = subst (λ o. HasJoined (option_map document r.joined) (option_map document o) taken) settled (if_free r taken none has)
+
+  join_taken : (r : HeldPatches) (taken : List Document) → r.places ≡ None → r.pending ≡ None → HasTaken r taken → IsJoinOf taken (option_map document r.joined)
+  join_taken r taken none settled has = join_of laws taken (option_map document r.joined) (documents r.joined) (joins_taken r taken none settled has)
+
+  -- ---- one more patch
+
+  pub takes_on : (taken : List Document) (r s : HeldPatches) (p : Doc) → r.places ≡ None → r.pending ≡ None → IfSome (option_map document r.joined) (Compatible (document p)) → s.joined ≡ r.joined → s.pending ≡ Some p
+      → s.places ≡ None → HasTaken r taken → HasTaken s (taken ++ document p ∷ [])
+  takes_on taken r s p none settled fits same pending still has =
+      let stays : SameJoins (option_map document r.joined) (Some (document p)) (option_map document s.joined) (option_map document s.pending) = λ j is. rw (same, pending) (λ at. at, λ at. at) in
+      free_taken s (taken ++ document p ∷ []) still (joined_on laws taken (option_map document r.joined) (document p) (IsDocument-document p) (documents r.joined) (joins_taken r taken none settled has) fits stays)
+
+  -- what clashes with the join of some patches clashes with these
+  clashes_with_each : (ds : List Document) (m : Option Document) (p : Document) (places : List Path) → IsJoinOf ds m → ClashesWithJoin m p places → (places ≢ []) × AreClashesWith ds p places
+  clashes_with_each ds None p places joined clash = absurd clash
+  clashes_with_each ds (Some k) p places joined clash = (some_places p k places clash.0 clash.1, clashes_of_join laws ds k p places joined clash.1)
+
+  pub takes_conflict : (taken : List Document) (r s : HeldPatches) (p : Doc) (places : List Path) → r.places ≡ None → r.pending ≡ None → ClashesWithJoin (option_map document r.joined) (document p) places
+      → s.places ≡ Some places → s.joined ≡ None → s.pending ≡ None → HasTaken r taken → HasTaken s (taken ++ document p ∷ []) × AreClashesWith taken (document p) places
+  takes_conflict taken r s p places none settled clash some no_join none_pending has =
+      let all = clashes_with_each taken (option_map document r.joined) (document p) places (join_taken r taken none settled has) clash in (
+        conflict_taken s (taken ++ document p ∷ []) places some no_join none_pending (All-push IsDocument taken (document p) has.are_documents (IsDocument-document p)) (record {
+          some = all.0;
+          rising = all.1.rising;
+          each = λ w at.
+              let pair = (all.1.all w).0 at in
+              (document p, pair.0, Contains-push taken (document p), Contains-append_left taken (document p ∷ []) pair.0 pair.1, pair.2);
+        }),
+        all.1,
+      )
+
+  -- ---- all that another took
+
+  -- joining the join of others is joining them all
+  pub takes_others : (taken others : List Document) (o s : HeldPatches) (p : Document) → o.places ≡ None → o.pending ≡ None → option_map document o.joined ≡ Some p → s.places ≡ None → HasTaken o others → HasTaken s (taken ++ p ∷ [])
+      → All IsDocument taken → HasTaken s (taken ++ others)
+  takes_others taken others o s p none settled is still have has documents_taken =
+      let joined : IsJoin others p = subst (IsJoinOf others) is (join_taken o others none settled have) in
+      let one = if_free s (taken ++ p ∷ []) still has in
+      let found = (laws.join_exists (taken ++ p ∷ []) (λ empty. Contains-nil p (subst (λ (l : List Document). Contains l p) empty (Contains-push taken p))) one.are_documents).1 one.compatible in
+      free_taken s (taken ++ others) still (record {
+        are_documents = All-append IsDocument taken others documents_taken have.are_documents;
+        compatible = compatible_if_joined (taken ++ others) found.0 ((laws.join_in_parts taken others p found.0 joined).1 found.2);
+        joins = λ j is_document. (
+          λ here. (laws.join_in_parts taken others p j joined).1 ((one.joins j is_document).0 here),
+          λ there. (one.joins j is_document).1 ((laws.join_in_parts taken others p j joined).0 there),
+        );
+      })
+    where
+      compatible_if_joined : (ds : List Document) (j : Document) → IsJoin ds j → PairwiseCompatible ds
+      compatible_if_joined ds j joined x y one two w clash = clash.differ (sym (joined.said x one w clash.first) ∙ joined.said y two w clash.second)
+
+  pub takes_none : (taken others : List Document) (o s : HeldPatches) → o.places ≡ None → o.pending ≡ None → o.joined ≡ None → HasTaken o others → HasTaken s taken → HasTaken s (taken ++ others)
+  takes_none taken others o s none settled empty have has =
+      let no_others : others ≡ [] = subst (λ m. IsJoinOf others (option_map document m)) empty (join_taken o others none settled have) in
+      subst (HasTaken s) (sym (ap (λ l. taken ++ l) no_others ∙ append-nil taken)) has
+
+  -- what clashes with the join of others clashes with one of these, and the other way round
+  clashes_between : (taken others : List Document) (here there : Option Document) (places : List Path) → IsJoinOf taken here → IsJoinOf others there → ClashesWithAll here there places → AreClashesBetween taken others places
+  clashes_between taken others here None places first second clash = absurd clash
+  clashes_between taken others here (Some k) places first second clash =
+      let each = (clashes_with_each taken here k places first clash).1 in
+      record {
+        rising = each.rising;
+        all = λ w. (
+          λ at. let one = (each.all w).0 at in (one.0, one.1, (laws.clash_with_a_join others k one.0 w second).0 (turned one.2)),
+          λ some. (each.all w).1 (some.0, some.1, turned ((laws.clash_with_a_join others k some.0 w second).1 some.2)),
+        );
+      }
+
+  pub seen_between : (taken others : List Document) (r o : HeldPatches) (places : List Path) → r.places ≡ None → r.pending ≡ None → o.places ≡ None → o.pending ≡ None
+      → ClashesWithAll (option_map document r.joined) (option_map document o.joined) places → HasTaken r taken → HasTaken o others → AreClashesBetween taken others places
+  seen_between taken others r o places none settled none_there settled_there clash has have =
+      clashes_between taken others (option_map document r.joined) (option_map document o.joined) places (join_taken r taken none settled has) (join_taken o others none_there settled_there have) clash
+
+  pub takes_others_conflict : (taken others : List Document) (r o s : HeldPatches) (places : List Path) → r.places ≡ None → r.pending ≡ None → o.places ≡ None → o.pending ≡ None
+      → ClashesWithAll (option_map document r.joined) (option_map document o.joined) places → s.places ≡ Some places → s.joined ≡ None → s.pending ≡ None → HasTaken r taken → HasTaken o others → HasTaken s (taken ++ others)
+  takes_others_conflict taken others r o s places none settled none_there settled_there clash some no_join none_pending has have =
+      by (option_map document o.joined) (join_taken o others none_there settled_there have) clash
+    where
+      by : (m : Option Document) → IsJoinOf others m → ClashesWithAll (option_map document r.joined) m places → HasTaken s (taken ++ others)
+      by None joined clash = absurd clash
+      by (Some k) joined clash =
+          let all = clashes_with_each taken (option_map document r.joined) k places (join_taken r taken none settled has) clash in
+          conflict_taken s (taken ++ others) places some no_join none_pending (All-append IsDocument taken others has.are_documents have.are_documents) (record {
+            some = all.0;
+            rising = all.1.rising;
+            each = λ w at.
+                let one = (all.1.all w).0 at in
+                let two = (laws.clash_with_a_join others k one.0 w joined).0 (turned one.2) in
+                (one.0, two.0, Contains-append_left taken others one.0 one.1, Contains-append_right taken others two.0 two.1, two.2);
+          })
+
+  -- what was taken by one patch, the join of what another took, was taken of that other
+  pub takes_all_of_one : (what : Added) (taken others : List Document) (o s t : HeldPatches) (p : Document) → (what ≡ Joined) ⊎ (what ≡ Pending) → o.places ≡ None → o.pending ≡ None → option_map document o.joined ≡ Some p → s.places ≡ None
+      → HasTaken o others → All IsDocument taken → HasTaken t [] → TakesOne HasTaken what taken p s → TakesAll HasTaken what taken others s t
+  takes_all_of_one Joined taken others o s t p which none settled is still have all left one = (takes_others taken others o s p none settled is still have one.0 all, left, one.1, one.2)
+  takes_all_of_one Pending taken others o s t p which none settled is still have all left one = (takes_others taken others o s p none settled is still have one.0 all, left, one.1, one.2)
+  takes_all_of_one Conflict taken others o s t p which none settled is still have all left one = absurd (one.1 still)
+  takes_all_of_one Refused taken others o s t p which none settled is still have all left one = elim which [ inl differ ↦ cc | inr differ ↦ cc ]
+
+  -- ---- laws
+
+  free_exactly : (taken : List Document) (r : HeldPatches) → HasTaken r taken → (r.places ≡ None) ↔ PairwiseCompatible taken
+  free_exactly taken r has = (
+    λ none. (if_free r taken none has).compatible,
+    λ free. elim (either r.places) [
+      | inl none ↦ none
+      | inr some ↦ absurd (never_compatible taken some.0 (if_conflict r taken some.0 some.1 has).clashes free)
+    ],
+  )
+
+  pub holds_join : HoldsJoin
+  holds_join taken r has = (free_exactly taken r has, λ none settled. join_taken r taken none settled has)
+
+  all_same : (taken others : List Document) → HaveSameMembers taken others → All IsDocument taken → All IsDocument others
+  all_same taken others same all = All-weaker (Contains others) IsDocument (λ p at. All-contains IsDocument taken p all ((same p).1 at)) others (All-contains_itself others)
+
+  pub taken_same : TakenSame
+  taken_same taken others r same has = elim (either r.places) [
+    | inl none ↦ free_taken r others none (joined_same laws taken others same (if_free r taken none has))
+    | inr some ↦
+        let held = if_conflict r taken some.0 some.1 has in
+        conflict_taken r others some.0 some.1 held.no_join held.none_pending (all_same taken others same has.are_documents) (more_clashes taken others some.0 (λ p. (same p).0) held.clashes)
+  ]
+
+  pub takers_agree : TakersAgree
+  takers_agree taken others r s same one two =
+      let also : HasTaken s taken = taken_same others taken s (same_back taken others same) two in
+      let first = free_exactly taken r one in
+      let second = free_exactly taken s also in (
+        (λ none. second.1 (first.0 none), λ none. first.1 (second.0 none)),
+        λ none settled settled_there.
+            one_join_of laws taken (option_map document r.joined) (option_map document s.joined) (documents r.joined) (documents s.joined) (join_taken r taken none settled one)
+            (join_taken s taken (second.1 (first.0 none)) settled_there also),
+      )

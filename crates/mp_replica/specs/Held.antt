@@ -1,0 +1,62 @@
+-- What stays in memory, and what it says of the patches that were received.
+use Rattle.std.specs.Prelude.{◌≡◌, ◌≢◌, ◌↔◌, List, [], ◌∷◌, Option, None, Some}
+use Rattle.std.specs.List.{All, Contains}
+use Rattle.std.specs.List.Sorted.{IsStrictlySortedBy}
+use Rattle.mp_tree.specs.Document.{Document, IsDocument}
+use Rattle.mp_tree.specs.Look.{Path}
+use Rattle.mp_tree.specs.declared.doc.Doc.{Doc}
+use Rattle.mp_merge.specs.Clash.{Clash, path_cmp}
+use Rattle.mp_merge.specs.Join.{IsJoin}
+use Rattle.mp_merge.specs.Laws.{ClashesWithAMember}
+use Rattle.mp_merge.specs.Lists.{PairwiseCompatible}
+
+-- what a replica holds: what it shows, the join of what it received, and a patch that is received and not shown yet
+pub record HeldReplica : Type 0 where
+  pub shown : Doc
+  pub joined : Option Doc
+  pub pending : Option Doc
+
+-- what is held of patches without a start: their join, and a patch that is taken and not joined yet; or places of a conflict
+pub record HeldPatches : Type 0 where
+  pub joined : Option Doc
+  pub pending : Option Doc
+  pub places : Option (List Path)
+
+-- ---- what was received
+
+-- j is the join of what is joined and of what is pending
+abbrev pub Joins : Option Document → Option Document → Document → Type 0
+Joins joined None j = joined ≡ Some j
+Joins None (Some p) j = IsJoin (p ∷ []) j
+Joins (Some before) (Some p) j = IsJoin (before ∷ p ∷ []) j
+
+-- these patches were received, in any order and with any repeats: no two of them clash, and the join that is held is
+-- theirs (of no patch there is none)
+pub record HasJoined (joined pending : Option Document) (received : List Document) : Type 0 where
+  pub are_documents : All IsDocument received
+  pub compatible : PairwiseCompatible received
+  pub joins : (j : Document) → IsDocument j → Joins joined pending j ↔ IsJoin received j
+
+-- the join of the patches; none of no patch
+abbrev pub IsJoinOf : List Document → Option Document → Type 0
+IsJoinOf received None = received ≡ []
+IsJoinOf received (Some j) = IsJoin received j
+
+-- ---- conflicts
+
+-- each place, once and in order, at which the patch clashes with one of those that were received
+pub record AreClashesWith (received : List Document) (patch : Document) (places : List Path) : Type 0 where
+  pub rising : IsStrictlySortedBy path_cmp places
+  pub all : (w : Path) → Contains places w ↔ ClashesWithAMember received patch w
+
+-- each place, once and in order, at which one of these patches clashes with one of the others
+pub record AreClashesBetween (taken others : List Document) (places : List Path) : Type 0 where
+  pub rising : IsStrictlySortedBy path_cmp places
+  pub all : (w : Path) → Contains places w ↔ ((p : Document) × Contains taken p × ClashesWithAMember others p w)
+
+-- some places, each once and in order, and two of the patches clash at each
+pub record AreClashesAmong (received : List Document) (places : List Path) : Type 0 where
+  pub some : places ≢ []
+  pub rising : IsStrictlySortedBy path_cmp places
+  pub each : (w : Path) → Contains places w
+      → (p : Document) × (q : Document) × Contains received p × Contains received q × Clash p q w

@@ -1,0 +1,56 @@
+-- Laws over runs of calls. Each is the contract of a function of the module `laws` that runs nothing.
+use Rattle.std.specs.Prelude.{◌≡◌, ◌↔◌, List, None, option_map}
+use Rattle.std.specs.List.{All}
+use Rattle.mp_tree.specs.Document.{Document, IsReadable}
+use Rattle.mp_tree.specs.View.{document}
+use Rattle.mp_merge.specs.Lists.{HaveSameMembers, PairwiseCompatible}
+use Rattle.mp_merge.specs.Outcome.{IsOutcome}
+use Rattle.mp_replica.specs.Following.{Follows}
+use Rattle.mp_replica.specs.Held.{HeldPatches, HeldReplica, IsJoinOf}
+use Rattle.mp_replica.specs.Taking.{HasTaken}
+
+-- ---- replicas
+
+-- what is shown is the outcome of the start and of what was received, and what is joined is its join
+abbrev pub ShowsOutcome : Type 0
+ShowsOutcome = (start : Document) (received : List Document) (r : HeldReplica) → Follows start received r
+    → r.pending ≡ None
+    → IsOutcome start received (document r.shown) × IsJoinOf received (option_map document r.joined)
+
+-- neither order nor repetition counts
+abbrev pub FollowsSame : Type 0
+FollowsSame = (start : Document) (received others : List Document) (r : HeldReplica)
+    → HaveSameMembers received others → Follows start received r → Follows start others r
+
+-- two replicas of one start that received the same patches show the same document, and have the same join
+abbrev pub FollowersAgree : Type 0
+FollowersAgree = (start : Document) (received others : List Document) (r s : HeldReplica)
+    → HaveSameMembers received others → Follows start received r → Follows start others s → r.pending ≡ None
+    → s.pending ≡ None
+    → (document r.shown ≡ document s.shown) × (option_map document r.joined ≡ option_map document s.joined)
+
+-- what is shown can be read if the start and the patches can
+abbrev pub ShowsReadable : Type 0
+ShowsReadable = (start : Document) (received : List Document) (r : HeldReplica) → Follows start received r
+    → r.pending ≡ None → IsReadable start → All IsReadable received → IsReadable (document r.shown)
+
+-- ---- patches without a start
+
+-- if no two patches conflict, what is held is their join; else it is places at which two of them clash
+abbrev pub HoldsJoin : Type 0
+HoldsJoin = (taken : List Document) (r : HeldPatches) → HasTaken r taken
+    → ((r.places ≡ None) ↔ PairwiseCompatible taken)
+    × (r.places ≡ None → r.pending ≡ None → IsJoinOf taken (option_map document r.joined))
+
+-- neither order nor repetition counts
+abbrev pub TakenSame : Type 0
+TakenSame = (taken others : List Document) (r : HeldPatches) → HaveSameMembers taken others → HasTaken r taken
+    → HasTaken r others
+
+-- two that took the same patches, in whatever order and groups, hold the same join, or both a conflict
+abbrev pub TakersAgree : Type 0
+TakersAgree = (taken others : List Document) (r s : HeldPatches) → HaveSameMembers taken others → HasTaken r taken
+    → HasTaken s others
+    → ((r.places ≡ None) ↔ (s.places ≡ None))
+    × (r.places ≡ None → r.pending ≡ None → s.pending ≡ None
+    → option_map document r.joined ≡ option_map document s.joined)

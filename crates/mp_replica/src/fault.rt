@@ -1,0 +1,70 @@
+//! Why a call over texts of what stays in memory gives no answer.
+ghost use Rattle.std.specs.Prelude.{◌≡◌};
+
+use mp_pointer::PointerFault;
+use mp_tree::ReadFault;
+use std::alloc::{AllocError, AllocFailed};
+use thiserror::Error;
+
+/// Why there is no answer. If several hold, the first in the order of the call that answers it is reported: each call says
+/// which it looks for, and in which order.
+#[derive(Debug, Drop, Error)]
+pub enum LiveFault {
+    /// The text of the start, or of the patch, is not a document.
+    #[error("document: {0}")]
+    Document(ReadFault),
+    /// The text of the pointer spells no pointer.
+    #[error("{0}")]
+    Pointer(PointerFault),
+    /// What is shown has no part there.
+    #[error("missing")]
+    Missing,
+    /// Nothing was received or taken.
+    #[error("no patches")]
+    NoPatches,
+    /// Two of the patches that were taken conflict.
+    #[error("conflict")]
+    Conflict,
+    /// A patch was received for which memory ran out: it is not shown, or not joined, yet.
+    #[error("pending")]
+    Pending,
+    /// The text is not the kept form of patches.
+    #[error("not kept patches")]
+    NotKept,
+    /// Memory ran out.
+    #[error("out of memory")]
+    OutOfMemory,
+}
+
+impl From<PointerFault> for LiveFault {
+    ghost use Rattle.mp_replica.specs.Faults.{live_fault_of_pointer};
+
+    ghost from_gives = { λ cause fault. fault ≡ live_fault_of_pointer cause };
+
+    fn from(cause: PointerFault) -> LiveFault {
+        match cause {
+            PointerFault::OutOfMemory => LiveFault::OutOfMemory,
+            refusal => LiveFault::Pointer(refusal),
+        }
+    }
+}
+
+impl From<AllocError> for LiveFault {
+    ghost use Rattle.mp_replica.specs.declared.fault.LiveFault.TheVariants.{OutOfMemory};
+
+    ghost from_gives = { λ _ fault. fault ≡ OutOfMemory };
+
+    fn from(_refused: AllocError) -> LiveFault {
+        LiveFault::OutOfMemory
+    }
+}
+
+impl<T: Drop> From<AllocFailed<T>> for LiveFault {
+    ghost use Rattle.mp_replica.specs.declared.fault.LiveFault.TheVariants.{OutOfMemory};
+
+    ghost from_gives = { λ _ fault. fault ≡ OutOfMemory };
+
+    fn from(_refused: AllocFailed<T>) -> LiveFault {
+        LiveFault::OutOfMemory
+    }
+}

@@ -1,0 +1,127 @@
+//! The kept form of patches that are gathered without a start: one text, for a state that is stored or sent.
+ghost use Rattle.std.specs.Prelude.{◌≡◌, ◌∷◌, List, map, Ok, IfOk, IfErr, MatchResult, string_bytes};
+ghost use Rattle.std.specs.List.{All};
+ghost use Rattle.mp_tree.specs.Document.{Document, IsReadable};
+ghost use Rattle.mp_tree.specs.View.{document};
+ghost use Rattle.mp_texts.specs.Answers.{place_of};
+ghost use Rattle.mp_replica.specs.Held.{HeldPatches};
+ghost use Rattle.mp_replica.specs.Kept.{IsHeldBy, IsKept, IsNoKept, IsNotKeptYet, mark};
+ghost use Rattle.mp_replica.specs.Private.Places.{AreNotPlaces, AreRead, AreUnread, IsNoPlace};
+ghost use Rattle.mp_replica.specs.Taking.{HasTaken};
+
+use crate::fault::LiveFault;
+use crate::laws::text_laws;
+use crate::patches::Patches;
+use crate::reading::document_of;
+use mp_pointer::{Pointer, PointerFault, laws as pointing};
+use mp_texts::write_places;
+use mp_tree::{Doc, write_doc};
+use std::alloc::{AllocError, Global};
+
+impl Patches {
+    /// The kept form of what was taken: the empty text if nothing was, the text of the join, or `!` and the places of a
+    /// conflict as a JSON array of pointers. [`Patches::from_kept`] takes it.
+    ///
+    /// `Pending` exactly while a patch is pending; `OutOfMemory` may come at any point.
+    ///
+    /// ```text
+    /// patches.kept(alloc)  // {"a":1} after {"a":1}, and !["/a"] after {"a":1} and {"a":2}
+    /// ```
+    pub fn kept(&self, alloc: Global) -> Result<String, LiveFault>
+        ensures kept { IfOk result (λ text. (taken : List Document) → HasTaken self.now taken
+            → All IsReadable taken → IsKept self.now (string_bytes text)) }
+        ensures fault { IfErr result (λ fault. IsNotKeptYet fault self.now) }
+    {
+        text_laws();
+        if let Some(places) = self.places() {
+            let written = write_places(alloc, places.as_slice())?;
+            return Ok(marked(alloc, written.as_str())?);
+        }
+        if self.is_pending() {
+            return Err(LiveFault::Pending);
+        }
+        match self.joined() {
+            Some(joined) => Ok(write_doc(alloc, joined)?),
+            None => Ok(String::new(alloc)),
+        }
+    }
+
+    /// The patches that a kept form holds: it has taken what was taken where that form was made. A document holds itself, as
+    /// one patch.
+    ///
+    /// `Document` if the text, or what stands after its `!`, is not a document; `NotKept` if that is no array of one pointer
+    /// and more; `OutOfMemory` may come at any point.
+    ///
+    /// ```text
+    /// Patches::from_kept(alloc, b"{\"a\":1}")  // one patch
+    /// Patches::from_kept(alloc, b"![\"/a\"]")  // two patches that conflict at /a
+    /// ```
+    pub fn from_kept(alloc: Global, kept: &[u8]) -> Result<Patches, LiveFault>
+        ensures held { MatchResult result (λ patches. IsHeldBy kept.now patches)
+            (λ fault. IsNoKept fault kept.now) }
+        ensures taken { IfOk result (λ patches. (before : HeldPatches) (taken : List Document)
+            → IsKept before kept.now → HasTaken before taken → HasTaken patches taken) }
+    {
+        text_laws();
+        if kept.is_empty() {
+            return Ok(Patches::new());
+        }
+        if kept[0] == b'!' {
+            let places = conflict_of(alloc, &kept[1..])?;
+            return Ok(Patches::of_conflict(places));
+        }
+        let joined = document_of(alloc, kept)?;
+        Ok(Patches::of_join(joined))
+    }
+}
+
+fn marked(alloc: Global, written: &str) -> Result<String, AllocError>
+    ensures { IfOk result (λ text. string_bytes text ≡ mark ∷ written.now) }
+{
+    let mut text = String::with_capacity(alloc, written.len().saturating_add(1))?;
+    text.push('!')?;
+    text.push_str(written)?;
+    Ok(text)
+}
+
+// The places that the text is an array of.
+fn conflict_of(alloc: Global, text: &[u8]) -> Result<Vec<Pointer>, LiveFault>
+    ensures { MatchResult result (λ places. AreRead text.now places.items)
+        (λ fault. AreUnread fault text.now) }
+{
+    let Doc::Items(spellings) = document_of(alloc, text)? else {
+        return Err(LiveFault::NotKept);
+    };
+    let places = places_of(alloc, spellings.as_slice())?;
+    if places.as_slice().is_empty() {
+        return Err(LiveFault::NotKept);
+    }
+    Ok(places)
+}
+
+fn places_of(alloc: Global, spellings: &[Doc]) -> Result<Vec<Pointer>, LiveFault>
+    ensures { MatchResult result
+        (λ places. map document spellings.now ≡ map place_of places.items)
+        (λ fault. AreNotPlaces fault (map document spellings.now)) }
+{
+    let mut places = Vec::with_capacity(alloc, spellings.len())?;
+    for spelling in spellings {
+        places.push(place_in(alloc, spelling)?)?;
+    }
+    Ok(places)
+}
+
+fn place_in(alloc: Global, spelling: &Doc) -> Result<Pointer, LiveFault>
+    ensures { MatchResult result (λ place. document spelling.now ≡ place_of place)
+        (λ fault. IsNoPlace fault (document spelling.now)) }
+{
+    pointing::spellings_have_no_fault();
+    let Doc::Text(text) = spelling else {
+        return Err(LiveFault::NotKept);
+    };
+    match Pointer::parse(alloc, text.as_str()) {
+        Ok(place) => Ok(place),
+        Err(PointerFault::OutOfMemory) => Err(LiveFault::OutOfMemory),
+        Err(_) => Err(LiveFault::NotKept),
+    }
+}

@@ -1,0 +1,85 @@
+//! Laws over runs of calls: each function runs nothing, and its contract is the law.
+ghost use Rattle.mp_replica.specs.Laws.{FollowersAgree, FollowsSame, HoldsJoin, ShowsOutcome, ShowsReadable, TakenSame, TakersAgree};
+ghost use Rattle.mp_replica.specs.Private.LawsBelow.{MergeLaws, TextLaws};
+
+use mp_merge::laws as merge;
+use mp_pointer::laws as pointer;
+use mp_tree::laws as tree;
+
+/// While nothing is pending, a replica shows the outcome of its start and of exactly the patches that it received, and has
+/// their join. If the start and the patches can be read, what it shows can be read too: written, it is read back.
+pub fn shows_outcome()
+    ensures outcome { ShowsOutcome }
+    ensures readable { ShowsReadable }
+{
+    text_laws();
+}
+
+/// Neither the order nor the repeats of what a replica received count.
+pub fn follows_same()
+    ensures { FollowsSame }
+{
+    merge_laws();
+}
+
+/// Two replicas of one start that received the same patches, in any orders and with any repeats, show the same document, and
+/// have the same join.
+pub fn followers_agree()
+    ensures { FollowersAgree }
+{
+    merge_laws();
+}
+
+/// What is held of patches is their join, if no two of them conflict and nothing is pending, and else places at which two of
+/// them conflict: a conflict is held exactly if there is one.
+pub fn holds_join()
+    ensures { HoldsJoin }
+{
+    merge_laws();
+}
+
+/// Neither the order nor the repeats of what was taken count.
+pub fn taken_same()
+    ensures { TakenSame }
+{
+    merge_laws();
+}
+
+/// Two that took the same patches, in any orders, groups and repeats, hold the same join, or both a conflict: so a tree of
+/// `combine` calls answers as adding one patch after another does.
+pub fn takers_agree()
+    ensures { TakersAgree }
+{
+    merge_laws();
+}
+
+pub(crate) fn merge_laws()
+    ensures { MergeLaws }
+{
+    merge::one_outcome();
+    merge::outcome_grows();
+    merge::only_members_count();
+    merge::applies_at_each_name();
+    merge::merging_again();
+    merge::all_conflicts();
+    merge::clash_with_a_join();
+    merge::join_exists();
+    merge::join_grows();
+    merge::join_in_parts();
+    merge::joining_again();
+    merge::one_join();
+    merge::empty_has_no_join();
+}
+
+pub(crate) fn text_laws()
+    ensures { TextLaws }
+{
+    merge_laws();
+    tree::readings_are_documents();
+    tree::texts_read_back();
+    merge::join_is_readable();
+    merge::merged_is_readable();
+    merge::join_gives_outcome();
+    pointer::parts_are_readable();
+    pointer::one_spelling();
+}

@@ -1,0 +1,342 @@
+//! Patches that are gathered without a start, over documents.
+ghost use Rattle.std.specs.Prelude.{◌≡◌, ◌≢◌, ◌↔◌, ◌⊎◌, ◌∷◌, ◌++◌, ℕ, List, [], None, Some, IsTrue, IfOk, IfSome, MatchOption, option_map};
+ghost use Rattle.mp_tree.specs.Document.{Document};
+ghost use Rattle.mp_tree.specs.View.{document};
+ghost use Rattle.mp_merge.specs.Clash.{Compatible};
+ghost use Rattle.mp_replica.specs.Held.{AreClashesBetween, AreClashesWith};
+ghost use Rattle.mp_replica.specs.Private.Steps.{ClashesWithAll};
+ghost use Rattle.mp_replica.specs.Taking.{HasTaken, TakesAll, TakesOne};
+ghost use Rattle.mp_replica.specs.Texts.{HasTakenTexts};
+
+use crate::laws::merge_laws;
+use crate::live_join::LiveJoin;
+use mp_pointer::Pointer;
+use mp_tree::Doc;
+use std::alloc::{AllocError, Global};
+use std::marker::Model;
+use std::mem;
+
+/// Merge patches that are gathered without a start, for a reduce, a combiner or a stored aggregate: nothing yet, their join,
+/// or that two of them conflict, with the places of the first conflict that was seen.
+///
+/// Adding a patch costs what the patch costs, times the logarithm of the number of names around each of its values, however
+/// many were taken. The patches are not kept.
+#[derive(Drop)]
+pub struct Patches {
+    /// The join of what was taken, and what is pending; empty once two conflict.
+    join: LiveJoin,
+    /// The places of the first conflict that was seen.
+    places: Option<Vec<Pointer>>,
+}
+
+impl Model for Patches {
+    ghost use Rattle.std.specs.Prelude.{option_map};
+    ghost use Rattle.std.specs.Coded.{codes};
+    ghost use Rattle.mp_tree.specs.contracts.doc.Doc.{the_row};
+    ghost use Rattle.mp_replica.specs.Held.{HeldPatches};
+
+    ghost Value = { HeldPatches };
+
+    ghost view = { λ r. record {
+      joined = r.join.joined;
+      pending = r.join.pending;
+      places = option_map (λ v. v.items) r.places;
+    } };
+
+    ghost coded = { Prim.hlevel (codes, the_row.coded) };
+}
+
+/// What became of patches that were to be taken.
+#[derive(Clone, Copy, Debug, PartialEq, Eq)]
+pub enum Added {
+    /// They are taken, and joined.
+    Joined,
+    /// They are taken, and two of all that was taken conflict: that is a state, which takes all further patches.
+    Conflict,
+    /// They are taken; memory ran out before they are joined. The next call makes that good.
+    Pending,
+    /// Memory ran out: nothing more was taken.
+    Refused,
+}
+
+impl Patches {
+    /// No patches.
+    pub fn new() -> Patches
+        ensures taken { HasTaken result [] }
+        ensures joined { result.joined ≡ None }
+        ensures pending { result.pending ≡ None }
+        ensures places { result.places ≡ None }
+    {
+        merge_laws();
+        Patches {
+            join: LiveJoin::new(),
+            places: None,
+        }
+    }
+
+    // With this join alone.
+    pub(crate) fn of_join(joined: Doc) -> Patches
+        ensures joined { result.joined ≡ Some joined }
+        ensures pending { result.pending ≡ None }
+        ensures places { result.places ≡ None }
+    {
+        Patches {
+            join: LiveJoin::of(joined),
+            places: None,
+        }
+    }
+
+    // With these places of a conflict alone.
+    pub(crate) fn of_conflict(places: Vec<Pointer>) -> Patches
+        ensures joined { result.joined ≡ None }
+        ensures pending { result.pending ≡ None }
+        ensures places { result.places ≡ Some places.items }
+    {
+        Patches {
+            join: LiveJoin::new(),
+            places: Some(places),
+        }
+    }
+
+    /// Takes one more patch. If an earlier one is pending, that is made good first.
+    ///
+    /// `Conflict` exactly if two of what was taken conflict, this patch counted; `Refused` and `Pending` only if memory ran
+    /// out.
+    ///
+    /// ```text
+    /// patches.add(alloc, read_doc(alloc, b"{\"a\":1}")?)  // Added::Joined
+    /// patches.add(alloc, read_doc(alloc, b"{\"a\":2}")?)  // Added::Conflict, at /a
+    /// ```
+    pub fn add(&mut self, alloc: Global, patch: Doc) -> Added
+        ensures taken { (taken : List Document) → HasTaken self.old taken
+            → TakesOne HasTaken result taken (document patch) self.new }
+        ensures seen { self.old.places ≡ None → (taken : List Document) → HasTaken self.old taken
+            → IfSome self.new.places (AreClashesWith taken (document patch)) }
+        ensures unchanged { self.old.places ≢ None
+            → (result ≡ Added.Conflict) × (self.new ≡ self.old) }
+    {
+        merge_laws();
+        match &self.places {
+            Some(_) => Added::Conflict,
+            None => self.add_next(alloc, patch),
+        }
+    }
+
+    // The same if no two conflict yet.
+    fn add_next(&mut self, alloc: Global, patch: Doc) -> Added
+        requires { self.old.places ≡ None }
+        ensures taken { (taken : List Document) → HasTaken self.old taken
+            → TakesOne HasTaken result taken (document patch) self.new }
+        ensures seen { (taken : List Document) → HasTaken self.old taken
+            → IfSome self.new.places (AreClashesWith taken (document patch)) }
+    {
+        merge_laws();
+        if !self.settle(alloc) {
+            return Added::Refused;
+        }
+        match self.join.conflicts(alloc, &patch) {
+            Err(_) => Added::Refused,
+            Ok(Some(places)) => {
+                self.keep(places);
+                Added::Conflict
+            }
+            Ok(None) => self.join_one(alloc, patch),
+        }
+    }
+
+    // One more patch that fits, if nothing is pending and nothing conflicts.
+    fn join_one(&mut self, alloc: Global, patch: Doc) -> Added
+        requires places { self.old.places ≡ None }
+        requires settled { self.old.pending ≡ None }
+        requires fits { IfSome (option_map document self.old.joined) (Compatible (document patch)) }
+        ensures taken { (taken : List Document) → HasTaken self.old taken
+            → TakesOne HasTaken result taken (document patch) self.new }
+        ensures places { self.new.places ≡ None }
+        ensures received { (result ≡ Added.Joined) ⊎ (result ≡ Added.Pending) }
+    {
+        merge_laws();
+        self.put(patch);
+        if self.settle(alloc) {
+            Added::Joined
+        } else {
+            Added::Pending
+        }
+    }
+
+    // Takes a patch that fits. It is pending until `settle`.
+    fn put(&mut self, patch: Doc)
+        requires places { self.old.places ≡ None }
+        requires settled { self.old.pending ≡ None }
+        requires fits { IfSome (option_map document self.old.joined) (Compatible (document patch)) }
+        ensures taken { (taken : List Document) → HasTaken self.old taken
+            → HasTaken self.new (taken ++ document patch ∷ []) }
+        ensures places { self.new.places ≡ None }
+    {
+        merge_laws();
+        self.join.put(patch);
+    }
+
+    // From now on two conflict, at these places; the join is not needed any more.
+    fn keep(&mut self, places: Vec<Pointer>)
+        ensures places { self.new.places ≡ Some places.items }
+        ensures joined { self.new.joined ≡ None }
+        ensures pending { self.new.pending ≡ None }
+    {
+        self.join = LiveJoin::new();
+        self.places = Some(places);
+    }
+
+    /// Makes good what is pending: false if memory ran out again. Nothing is lost then, and the call can be made again. If
+    /// nothing is pending it takes no memory.
+    pub fn settle(&mut self, alloc: Global) -> bool
+        ensures settled { IsTrue result ↔ (self.new.pending ≡ None) }
+        ensures taken { (taken : List Document) → HasTaken self.old taken
+            → HasTaken self.new taken }
+        ensures places { self.new.places ≡ self.old.places }
+        ensures unchanged { self.old.pending ≡ None → self.new ≡ self.old }
+    {
+        self.join.settle(alloc)
+    }
+
+    /// Takes all that another has taken, and leaves it without patches. What it holds is moved: its patches are not joined
+    /// again one by one. `Refused`: memory ran out, and neither has changed in what it has taken.
+    ///
+    /// `Conflict` exactly if two of what both have taken conflict. If one of the two has a conflict already, that one's places
+    /// are kept, this one's first; else those at which a patch of the one conflicts with a patch of the other.
+    ///
+    /// ```text
+    /// patches.combine(alloc, &mut other)  // Added::Joined, if no two of all their patches conflict
+    /// ```
+    pub fn combine(&mut self, alloc: Global, other: &mut Patches) -> Added
+        ensures taken { (taken others : List Document) → HasTaken self.old taken
+            → HasTaken other.old others → TakesAll HasTaken result taken others self.new other.new }
+        ensures texts { (texts others : List (List ℕ)) → HasTakenTexts self.old texts
+            → HasTakenTexts other.old others
+            → TakesAll HasTakenTexts result texts others self.new other.new }
+        ensures first { MatchOption self.old.places
+            (IfSome other.old.places (λ places. self.new.places ≡ Some places))
+            (λ places. self.new.places ≡ Some places) }
+        ensures seen { self.old.places ≡ None → other.old.places ≡ None
+            → (taken others : List Document) → HasTaken self.old taken
+            → HasTaken other.old others
+            → IfSome self.new.places (AreClashesBetween taken others) }
+    {
+        merge_laws();
+        if self.places.is_some() {
+            other.clear();
+            return Added::Conflict;
+        }
+        if other.places.is_some() {
+            self.take_conflict(other);
+            return Added::Conflict;
+        }
+        if !self.settle(alloc) {
+            return Added::Refused;
+        }
+        if !other.settle(alloc) {
+            return Added::Refused;
+        }
+        self.join_all(alloc, other)
+    }
+
+    // The same if nothing is pending and nothing conflicts.
+    fn join_all(&mut self, alloc: Global, other: &mut Patches) -> Added
+        requires places { (self.old.places ≡ None) × (other.old.places ≡ None) }
+        requires settled { (self.old.pending ≡ None) × (other.old.pending ≡ None) }
+        ensures taken { (taken others : List Document) → HasTaken self.old taken
+            → HasTaken other.old others → TakesAll HasTaken result taken others self.new other.new }
+        ensures seen { (taken others : List Document) → HasTaken self.old taken
+            → HasTaken other.old others
+            → IfSome self.new.places (AreClashesBetween taken others) }
+    {
+        merge_laws();
+        match self.conflicts_of(alloc, other) {
+            Err(_) => Added::Refused,
+            Ok(Some(clashes)) => {
+                self.keep(clashes);
+                *other = Patches::new();
+                Added::Conflict
+            }
+            Ok(None) => match other.give() {
+                Some(patch) => self.join_one(alloc, patch),
+                None => Added::Joined,
+            },
+        }
+    }
+
+    // All conflicts of what the other has joined with what is joined here; None if there are none.
+    fn conflicts_of(
+        &self,
+        alloc: Global,
+        other: &Patches,
+    ) -> Result<Option<Vec<Pointer>>, AllocError>
+        ensures { IfOk result (λ found. MatchOption found
+            (IfSome (option_map document other.now.joined) (λ p.
+            IfSome (option_map document self.now.joined) (Compatible p)))
+            (λ places. ClashesWithAll (option_map document self.now.joined)
+            (option_map document other.now.joined) places.items)) }
+    {
+        match other.join.joined() {
+            Some(patch) => self.join.conflicts(alloc, patch),
+            None => Ok(None),
+        }
+    }
+
+    // What is joined, which is not held any more.
+    fn give(&mut self) -> Option<Doc>
+        requires settled { self.old.pending ≡ None }
+        requires places { self.old.places ≡ None }
+        ensures given { result ≡ self.old.joined }
+        ensures left { HasTaken self.new [] }
+    {
+        merge_laws();
+        self.join.take()
+    }
+
+    // Takes the other's conflict.
+    fn take_conflict(&mut self, other: &mut Patches)
+        ensures places { self.new.places ≡ other.old.places }
+        ensures joined { self.new.joined ≡ None }
+        ensures pending { self.new.pending ≡ None }
+        ensures left { HasTaken other.new [] }
+    {
+        self.join = LiveJoin::new();
+        self.places = mem::replace(&mut other.places, None);
+        *other = Patches::new();
+    }
+
+    // No patches any more.
+    fn clear(&mut self)
+        ensures { HasTaken self.new [] }
+    {
+        merge_laws();
+        self.join = LiveJoin::new();
+        self.places = None;
+    }
+
+    /// Whether a patch is pending: it is taken, and memory ran out before it was joined.
+    pub fn is_pending(&self) -> bool
+        ensures { IsTrue result ↔ (self.now.pending ≢ None) }
+    {
+        self.join.pending().is_some()
+    }
+
+    /// The join of what was taken. None exactly if nothing was taken, if two conflict, or while a patch is pending.
+    pub fn joined(&self) -> Option<&Doc>
+        ensures { MatchOption result ((self.now.pending ≢ None) ⊎ (self.now.joined ≡ None))
+            (λ j. (self.now.pending ≡ None) × (self.now.joined ≡ Some j.now)) }
+    {
+        match self.join.pending() {
+            Some(_) => None,
+            None => self.join.joined(),
+        }
+    }
+
+    /// The places of the first conflict that was seen, in the order of paths. Which one that is, and so which places, depends
+    /// on the order in which patches were taken. None exactly if no two conflict.
+    pub fn places(&self) -> Option<&Vec<Pointer>>
+        ensures { option_map (λ places. places.now.items) result ≡ self.now.places }
+    {
+        self.places.as_ref()
+    }
+}
