@@ -22,8 +22,19 @@ from rows import EXPORTS
 
 LIBRARY = TOP / "out/lib/libmergejoin.so.0"
 WORKLOADS = TOP / "crates/workloads/out/workloads"
+RUNS = TOP / "crates/replica_runs/out/replica_runs"
 # The jobs of the benchmark, each with one of its inputs and this seed.
 JOBS, SEED = ("catch-up", "reduce", "receive", "request", "publish", "awkward"), "7"
+# What stays in memory: of each title the job, the bytes of the start, how many patches come before those that are counted, and how
+# many these are.
+LIVE = {
+    "live receive on 8 kB": ("receive", 8_000, 100, 100),
+    "live receive on 0.8 MB": ("receive", 800_000, 100, 100),
+    "live receive after 1000 patches": ("receive", 8_000, 1_000, 100),
+    "live receive after 5000 patches": ("receive", 8_000, 5_000, 100),
+    "live add at the 10th patch": ("gather", 0, 10, 10),
+    "live add at the 10000th patch": ("gather", 0, 10_000, 100),
+}
 ENVIRONMENT = {"PATH": "/usr/bin:/bin", "LC_ALL": "C", "LD_BIND_NOW": "1"}
 # The heap takes no more from the system than it is asked for, and gives nothing back: what it has at the end is the most.
 ONE_HEAP = {"GLIBC_TUNABLES": "glibc.malloc.top_pad=1:glibc.malloc.trim_threshold=1000000000000:glibc.malloc.mmap_threshold=33554432"}
@@ -50,12 +61,12 @@ def run(words, status, given=b"", setting=None):
 
 
 def of_part(report, part):
-    """Gives the instructions of one part, a program or a library, from a report of callgrind: what follows 'calls=' is also what
-    the called took."""
+    """Gives the instructions of one part, a program or a library, or of all for None, from a report of callgrind: what follows
+    'calls=' is also what the called took."""
     count, is_inside, is_call = 0, False, False
     for line in report.splitlines():
         if line.startswith("ob="):
-            is_inside = line.endswith(f"/{part}")
+            is_inside = part is None or line.endswith(f"/{part}")
         elif line.startswith("calls="):
             is_call = True
         elif found := re.fullmatch(r"\d+ (\d+)", line):
@@ -71,6 +82,19 @@ def instructions(words, part, status=0, given=b"", setting=None):
         callgrind = ["valgrind", "--tool=callgrind", "--compress-strings=no", "--compress-pos=no", f"--callgrind-out-file={report}"]
         run([*callgrind, *words], status, given, setting)
         return of_part(report.read_text("utf-8"), part)
+
+
+def of_patch(job, size, before, count, whole=False):
+    """The instructions that a patch takes of the proved code, or with what the C library takes."""
+    part = None if whole else RUNS.name
+    first, last = (instructions([RUNS, job, str(size), str(number)], part) for number in (before, before + count))
+    return round((last - first) / count)
+
+
+def of_live(title, _driver):
+    if not RUNS.exists():
+        raise Ended(f"{RUNS} is not there: rt ci leaves it, and rt run in its crate")
+    return of_patch(*LIVE[title])
 
 
 def input_of(export, texts):
@@ -97,6 +121,7 @@ def peak(export, texts, status, driver):
 def measures():
     """Gives of each title what measures it with the driver."""
     found = {f"workload {job}": functools.partial(of_workload, job) for job in JOBS}
+    found |= {title: functools.partial(of_live, title) for title in LIVE}
     found |= {title: functools.partial(of_call, *row) for title, *row in table.rows()}
     return found | {title: functools.partial(peak, *row) for title, *row in table.peaks()}
 

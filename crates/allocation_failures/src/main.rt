@@ -4,6 +4,7 @@
 #![tactic(auto)]
 
 mod documents;
+mod live;
 mod merges;
 mod patches;
 mod pointers;
@@ -56,6 +57,7 @@ fn watch(alloc: Global, name: &str) -> Option<Option<Seen>> {
     let (module, call) = name.split_once("::")?;
     match module {
         "documents" => documents::watch(alloc, call),
+        "live" => live::watch(alloc, call),
         "merges" => merges::watch(alloc, call),
         "patches" => patches::watch(alloc, call),
         "seeded" => seeded::watch(alloc, call),
@@ -72,6 +74,7 @@ fn watch(alloc: Global, name: &str) -> Option<Option<Seen>> {
 fn list(rt: &impl Print) -> u8 {
     for (module, calls) in [
         ("documents", documents::CALLS),
+        ("live", live::CALLS),
         ("merges", merges::CALLS),
         ("patches", patches::CALLS),
         ("seeded", seeded::CALLS),

@@ -41,6 +41,8 @@ pub const CALLS: &[&str] = &[
     "join_all",
     "join_all_of_clashing",
     "join_all_of_five",
+    "join_into",
+    "join_into_again",
     "join_of_clashing",
     "merge",
     "merge_into",
@@ -62,6 +64,8 @@ pub fn watch(alloc: Global, name: &str) -> Option<Option<Seen>> {
         "join_all" => watch_join_all(alloc),
         "join_all_of_clashing" => watch_join_all_of_clashing(alloc),
         "join_all_of_five" => watch_join_all_of_five(alloc),
+        "join_into" => watch_join_into(alloc),
+        "join_into_again" => watch_join_into_again(alloc),
         "join_of_clashing" => watch_join_of_clashing(alloc),
         "merge" => watch_merge(alloc),
         "merge_into" => watch_merge_into(alloc),
@@ -123,6 +127,38 @@ fn merge_once_or_again(alloc: Global, target: &mut Doc, patch: &Doc, wanted: &Do
         Ok(()) => Seen::NoMemory.with(target.same(wanted)),
         Err(_) => Seen::Wrong,
     }
+}
+
+/// What was joined before, a patch that is joined to it in place, and their join.
+const JOINED: &str = r#"{"a":{"x":1},"b":{"c":[1]}}"#;
+
+const ADDED: &str = r#"{"a":{"y":{"z":"text"}},"b":{"c":[1],"e":{"f":2}},"k":null}"#;
+
+const GROWN: &str = r#"{"a":{"x":1,"y":{"z":"text"}},"b":{"c":[1],"e":{"f":2}},"k":null}"#;
+
+fn watch_join_into(alloc: Global) -> Option<Seen> {
+    let mut joined = doc_of(alloc, JOINED)?;
+    let docs = three_docs_of(alloc, [ADDED, ADDED, GROWN])?;
+    let [patch, before, wanted] = &docs;
+    let seen = match mp_merge::join_into(alloc, &mut joined, patch) {
+        Ok(united) => Seen::answer_if(united && joined.same(wanted)),
+        Err(_) => Seen::NoMemory.with(mp_merge::compatible(patch, &joined)),
+    };
+    Some(seen.with(patch.same(before)))
+}
+
+/// After a refusal a second call, of which no request is refused, ends as the first would have.
+fn watch_join_into_again(alloc: Global) -> Option<Seen> {
+    let mut joined = doc_of(alloc, JOINED)?;
+    let docs = two_docs_of(alloc, [ADDED, GROWN])?;
+    let [patch, wanted] = &docs;
+    if mp_merge::join_into(alloc, &mut joined, patch).is_ok() {
+        return Some(Seen::answer_if(joined.same(wanted)));
+    }
+    Some(match mp_merge::join_into(alloc, &mut joined, patch) {
+        Ok(united) => Seen::NoMemory.with(united && joined.same(wanted)),
+        Err(_) => Seen::Wrong,
+    })
 }
 
 /// The two patches of `CLASHING`, twice.

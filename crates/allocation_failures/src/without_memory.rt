@@ -1,4 +1,5 @@
 //! The calls that take no memory.
+use crate::live::{watch_patches_without_memory, watch_without_memory};
 use crate::patches::{FORM, is_move};
 use crate::preparing::{
     doc_of, docs_of, patch_of, pointer_of, three_docs_of, two_docs_of, two_pointers_of, value_of,
@@ -44,6 +45,9 @@ pub const CALLS: &[&str] = &[
     "get_value",
     "index_of",
     "items_mut",
+    "join_into",
+    "live_patches",
+    "live_replica",
     "members_mut",
     "merge_into",
     "new_patch",
@@ -75,6 +79,9 @@ pub fn watch(alloc: Global, name: &str) -> Option<Option<Seen>> {
         "get_value" => watch_get_value(alloc),
         "index_of" => Some(watch_index_of()),
         "items_mut" => watch_items_mut(alloc),
+        "join_into" => watch_join_into(alloc),
+        "live_patches" => watch_patches_without_memory(alloc),
+        "live_replica" => watch_without_memory(alloc),
         "members_mut" => watch_members_mut(alloc),
         "merge_into" => watch_merge_into(alloc),
         "new_patch" => Some(watch_new_patch(alloc)),
@@ -357,6 +364,22 @@ fn watch_compatible_values(alloc: Global) -> Option<Seen> {
     };
     let joinable = mp_merge::compatible_values(p, q) && mp_merge::compatible_values(p, p);
     Some(Seen::answer_if(joinable && !mp_merge::compatible_values(p, other)))
+}
+
+/// Of a patch that was joined before, and of one that conflicts.
+fn watch_join_into(alloc: Global) -> Option<Seen> {
+    let patches = docs_of(alloc, PATCHES)?;
+    let docs = two_docs_of(
+        alloc,
+        [r#"{"a":{"x":1,"y":null}}"#, r#"{"a":{"x":1,"y":null}}"#],
+    )?;
+    let [mut joined, before] = docs;
+    let [first, _, clashing] = patches.as_slice() else {
+        return None;
+    };
+    let again = mp_merge::join_into(alloc, &mut joined, first) == Ok(true);
+    let conflicts = mp_merge::join_into(alloc, &mut joined, clashing) == Ok(false);
+    Some(Seen::answer_if(again && conflicts && joined.same(&before)))
 }
 
 /// An object of nulls and objects alone, into a target that has an object wherever the patch has one.

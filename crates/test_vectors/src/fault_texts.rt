@@ -4,6 +4,7 @@ use mp_cli::{CommandFault, RunFault};
 use mp_merge::{ConvergeFault, JoinFault, ListFault};
 use mp_patch::{ApplyFault, Cause, FormCause, FormFault};
 use mp_pointer::PointerFault;
+use mp_replica::LiveFault;
 use mp_texts::TextsFault;
 use mp_tree::{DocsFault, ReadFault};
 use std::fmt::Display;
@@ -79,6 +80,23 @@ const RUN_FAULTS: &[(RunFault, &str)] = &[
     (RunFault::OutOfMemory, "out of memory"),
 ];
 
+const LIVE_FAULTS: &[(LiveFault, &str)] = &[
+    (
+        LiveFault::Document(ReadFault::NotWhole),
+        "document: number not whole",
+    ),
+    (
+        LiveFault::Pointer(PointerFault::NoSlash),
+        "pointer: no slash",
+    ),
+    (LiveFault::Missing, "missing"),
+    (LiveFault::NoPatches, "no patches"),
+    (LiveFault::Conflict, "conflict"),
+    (LiveFault::Pending, "pending"),
+    (LiveFault::NotKept, "not kept patches"),
+    (LiveFault::OutOfMemory, "out of memory"),
+];
+
 /// Each error is displayed as the text next to it.
 fn say<R: Abort + AllocGlobal, D: Display>(rt: &R, faults: &[(D, &str)]) -> Result<(), Fail> {
     for (fault, text) in faults {
@@ -91,6 +109,11 @@ fn say<R: Abort + AllocGlobal, D: Display>(rt: &R, faults: &[(D, &str)]) -> Resu
 fn of_reading(rt: HostRuntime) -> Result<(), Fail> {
     say(&rt, READ_FAULTS)?;
     say(&rt, DOCS_FAULTS)
+}
+
+#[test]
+fn of_what_stays_in_memory(rt: HostRuntime) -> Result<(), Fail> {
+    say(&rt, LIVE_FAULTS)
 }
 
 #[test]

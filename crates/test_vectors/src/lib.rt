@@ -8,6 +8,8 @@ mod documents;
 #[cfg(test)]
 mod fault_texts;
 #[cfg(test)]
+mod live;
+#[cfg(test)]
 mod merges_in_place;
 #[cfg(test)]
 mod moves;
