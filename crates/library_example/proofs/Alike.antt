@@ -3,12 +3,12 @@ use Rattle.std.proofs.Common.{◌+◌, List, sym, ap, ◌∙◌, subst}
 use Rattle.std.specs.List.{Contains}
 use Rattle.mp_tree.specs.Document.{Document}
 use Rattle.mp_tree.specs.Laws.{DocsAreDocuments}
+use Rattle.mp_tree.proofs.Facts.{Contains-nil}
 use Rattle.mp_merge.specs.Laws.{ReplicasAgree}
 use Rattle.mp_merge.specs.Outcome.{IsOutcome}
 use Rattle.library_example.specs.PatchLog.{ClashesWithNone, Stored, stored_of, start_of_log}
 use Rattle.library_example.specs.Laws.{PatchLogsBeginTheSame, PatchLogsShowTheSame}
 use Rattle.library_example.specs.declared.patch_log.Identity.{Identity}
-use Rattle.library_example.proofs.Kept.{no_element}
 
 abbrev SameStored : List Stored → List Stored → Type 0
 SameStored stored there = (i : Identity) (p : Document) → (Contains stored (i, p) → Contains there (i, p)) × (Contains there (i, p) → Contains stored (i, p))
@@ -43,7 +43,7 @@ logs_begin_the_same docs agree one other one_now other_now chosen others alike n
       ))
       (docs one_now.start).0 (docs other_now.start).0 began.start (subst (λ d. IsOutcome d begun.patches (start_of_log other_now)) (sym alike.start) begun.start);
   stored = λ i p. (
-    λ at. absurd (no_element (i, p) (subst (λ stored. Contains stored (i, p)) began.forgotten at)),
-    λ at. absurd (no_element (i, p) (subst (λ stored. Contains stored (i, p)) begun.forgotten at)),
+    λ at. absurd (Contains-nil (i, p) (subst (λ stored. Contains stored (i, p)) began.forgotten at)),
+    λ at. absurd (Contains-nil (i, p) (subst (λ stored. Contains stored (i, p)) begun.forgotten at)),
   );
 }

@@ -2,6 +2,5 @@ pub mod Alike
 pub mod Chosen
 pub mod Messages
 pub mod Stored
-pub mod Kept
 pub mod Reported
 pub mod Unclashed

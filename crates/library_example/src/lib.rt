@@ -9,5 +9,5 @@ mod replica;
 
 pub use fault::{DecideFault, ShowFault};
 pub use patch_log::{Arrival, Identity, Message, PatchLog};
-pub use receiving::{PatchMessage, Received, Replica, shown_after};
+pub use receiving::{Delivery, EpochReplica, PatchMessage, shown_after};
 pub use replica::{at, for_a_peer, show};

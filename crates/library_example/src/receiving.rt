@@ -1,12 +1,15 @@
-//! What a replica does with each patch as it arrives: it keeps the join of those of its start.
-ghost use Rattle.std.specs.Prelude.{◌≡◌, ◌<◌, List, [], Some, Ok, IfOk, IfErr, OnErr, MatchOption, option_map};
+//! What a replica does with the messages that arrive: it receives the patches of its start, and no others.
+ghost use Rattle.std.specs.Prelude.{◌≡◌, ◌≢◌, ◌↔◌, ◌<◌, List, [], None, IsOk, IsTrue, IfOk, IfErr};
 ghost use Rattle.mp_tree.specs.Document.{Document};
 ghost use Rattle.mp_tree.specs.View.{document};
-ghost use Rattle.mp_merge.specs.Application.{merge_patch};
 ghost use Rattle.mp_merge.specs.Outcome.{IsOutcome};
-ghost use Rattle.library_example.specs.Received.{GrowsBy, HasReceived, IsClashAmong, IsClashWith, IsRefusedBy, Receives, epoch_of, joined_of, patches_of, start_of};
+ghost use Rattle.mp_replica.specs.Following.{Follows, FollowsOn};
+ghost use Rattle.mp_replica.specs.Held.{AreClashesWith};
+ghost use Rattle.library_example.specs.Received.{IfGiven, IsClashAmong, epoch_of, patches_of, replica_of};
 
-use mp_merge::{JoinFault, join, laws, merge};
+use mp_merge::JoinFault;
+use mp_pointer::Pointer;
+use mp_replica::{Received, Replica, laws};
 use mp_tree::Doc;
 use std::alloc::{AllocError, Global};
 
@@ -19,101 +22,105 @@ pub struct PatchMessage {
     pub patch: Doc,
 }
 
-/// A start and its number, and the join of the patches that arrived for it, if any did.
+/// A replica, and the number of its start.
 #[derive(Drop)]
-pub struct Replica {
+pub struct EpochReplica {
     /// The number of the start.
     epoch: u64,
-    /// The document that the replica began with.
-    start: Doc,
-    /// The join of the patches that were received, if any were.
-    joined: Option<Doc>,
+    /// What the start and the patches that were received for it make.
+    replica: Replica,
 }
 
 /// What becomes of a message.
-#[derive(Clone, Copy, Debug, PartialEq, Eq)]
-pub enum Received {
-    /// Its patch is joined to those that it received before.
-    Joined,
+#[derive(Drop)]
+pub enum Delivery {
+    /// Its patch was given to the replica, and this became of it.
+    Given(Received),
     /// It is of an earlier start, and is dropped.
     Late,
-    /// It is of a later start, and waits for it.
-    Early,
+    /// It is of a later start: it is handed back, and waits for that.
+    Early(PatchMessage),
 }
 
-impl Replica {
+impl EpochReplica {
     /// A replica that begins with this start, and has received nothing.
-    pub fn new(epoch: u64, start: Doc) -> Replica
-        ensures start { start_of result ≡ start }
+    pub fn new(epoch: u64, start: Doc) -> EpochReplica
         ensures epoch { epoch_of result ≡ epoch }
-        ensures received { HasReceived result [] }
+        ensures shown { (replica_of result).shown ≡ start }
+        ensures joined { (replica_of result).joined ≡ None }
+        ensures pending { (replica_of result).pending ≡ None }
+        ensures follows { Follows (document start) [] (replica_of result) }
     {
-        Replica {
+        EpochReplica {
             epoch,
-            start,
-            joined: None,
+            replica: Replica::new(start),
         }
     }
 
-    /// Joins a patch of this start to those that it received before; or reports where it conflicts with them.
-    pub fn receive(&mut self, alloc: Global, message: &PatchMessage) -> Result<Received, JoinFault>
-        ensures received { message.now.epoch ≡ epoch_of self.old → IfOk result (λ what.
-            (what ≡ Received.Joined)
-            × Receives self.old (document message.now.patch) self.new) }
-        ensures joined { message.now.epoch ≡ epoch_of self.old → IfOk result (λ what.
-            GrowsBy (document message.now.patch) (joined_of self.old) (joined_of self.new)) }
-        ensures start { start_of self.new ≡ start_of self.old }
+    /// Receives a patch of this start, as `Replica::receive` does.
+    pub fn receive(&mut self, alloc: Global, message: PatchMessage) -> Delivery
+        ensures follows { message.epoch ≡ epoch_of self.old → IfGiven result (λ answer.
+            (start : Document) (received : List Document)
+            → Follows start received (replica_of self.old)
+            → FollowsOn answer start received (document message.patch) (replica_of self.new)) }
+        ensures refused { (replica_of self.old).pending ≡ None
+            → result ≢ Delivery.Given Received.Refused }
+        ensures unchanged { (replica_of self.old).pending ≡ None
+            → result ≡ Delivery.Given Received.Conflict → self.new ≡ self.old }
+        ensures late { message.epoch < epoch_of self.old
+            → (result ≡ Delivery.Late) × (self.new ≡ self.old) }
+        ensures early { epoch_of self.old < message.epoch
+            → (result ≡ Delivery.Early message) × (self.new ≡ self.old) }
         ensures epoch { epoch_of self.new ≡ epoch_of self.old }
-        ensures late { message.now.epoch < epoch_of self.old
-            → (result ≡ Ok Received.Late) × (self.new ≡ self.old) }
-        ensures early { epoch_of self.old < message.now.epoch
-            → (result ≡ Ok Received.Early) × (self.new ≡ self.old) }
-        ensures clashes { IfErr result (λ fault. (received : List Document)
-            → HasReceived self.old received
-            → IsClashWith fault received (document message.now.patch)) }
-        ensures refused { IfErr result (λ fault.
-            IsRefusedBy fault (joined_of self.old) (document message.now.patch)) }
-        ensures unchanged { OnErr result (self.new ≡ self.old) }
     {
-        laws::join_grows();
-        laws::clash_with_a_join();
         if message.epoch < self.epoch {
-            return Ok(Received::Late);
+            return Delivery::Late;
         }
         if message.epoch > self.epoch {
-            return Ok(Received::Early);
+            return Delivery::Early(message);
         }
-        let joined = match &self.joined {
-            None => message.patch.copy(alloc)?,
-            Some(joined) => join(alloc, joined, &message.patch)?,
-        };
-        self.joined = Some(joined);
-        Ok(Received::Joined)
+        Delivery::Given(self.replica.receive(alloc, message.patch))
     }
 
-    /// The join of what it has received, which can be sent in place of that; none if nothing arrived.
-    pub fn joined(&self) -> Option<&Doc>
-        ensures { option_map (λ j. j.now) result ≡ joined_of self.now }
+    /// Where the message's patch conflicts with what was received: each place once, in the order of paths. A message of another
+    /// start conflicts nowhere. `AllocError` if memory ran out, as it has while a patch is pending: `settle` first.
+    pub fn conflicts(
+        &self,
+        alloc: Global,
+        message: &PatchMessage,
+    ) -> Result<Vec<Pointer>, AllocError>
+        ensures places { message.now.epoch ≡ epoch_of self.now → IfOk result (λ places.
+            (start : Document) (received : List Document)
+            → Follows start received (replica_of self.now)
+            → AreClashesWith received (document message.now.patch) places.items) }
+        ensures pending { message.now.epoch ≡ epoch_of self.now → IsOk result
+            → (replica_of self.now).pending ≡ None }
+        ensures other { message.now.epoch ≢ epoch_of self.now
+            → IsOk result × IfOk result (λ places. places.items ≡ []) }
     {
-        self.joined.as_ref()
+        if message.epoch != self.epoch {
+            return Ok(Vec::new(alloc));
+        }
+        self.replica.conflicts(alloc, &message.patch)
     }
 
-    /// The document that the replica shows: the outcome of its start and all that it has received.
-    pub fn current_doc(&self, alloc: Global) -> Result<Doc, AllocError>
-        ensures outcome { IfOk result (λ shown. (received : List Document)
-            → HasReceived self.now received
-            → IsOutcome (document (start_of self.now)) received (document shown)) }
-        ensures application { IfOk result (λ shown. MatchOption (joined_of self.now)
-            (document shown ≡ document (start_of self.now))
-            (λ j. document shown
-            ≡ merge_patch (Some (document (start_of self.now))) (document j))) }
+    /// Makes good what is pending, as `Replica::settle` does: false if memory ran out again.
+    pub fn settle(&mut self, alloc: Global) -> bool
+        ensures settled { IsTrue result ↔ ((replica_of self.new).pending ≡ None) }
+        ensures follows { (start : Document) (received : List Document)
+            → Follows start received (replica_of self.old)
+            → Follows start received (replica_of self.new) }
+        ensures unchanged { (replica_of self.old).pending ≡ None → self.new ≡ self.old }
+        ensures epoch { epoch_of self.new ≡ epoch_of self.old }
     {
-        mp_tree::laws::docs_are_documents();
-        laws::join_gives_outcome();
-        match &self.joined {
-            None => self.start.copy(alloc),
-            Some(joined) => merge(alloc, Some(&self.start), joined),
-        }
+        self.replica.settle(alloc)
+    }
+
+    /// The replica itself: it has the document, and the join that can be sent in place of all that was received.
+    pub fn replica(&self) -> &Replica
+        ensures { result.now ≡ replica_of self.now }
+    {
+        &self.replica
     }
 }
 
@@ -124,16 +131,24 @@ pub fn shown_after(
     alloc: Global,
     epoch: u64,
     start: Doc,
-    messages: &[PatchMessage],
+    messages: Vec<PatchMessage>,
 ) -> Result<Doc, JoinFault>
     ensures outcome { IfOk result (λ shown.
-        IsOutcome (document start) (patches_of epoch messages.now) (document shown)) }
+        IsOutcome (document start) (patches_of epoch messages.items) (document shown)) }
     ensures refused { IfErr result (λ fault.
-        IsClashAmong fault (patches_of epoch messages.now)) }
+        IsClashAmong fault (patches_of epoch messages.items)) }
 {
-    let mut replica = Replica::new(epoch, start);
+    laws::shows_outcome();
+    let mut replica = EpochReplica::new(epoch, start);
     for message in messages {
-        replica.receive(alloc, message)?;
+        let places = replica.conflicts(alloc, &message)?;
+        if !places.is_empty() {
+            return Err(JoinFault::Conflict(places));
+        }
+        replica.receive(alloc, message);
     }
-    Ok(replica.current_doc(alloc)?)
+    match replica.replica().shown() {
+        Some(shown) => Ok(shown.copy(alloc)?),
+        None => Err(JoinFault::OutOfMemory),
+    }
 }

@@ -1,12 +1,13 @@
 //! Test vectors of `library_example`: those of the README and of `docs/REPLICAS.md`, and the texts of the errors.
 use crate::written::{equal, holds, is_spelled, is_text, says};
 use library_example::{
-    Arrival, DecideFault, Identity, Message, PatchLog, PatchMessage, Received, Replica, at,
+    Arrival, DecideFault, Delivery, EpochReplica, Identity, Message, PatchLog, PatchMessage, at,
     for_a_peer, show, shown_after,
 };
 use mp_merge::JoinFault;
 use mp_patch::{JsonPatch, apply};
 use mp_pointer::Pointer;
+use mp_replica::Received;
 use mp_tree::{Doc, ReadFault, read_doc, read_docs};
 use std::alloc::Global;
 use std::process::Abort;
@@ -89,14 +90,30 @@ fn parts_are_there_or_not(rt: HostRuntime) -> Result<(), Fail> {
     Ok(())
 }
 
+/// What became of a message.
+#[derive(Clone, Copy, Debug, PartialEq, Eq)]
+enum Became {
+    Given(Received),
+    Late,
+    Early(u64),
+}
+
+fn of_delivery(delivery: Delivery) -> Became {
+    match delivery {
+        Delivery::Given(what) => Became::Given(what),
+        Delivery::Late => Became::Late,
+        Delivery::Early(message) => Became::Early(message.epoch),
+    }
+}
+
 /// The number of the start that a patch was made for, the patch, and what becomes of it.
-const MESSAGES: &[(u64, &str, Received)] = &[
-    (1, r#"{"a":{"x":1}}"#, Received::Joined),
-    (0, r#"{"k":5}"#, Received::Late),
-    (1, r#"{"a":{"y":null}}"#, Received::Joined),
-    (2, r#"{"k":6}"#, Received::Early),
-    (1, r#"{"k":null}"#, Received::Joined),
-    (1, r#"{"a":{"x":1}}"#, Received::Joined),
+const MESSAGES: &[(u64, &str, Became)] = &[
+    (1, r#"{"a":{"x":1}}"#, Became::Given(Received::Taken)),
+    (0, r#"{"k":5}"#, Became::Late),
+    (1, r#"{"a":{"y":null}}"#, Became::Given(Received::Taken)),
+    (2, r#"{"k":6}"#, Became::Early(2)),
+    (1, r#"{"k":null}"#, Became::Given(Received::Taken)),
+    (1, r#"{"a":{"x":1}}"#, Became::Given(Received::Taken)),
 ];
 
 /// A patch of the start of number 1 that conflicts with the first of these.
@@ -107,44 +124,51 @@ fn message(alloc: Global, epoch: u64, text: &str) -> Result<PatchMessage, ReadFa
     Ok(PatchMessage { epoch, patch })
 }
 
-fn replica(alloc: Global) -> Result<Replica, ReadFault> {
-    Ok(Replica::new(1, doc_of(alloc, START)?))
+fn replica(alloc: Global) -> Result<EpochReplica, ReadFault> {
+    Ok(EpochReplica::new(1, doc_of(alloc, START)?))
 }
 
 /// The replica receives the patch of that start, and this becomes of it.
 fn becomes<R: Abort + AllocGlobal>(
     rt: &R,
-    replica: &mut Replica,
+    replica: &mut EpochReplica,
     epoch: u64,
     text: &str,
-    wanted: Received,
+    wanted: Became,
 ) -> Result<(), Fail> {
     let message = message(rt.alloc(), epoch, text)?;
-    equal(rt, replica.receive(rt.alloc(), &message)?, wanted);
+    let delivery = replica.receive(rt.alloc(), message);
+    equal(rt, of_delivery(delivery), wanted);
     Ok(())
 }
 
-fn replica_shows<R: Abort + AllocGlobal>(
+fn is_some_text<R: Abort + AllocGlobal>(
     rt: &R,
-    replica: &Replica,
+    doc: Option<&Doc>,
     wanted: &str,
 ) -> Result<(), Fail> {
-    is_text(rt, &replica.current_doc(rt.alloc())?, wanted)
+    match doc {
+        Some(doc) => is_text(rt, doc, wanted),
+        None => Err(Fail::new("there is no document")),
+    }
 }
 
 #[test]
-fn a_replica_joins_what_is_of_its_start(rt: HostRuntime) -> Result<(), Fail> {
+fn a_replica_receives_what_is_of_its_start(rt: HostRuntime) -> Result<(), Fail> {
     let mut replica = replica(rt.alloc())?;
-    holds(&rt, replica.joined().is_none(), "nothing is joined");
-    replica_shows(&rt, &replica, START)?;
+    holds(
+        &rt,
+        replica.replica().joined().is_none(),
+        "nothing is joined",
+    );
+    is_some_text(&rt, replica.replica().shown(), START)?;
     for (epoch, text, wanted) in MESSAGES {
         becomes(&rt, &mut replica, *epoch, text, *wanted)?;
     }
-    replica_shows(&rt, &replica, SHOWN)?;
-    match replica.joined() {
-        Some(joined) => is_text(&rt, joined, r#"{"a":{"x":1,"y":null},"k":null}"#),
-        None => Err(Fail::new("nothing is joined")),
-    }
+    holds(&rt, replica.settle(rt.alloc()), "nothing is pending");
+    is_some_text(&rt, replica.replica().shown(), SHOWN)?;
+    let joined = r#"{"a":{"x":1,"y":null},"k":null}"#;
+    is_some_text(&rt, replica.replica().joined(), joined)
 }
 
 fn is_at<R: Abort + AllocGlobal>(rt: &R, places: &[Pointer], wanted: &str) -> Result<(), Fail> {
@@ -155,15 +179,25 @@ fn is_at<R: Abort + AllocGlobal>(rt: &R, places: &[Pointer], wanted: &str) -> Re
 }
 
 #[test]
-fn a_patch_that_clashes_is_not_joined(rt: HostRuntime) -> Result<(), Fail> {
+fn a_patch_that_clashes_is_not_received(rt: HostRuntime) -> Result<(), Fail> {
     let mut replica = replica(rt.alloc())?;
-    becomes(&rt, &mut replica, 1, SHOWN, Received::Joined)?;
-    let conflicts = message(rt.alloc(), 1, CLASHING)?;
-    match replica.receive(rt.alloc(), &conflicts) {
-        Err(JoinFault::Conflict(places)) => is_at(&rt, places.as_slice(), "/a/x")?,
-        _ => holds(&rt, false, CLASHING),
-    }
-    replica_shows(&rt, &replica, r#"{"a":{"x":1},"k":0}"#)
+    becomes(&rt, &mut replica, 1, SHOWN, Became::Given(Received::Taken))?;
+    let clashing = message(rt.alloc(), 1, CLASHING)?;
+    let places = replica.conflicts(rt.alloc(), &clashing)?;
+    is_at(&rt, places.as_slice(), "/a/x")?;
+    let conflict = Became::Given(Received::Conflict);
+    becomes(&rt, &mut replica, 1, CLASHING, conflict)?;
+    is_some_text(&rt, replica.replica().shown(), r#"{"a":{"x":1},"k":0}"#)
+}
+
+#[test]
+fn a_message_of_another_start_conflicts_nowhere(rt: HostRuntime) -> Result<(), Fail> {
+    let mut replica = replica(rt.alloc())?;
+    becomes(&rt, &mut replica, 1, SHOWN, Became::Given(Received::Taken))?;
+    let later = message(rt.alloc(), 2, CLASHING)?;
+    let places = replica.conflicts(rt.alloc(), &later)?;
+    holds(&rt, places.is_empty(), CLASHING);
+    Ok(())
 }
 
 fn messages_of(alloc: Global) -> Result<Vec<PatchMessage>, Fail> {
@@ -176,14 +210,19 @@ fn messages_of(alloc: Global) -> Result<Vec<PatchMessage>, Fail> {
 
 #[test]
 fn what_is_shown_after_messages(rt: HostRuntime) -> Result<(), Fail> {
-    let mut messages = messages_of(rt.alloc())?;
+    let messages = messages_of(rt.alloc())?;
     let start = doc_of(rt.alloc(), START)?;
-    let shown = shown_after(rt.alloc(), 1, start, messages.as_slice())?;
-    is_text(&rt, &shown, SHOWN)?;
+    let shown = shown_after(rt.alloc(), 1, start, messages)?;
+    is_text(&rt, &shown, SHOWN)
+}
+
+#[test]
+fn where_messages_stop(rt: HostRuntime) -> Result<(), Fail> {
+    let mut messages = messages_of(rt.alloc())?;
     messages.push(message(rt.alloc(), 1, CLASHING)?)?;
     let start = doc_of(rt.alloc(), START)?;
-    match shown_after(rt.alloc(), 1, start, messages.as_slice()) {
-        Err(JoinFault::Conflict(_)) => Ok(()),
+    match shown_after(rt.alloc(), 1, start, messages) {
+        Err(JoinFault::Conflict(places)) => is_at(&rt, places.as_slice(), "/a/x"),
         _ => Err(Fail::new("patches that clash are shown")),
     }
 }
