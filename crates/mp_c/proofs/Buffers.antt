@@ -1,5 +1,5 @@
 -- What is in a buffer that holds the whole text of a result.
-use Rattle.std.proofs.Common.{◌≡◌, ◌≤◌, ◌∙◌, ℕ, List, ◌++◌, length, take, drop, sym, ap, subst}
+use Rattle.std.proofs.Common.{if◌then◌else◌, ◌≡◌, ◌≤◌, ◌∙◌, ℕ, Bool, true, false, nat_lt, List, [], ◌++◌, Option, None, Some, inl, inr, length, take, drop, refl, sym, ap, subst}
 use Rattle.std.proofs.Math.Seq.{take-append_seam}
 use Rattle.std.proofs.lemmas.List.{take_all}
 use Rattle.mp_tree.specs.declared.fault.ReadFault.{ReadFault}
@@ -16,10 +16,16 @@ use Rattle.mp_texts.specs.Answers.{IsReplayText}
 use Rattle.mp_texts.specs.Laws.{OneReplayText}
 use Rattle.mp_texts.specs.declared.fault.TextsFault.{TextsFault}
 use Rattle.mp_texts.specs.declared.fault.TextsFault.TheVariants as texts
+use Rattle.mp_replica.specs.Faults.{IsUnshown}
+use Rattle.mp_replica.specs.Held.{HeldReplica}
+use Rattle.mp_replica.specs.Texts.{FollowsTexts}
+use Rattle.mp_replica.specs.declared.fault.LiveFault.{LiveFault}
+use Rattle.mp_replica.specs.declared.fault.LiveFault.TheVariants as live
 use Rattle.mp_c.specs.Answered.{ExportAnswer, answer_text, answer_fault, not_utf8, IsReplayed}
-use Rattle.mp_c.specs.Laws.{HasReplayed, ReplaysAgreeInTheirBuffers}
+use Rattle.mp_c.specs.Laws.{HandleFollows, GaveDocument, ReplaysAgreeInTheirBuffers}
+use Rattle.mp_c.specs.OnHandles.{HandleAnswer, handle_text, handle_conflict, handle_fault, handle_not_utf8, handle_not_started, OfStarted, ShowsDocument}
 use Rattle.mp_c.specs.Replies.{IsReply, buffer_after}
-use Rattle.mp_c.specs.Report.{status_document, status_patch, status_result, report_of, report_of_fault, report_of_form, report_of_list, report_of_pointer, report_of_apply, report_of_unread}
+use Rattle.mp_c.specs.Report.{Report, status_document, status_patch, status_result, status_too_large, unnumbered, report_of, report_of_fault, report_of_form, report_of_handle, report_of_list, report_of_live_fault, report_of_pointer, report_of_apply, report_of_text, report_of_unread}
 use Rattle.mp_c.specs.declared.replying.Reply.{Reply}
 
 -- ---- no error is reported as a result
@@ -72,6 +78,18 @@ whole_text before written enough =
     ap (λ (t : List ℕ). take (length written) (t ++ drop (length written) before)) (take_all (length before) written enough)
     ∙ take-append_seam written (drop (length written) before)
 
+-- ---- the text of a result is not too large
+
+fits : (limit : ℕ) (result : List ℕ) → (report_of_text limit result).status ≡ status_result → report_of_text limit result ≡ unnumbered status_result result
+fits limit result = by (nat_lt limit (length result))
+  where
+    by : (b : Bool) → (if b then unnumbered status_too_large [] else unnumbered status_result result).status ≡ status_result
+        → (if b then unnumbered status_too_large [] else unnumbered status_result result) ≡ unnumbered status_result result
+    by true e = absurd (cc)
+    by false e = refl
+
+-- ---- a buffer that has an outcome
+
 -- the text of the outcome, and that the buffer begins with it
 record HoldsOutcome (start : List ℕ) (patches : List (List ℕ)) (reply : Reply) (buffer : List ℕ) : Type 0 where
   outcome : List ℕ
@@ -79,22 +97,63 @@ record HoldsOutcome (start : List ℕ) (patches : List (List ℕ)) (reply : Repl
   whole : reply.length ≡ length outcome
   first_bytes : take reply.length buffer ≡ outcome
 
-outcome_held : (start : List ℕ) (patches : List (List ℕ)) (reply : Reply) (before buffer : List ℕ) (answer : ExportAnswer) → IsReplayed start patches answer
-    → IsReply (report_of answer) reply before buffer → reply.status ≡ status_result → reply.length ≤ length before → HoldsOutcome start patches reply buffer
-outcome_held start patches reply before buffer (answer_text outcome) is replied has_result enough = record {
-  outcome = outcome;
-  is_outcome = is;
-  whole = replied.whole;
-  first_bytes =
-      ap (λ (n : ℕ). take n buffer) replied.whole ∙ ap (take (length outcome)) replied.buffer
-      ∙ whole_text before outcome (subst (λ (n : ℕ). n ≤ length before) replied.whole enough);
-}
-outcome_held start patches reply before buffer (answer_fault why) is replied has_result enough = absurd (no_result why (sym replied.status ∙ has_result))
-outcome_held start patches reply before buffer (not_utf8 offset) is replied has_result enough = absurd is
+text_held : (start : List ℕ) (patches : List (List ℕ)) (limit : ℕ) (reply : Reply) (before buffer outcome : List ℕ) → IsReplayText start patches outcome
+    → IsReply (report_of_text limit outcome) reply before buffer → reply.status ≡ status_result → reply.length ≤ length before → HoldsOutcome start patches reply buffer
+text_held start patches limit reply before buffer outcome is some has_result enough =
+    let replied : IsReply (unnumbered status_result outcome) reply before buffer =
+    subst (λ (r : Report). IsReply r reply before buffer) (fits limit outcome (sym some.status ∙ has_result)) some in
+    record {
+      outcome = outcome;
+      is_outcome = is;
+      whole = replied.whole;
+      first_bytes =
+          ap (λ (n : ℕ). take n buffer) replied.whole ∙ ap (take (length outcome)) replied.buffer
+          ∙ whole_text before outcome (subst (λ (n : ℕ). n ≤ length before) replied.whole enough);
+    }
 
-holds_outcome : (start : List ℕ) (patches : List (List ℕ)) (reply : Reply) (buffer : List ℕ) → HasReplayed start patches reply buffer → HoldsOutcome start patches reply buffer
-holds_outcome start patches reply buffer has =
-    outcome_held start patches reply has.before buffer has.replied.0 has.replied.1 has.replied.2 has.has_result has.enough
+outcome_held : (start : List ℕ) (patches : List (List ℕ)) (limit : ℕ) (reply : Reply) (before buffer : List ℕ) (answer : ExportAnswer) → IsReplayed start patches answer
+    → IsReply (report_of limit answer) reply before buffer → reply.status ≡ status_result → reply.length ≤ length before → HoldsOutcome start patches reply buffer
+outcome_held start patches limit reply before buffer (answer_text outcome) is replied has_result enough =
+    text_held start patches limit reply before buffer outcome is replied has_result enough
+outcome_held start patches limit reply before buffer (answer_fault why) is replied has_result enough = absurd (no_result why (sym replied.status ∙ has_result))
+outcome_held start patches limit reply before buffer (not_utf8 offset) is replied has_result enough = absurd is
+
+-- ---- of a replica
+
+no_unshown_result : (why : LiveFault) (r : HeldReplica) → IsUnshown why r → ¬ ((report_of_live_fault status_document why).status ≡ status_result)
+no_unshown_result (live.Document why) r is e = is
+no_unshown_result (live.Pointer why) r is e = is
+no_unshown_result live.Missing r is e = is
+no_unshown_result live.NoPatches r is e = is
+no_unshown_result live.Conflict r is e = is
+no_unshown_result live.Pending r is e = cc
+no_unshown_result live.NotKept r is e = is
+no_unshown_result live.OutOfMemory r is e = cc
+
+shown_by : (start : List ℕ) (patches : List (List ℕ)) (limit : ℕ) (reply : Reply) (before buffer : List ℕ) (answer : HandleAnswer) (r s : HeldReplica)
+    → FollowsTexts start patches r → ShowsDocument r answer s → IsReply (report_of_handle limit status_document answer) reply before buffer
+    → reply.status ≡ status_result → reply.length ≤ length before → HoldsOutcome start patches reply buffer
+shown_by start patches limit reply before buffer (handle_text shown) r s follows is replied has_result enough =
+    text_held start patches limit reply before buffer shown (is.3 start patches follows) replied has_result enough
+shown_by start patches limit reply before buffer (handle_conflict total array) r s follows is replied has_result enough = absurd is
+shown_by start patches limit reply before buffer (handle_fault why) r s follows is replied has_result enough =
+    absurd (no_unshown_result why s is.1 (sym replied.status ∙ has_result))
+shown_by start patches limit reply before buffer (handle_not_utf8 offset) r s follows is replied has_result enough = absurd is
+shown_by start patches limit reply before buffer handle_not_started r s follows is replied has_result enough = absurd is
+
+shown_held : (start : List ℕ) (patches : List (List ℕ)) (limit : ℕ) (reply : Reply) (before buffer : List ℕ) (answer : HandleAnswer) (handle after : Option HeldReplica)
+    → HandleFollows start patches handle → OfStarted ShowsDocument handle answer after → IsReply (report_of_handle limit status_document answer) reply before buffer
+    → reply.status ≡ status_result → reply.length ≤ length before → HoldsOutcome start patches reply buffer
+shown_held start patches limit reply before buffer answer None after follows is replied has_result enough = absurd follows
+shown_held start patches limit reply before buffer answer (Some r) None follows is replied has_result enough = absurd is
+shown_held start patches limit reply before buffer answer (Some r) (Some s) follows is replied has_result enough =
+    shown_by start patches limit reply before buffer answer r s follows is replied has_result enough
+
+holds_outcome : (start : List ℕ) (patches : List (List ℕ)) (reply : Reply) (buffer : List ℕ) → GaveDocument start patches reply buffer → HoldsOutcome start patches reply buffer
+holds_outcome start patches reply buffer (inl has) =
+    outcome_held start patches has.limit reply has.before buffer has.replied.0 has.replied.1 has.replied.2 has.has.status has.has.enough
+holds_outcome start patches reply buffer (inr has) =
+    shown_held start patches has.limit reply has.before buffer has.replied.0 has.handle has.after has.follows has.replied.1 has.replied.2 has.has.status has.has.enough
 
 pub agree : OneReplayText → ReplaysAgreeInTheirBuffers
 agree one_replay start other_start patches others reply other buffer other_buffer same_start same has other_has =

@@ -15,13 +15,13 @@ use Rattle.mp_c.specs.Report.{report_of}
 use Rattle.mp_c.specs.declared.replying.Reply.{Reply}
 
 -- what the call over texts gave is reported, or out of memory is, which each call can give
-pub replied : {A : Type 0} (IsAnswer : ExportAnswer → Type 0) (given : Result (String A) TextsFault) (reply : Reply) (before after : List ℕ)
+pub replied : {A : Type 0} (limit : ℕ) (IsAnswer : ExportAnswer → Type 0) (given : Result (String A) TextsFault) (reply : Reply) (before after : List ℕ)
     → MatchResult given (λ s. IsAnswer (answer_text (string_bytes s))) (λ why. IsAnswer (answer_fault why)) → IsAnswer (answer_fault OutOfMemory)
-    → Reports (report_of (answered_by given)) reply before after → Replies IsAnswer reply before after
-replied IsAnswer (Ok s) reply before after is memory (inl report) = (answer_text (string_bytes s), is, report)
-replied IsAnswer (Ok s) reply before after is memory (inr report) = (answer_fault OutOfMemory, memory, report)
-replied IsAnswer (Err why) reply before after is memory (inl report) = (answer_fault why, is, report)
-replied IsAnswer (Err why) reply before after is memory (inr report) = (answer_fault OutOfMemory, memory, report)
+    → Reports (report_of limit (answered_by given)) reply before after → Replies limit IsAnswer reply before after
+replied limit IsAnswer (Ok s) reply before after is memory (inl report) = (answer_text (string_bytes s), is, report)
+replied limit IsAnswer (Ok s) reply before after is memory (inr report) = (answer_fault OutOfMemory, memory, report)
+replied limit IsAnswer (Err why) reply before after is memory (inl report) = (answer_fault why, is, report)
+replied limit IsAnswer (Err why) reply before after is memory (inr report) = (answer_fault OutOfMemory, memory, report)
 
 -- ---- parts
 
@@ -43,20 +43,20 @@ part_of_text (Ok s) document pointer spelling same utf8 is = (utf8, subst (λ (p
 part_of_text (Err why) document pointer spelling same utf8 is = part_fault why document pointer utf8 (subst (λ (p : List ℕ). IsPartTextFault why document p) same is)
 
 -- the document is none
-pub no_document : (why : ReadFault) (document pointer : List ℕ) (reply : Reply) (before after : List ℕ) → (why ≢ read.OutOfMemory → document_in document ≡ Err why)
-    → Reports (report_of (answer_fault (NoDocument why))) reply before after → Replies (IsPart document pointer) reply before after
-no_document read.NotJson document pointer reply before after is reports =
-    replied {A = ℕ} (IsPart document pointer) (Err (NoDocument read.NotJson)) reply before after (is (λ e. cc)) tt reports
-no_document read.NotWhole document pointer reply before after is reports =
-    replied {A = ℕ} (IsPart document pointer) (Err (NoDocument read.NotWhole)) reply before after (is (λ e. cc)) tt reports
-no_document read.TooDeep document pointer reply before after is reports =
-    replied {A = ℕ} (IsPart document pointer) (Err (NoDocument read.TooDeep)) reply before after (is (λ e. cc)) tt reports
-no_document read.OutOfMemory document pointer reply before after is reports =
-    replied {A = ℕ} (IsPart document pointer) (Err OutOfMemory) reply before after tt tt reports
+pub no_document : (limit : ℕ) (why : ReadFault) (document pointer : List ℕ) (reply : Reply) (before after : List ℕ) → (why ≢ read.OutOfMemory → document_in document ≡ Err why)
+    → Reports (report_of limit (answer_fault (NoDocument why))) reply before after → Replies limit (IsPart document pointer) reply before after
+no_document limit read.NotJson document pointer reply before after is reports =
+    replied {A = ℕ} limit (IsPart document pointer) (Err (NoDocument read.NotJson)) reply before after (is (λ e. cc)) tt reports
+no_document limit read.NotWhole document pointer reply before after is reports =
+    replied {A = ℕ} limit (IsPart document pointer) (Err (NoDocument read.NotWhole)) reply before after (is (λ e. cc)) tt reports
+no_document limit read.TooDeep document pointer reply before after is reports =
+    replied {A = ℕ} limit (IsPart document pointer) (Err (NoDocument read.TooDeep)) reply before after (is (λ e. cc)) tt reports
+no_document limit read.OutOfMemory document pointer reply before after is reports =
+    replied {A = ℕ} limit (IsPart document pointer) (Err OutOfMemory) reply before after tt tt reports
 
 -- ---- a reply by another name
 
-pub renamed : (IsAnswer : ExportAnswer → Type 0) (reply same : Reply) (before after out : List ℕ) → reply ≡ same → after ≡ out
-    → Replies IsAnswer same before out → Replies IsAnswer reply before after
-renamed IsAnswer reply same before after out is_reply is_out replies =
-    subst (λ (r : Reply). Replies IsAnswer r before after) (sym is_reply) (subst (λ (o : List ℕ). Replies IsAnswer same before o) (sym is_out) replies)
+pub renamed : (limit : ℕ) (IsAnswer : ExportAnswer → Type 0) (reply same : Reply) (before after out : List ℕ) → reply ≡ same → after ≡ out
+    → Replies limit IsAnswer same before out → Replies limit IsAnswer reply before after
+renamed limit IsAnswer reply same before after out is_reply is_out replies =
+    subst (λ (r : Reply). Replies limit IsAnswer r before after) (sym is_reply) (subst (λ (o : List ℕ). Replies limit IsAnswer same before o) (sym is_out) replies)

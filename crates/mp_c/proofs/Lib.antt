@@ -1,4 +1,10 @@
-pub mod Exports
-pub mod OneReply
+pub mod BoxSteps
 pub mod Buffers
+pub mod Exports
+pub mod Limits
+pub mod OnPatches
+pub mod OnReplicas
+pub mod OneReply
+pub mod PatchesSteps
+pub mod ReplicaSteps
 pub mod SomeReply

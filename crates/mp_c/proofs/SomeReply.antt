@@ -1,5 +1,5 @@
 -- An export has a reply to its arguments, whatever bytes they are.
-use Rattle.std.proofs.Common.{◌≡◌, ◌≢◌, ◌⊎◌, ◌≤◌, ◌<◌, ◌∙◌, ℕ, zero, suc, Bool, true, false, List, Result, Ok, Err, length, take, inl, inr, refl, sym, ap, subst, arith}
+use Rattle.std.proofs.Common.{if◌then◌else◌, ◌≡◌, ◌≢◌, ◌⊎◌, ◌≤◌, ◌<◌, ◌∙◌, ℕ, zero, suc, Bool, true, false, List, [], nat_lt, Result, Ok, Err, length, take, inl, inr, refl, sym, ap, subst, arith}
 use Rattle.std.proofs.lemmas.Bool.{cases_lt}
 use Rattle.std.proofs.lemmas.List.{take_all}
 use Rattle.std.proofs.lemmas.Str.{IsUtf8-from_is_utf8, IsUtf8-nil, is_utf8-from_IsUtf8}
@@ -24,7 +24,7 @@ use Rattle.mp_c.specs.Answered.{ExportAnswer, answer_text, answer_fault, not_utf
 use Rattle.mp_c.specs.Laws.{EachHasReport, HasReport, MayReport}
 use Rattle.mp_c.specs.Private.LawsOfTexts.{LawsOfTexts}
 use Rattle.mp_c.specs.Replies.{IsReply, Replies}
-use Rattle.mp_c.specs.Report.{Report, status_document, status_no_memory, status_patch, report_of, report_of_apply, report_of_fault, report_of_form, report_of_list, report_of_pointer, report_of_unread}
+use Rattle.mp_c.specs.Report.{Report, status_document, status_no_memory, status_patch, report_of, report_of_apply, report_of_fault, report_of_form, report_of_list, report_of_pointer, report_of_text, report_of_unread, status_result, status_too_large, unnumbered}
 use Rattle.mp_c.specs.declared.replying.Reply.{Reply}
 use Rattle.mp_c.proofs.Exports.{part_fault}
 use Rattle.mp_c.proofs.OneReply.{HasMemory, all_seen, one_part, one_seen, report_of_seen}
@@ -76,7 +76,14 @@ utf8_or_offset bs = by (is_utf8 bs) refl
           },
         )
 
--- ---- an error that is not out of memory is not reported as that
+-- ---- a result is not reported as out of memory, nor is an error that is none
+
+text_memory : (limit : ℕ) (result : List ℕ) → HasMemory (report_of_text limit result)
+text_memory limit result = by (nat_lt limit (length result))
+  where
+    by : (b : Bool) → (if b then unnumbered status_too_large [] else unnumbered status_result result).status ≢ status_no_memory
+    by true e = cc
+    by false e = cc
 
 unread_memory : (status number : ℕ) (why : ReadFault) → status ≢ status_no_memory → why ≢ read.OutOfMemory → HasMemory (report_of_unread status number why)
 unread_memory status number read.NotJson other some = other
@@ -165,77 +172,78 @@ module _ (laws : LawsOfTexts) where
   fault_memory call Missing some is = λ e. cc
   fault_memory call OutOfMemory some is = absurd (some refl)
 
-  answer_memory : (call : Call) (answer : CallAnswer) → IsCallAnswer call answer → HasMemory (report_of_seen answer)
-  answer_memory call (returned result) is = λ e. cc
-  answer_memory call (conflicting first second places) is = λ e. cc
-  answer_memory call (failed why) is = fault_memory call why is.0 is.2
+  answer_memory : (limit : ℕ) (call : Call) (answer : CallAnswer) → IsCallAnswer call answer → HasMemory (report_of_seen limit answer)
+  answer_memory limit call (returned result) is = text_memory limit result
+  answer_memory limit call (conflicting first second places) is = λ e. cc
+  answer_memory limit call (failed why) is = fault_memory call why is.0 is.2
 
   -- ---- each reply is the one that there is
 
-  all_report : (IsAnswer : ExportAnswer → Type 0) (report : Report) → ((a : ExportAnswer) → IsAnswer a → HasMemory (report_of a) → report_of a ≡ report)
-      → (reply : Reply) (before after : List ℕ) → Replies IsAnswer reply before after → reply.status ≢ status_no_memory → IsReply report reply before after
-  all_report IsAnswer report one reply before after (a, is, replied) memory =
+  all_report : (limit : ℕ) (IsAnswer : ExportAnswer → Type 0) (report : Report)
+      → ((a : ExportAnswer) → IsAnswer a → HasMemory (report_of limit a) → report_of limit a ≡ report)
+      → (reply : Reply) (before after : List ℕ) → Replies limit IsAnswer reply before after → reply.status ≢ status_no_memory → IsReply report reply before after
+  all_report limit IsAnswer report one reply before after (a, is, replied) memory =
       subst (λ (t : Report). IsReply t reply before after) (one a is (λ none. memory (replied.status ∙ none))) replied
 
   -- ---- the exports that answer as the call over texts does
 
   module _ (call : Call) (IsAnswer : ExportAnswer → Type 0) (texts : (t : List ℕ) → IsAnswer (answer_text t) → MayReturn call t) (whys : (why : TextsFault) → IsAnswer (answer_fault why) → MayFail call why)
       (no_offset : (offset : ℕ) → IsAnswer (not_utf8 offset) → ⊥) (is_text : (t : List ℕ) → MayReturn call t → IsAnswer (answer_text t)) (is_why : (why : TextsFault) → MayFail call why → IsAnswer (answer_fault why)) where
-    may_report : (answer : CallAnswer) → IsCallAnswer call answer → MayReport call IsAnswer (report_of_seen answer)
-    may_report (returned result) is = inl (answer_text result, is_text result is, refl)
-    may_report (conflicting first second places) is = inr (first, second, places, is, refl)
-    may_report (failed why) is = inl (answer_fault why, is_why why is.2, refl)
+    may_report : (limit : ℕ) (answer : CallAnswer) → IsCallAnswer call answer → MayReport call IsAnswer limit (report_of_seen limit answer)
+    may_report limit (returned result) is = inl (answer_text result, is_text result is, refl)
+    may_report limit (conflicting first second places) is = inr (first, second, places, is, refl)
+    may_report limit (failed why) is = inl (answer_fault why, is_why why is.2, refl)
 
-    report_over_texts : HasReport call IsAnswer
-    report_over_texts =
+    report_over_texts : (limit : ℕ) → HasReport call IsAnswer limit
+    report_over_texts limit =
         let (answer, is) = laws.has_answer call in
-        let report = report_of_seen answer in
+        let report = report_of_seen limit answer in
         record {
           report = report;
-          may = may_report answer is;
-          has_memory = answer_memory call answer is;
-          each = all_report IsAnswer report
-              (λ a can memory. one_seen laws.one_answer call (report_of a) report (all_seen laws.one_answer laws.faults_show call IsAnswer texts whys no_offset a can memory) (record { answer = answer; is = is; shows = refl }));
+          may = may_report limit answer is;
+          has_memory = answer_memory limit call answer is;
+          each = all_report limit IsAnswer report
+              (λ a can memory. one_seen laws.one_answer limit call (report_of limit a) report (all_seen laws.one_answer laws.faults_show call IsAnswer texts whys no_offset limit a can memory) (record { answer = answer; is = is; shows = refl }));
         }
 
   -- ---- parts
 
-  record PartAnswer (document pointer : List ℕ) : Type 0 where
+  record PartAnswer (limit : ℕ) (document pointer : List ℕ) : Type 0 where
     answer : ExportAnswer
     is : IsPart document pointer answer
-    memory : HasMemory (report_of answer)
+    memory : HasMemory (report_of limit answer)
 
-  part_of_text : (document pointer : List ℕ) → IsUtf8 pointer → (answer : CallAnswer) → IsCallAnswer (part_text document pointer) answer → PartAnswer document pointer
-  part_of_text document pointer utf8 (returned value) is = record { answer = answer_text value; is = (utf8, is); memory = λ e. cc }
-  part_of_text document pointer utf8 (conflicting first second places) is = absurd is
-  part_of_text document pointer utf8 (failed why) is = record {
+  part_of_text : (limit : ℕ) (document pointer : List ℕ) → IsUtf8 pointer → (answer : CallAnswer) → IsCallAnswer (part_text document pointer) answer → PartAnswer limit document pointer
+  part_of_text limit document pointer utf8 (returned value) is = record { answer = answer_text value; is = (utf8, is); memory = text_memory limit value }
+  part_of_text limit document pointer utf8 (conflicting first second places) is = absurd is
+  part_of_text limit document pointer utf8 (failed why) is = record {
     answer = answer_fault why;
     is = part_fault why document pointer utf8 is.2;
     memory = fault_memory (part_text document pointer) why is.0 is.2;
   }
 
-  part_of_document : (document pointer : List ℕ) → IsRead document → PartAnswer document pointer
-  part_of_document document pointer is_read = elim (utf8_or_offset pointer) [
-    | inl utf8 ↦ let (answer, is) = laws.has_answer (part_text document pointer) in part_of_text document pointer utf8 answer is
+  part_of_document : (limit : ℕ) (document pointer : List ℕ) → IsRead document → PartAnswer limit document pointer
+  part_of_document limit document pointer is_read = elim (utf8_or_offset pointer) [
+    | inl utf8 ↦ let (answer, is) = laws.has_answer (part_text document pointer) in part_of_text limit document pointer utf8 answer is
     | inr (offset, valid) ↦ record { answer = not_utf8 offset; is = (is_read, valid); memory = λ e. cc }
   ]
 
-  some_part : (document pointer : List ℕ) → PartAnswer document pointer
-  some_part document pointer = by (document_in document) refl
+  some_part : (limit : ℕ) (document pointer : List ℕ) → PartAnswer limit document pointer
+  some_part limit document pointer = by (document_in document) refl
     where
-      by : (r : Result Document ReadFault) → document_in document ≡ r → PartAnswer document pointer
-      by (Ok d) is = part_of_document document pointer (d, is)
+      by : (r : Result Document ReadFault) → document_in document ≡ r → PartAnswer limit document pointer
+      by (Ok d) is = part_of_document limit document pointer (d, is)
       by (Err why) is = record { answer = answer_fault (NoDocument why); is = is; memory = unread_memory status_document 0 why (λ e. cc) (of_bytes document why is) }
 
-  report_of_part : (document pointer : List ℕ) → HasReport (part_text document pointer) (IsPart document pointer)
-  report_of_part document pointer =
-      let some = some_part document pointer in
-      let report = report_of some.answer in
+  report_of_part : (document pointer : List ℕ) (limit : ℕ) → HasReport (part_text document pointer) (IsPart document pointer) limit
+  report_of_part document pointer limit =
+      let some = some_part limit document pointer in
+      let report = report_of limit some.answer in
       record {
         report = report;
         may = inl (some.answer, some.is, refl);
         has_memory = some.memory;
-        each = all_report (IsPart document pointer) report (λ a can memory. one_part laws.one_answer laws.faults_show document pointer a some.answer can some.is memory some.memory);
+        each = all_report limit (IsPart document pointer) report (λ a can memory. one_part laws.one_answer laws.faults_show limit document pointer a some.answer can some.is memory some.memory);
       }
 
   -- ---- all six

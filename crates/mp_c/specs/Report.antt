@@ -1,5 +1,5 @@
 -- What is reported to C of an answer: a status, two numbers and a text, as the table of the header has them.
-use Rattle.std.specs.Prelude.{ℕ, List, [], codes}
+use Rattle.std.specs.Prelude.{if◌then◌else◌, ℕ, List, [], codes, length, nat_lt}
 use Rattle.mp_tree.specs.Text.{text as compact}
 use Rattle.mp_tree.specs.declared.fault.ReadFault.{ReadFault}
 use Rattle.mp_tree.specs.declared.fault.ReadFault.TheVariants as read
@@ -16,7 +16,10 @@ use Rattle.mp_merge.specs.declared.fault.ListFault.TheVariants as list
 use Rattle.mp_texts.specs.Answers.{places_list}
 use Rattle.mp_texts.specs.declared.fault.TextsFault.{TextsFault}
 use Rattle.mp_texts.specs.declared.fault.TextsFault.TheVariants as texts
+use Rattle.mp_replica.specs.declared.fault.LiveFault.{LiveFault}
+use Rattle.mp_replica.specs.declared.fault.LiveFault.TheVariants as live
 use Rattle.mp_c.specs.Answered.{ExportAnswer, answer_text, answer_fault, not_utf8}
+use Rattle.mp_c.specs.OnHandles.{HandleAnswer, handle_text, handle_conflict, handle_fault, handle_not_utf8, handle_not_started}
 
 -- ---- the status
 
@@ -60,17 +63,30 @@ status_pointer = 8
 abbrev pub status_no_memory : ℕ
 status_no_memory = 9
 
+-- a patch is received, or taken, and memory ran out before it can be shown
+abbrev pub status_pending : ℕ
+status_pending = 10
+
+-- the text of the result is longer than the caller allows
+abbrev pub status_too_large : ℕ
+status_too_large = 11
+
+-- there is no replica yet
+abbrev pub status_not_started : ℕ
+status_not_started = 12
+
 -- ---- what is reported
 
 pub record Report : Type 0 where
   pub status : ℕ
   pub first : ℕ
   pub second : ℕ
+  pub total : ℕ
   pub text : List ℕ
 
 -- a number that says nothing is 0
 abbrev pub numbered : ℕ → ℕ → List ℕ → Report
-numbered status number words = record { status = status; first = number; second = 0; text = words }
+numbered status number words = record { status = status; first = number; second = 0; total = 0; text = words }
 
 abbrev pub unnumbered : ℕ → List ℕ → Report
 unnumbered status words = numbered status 0 words
@@ -79,6 +95,11 @@ unnumbered status words = numbered status 0 words
 abbrev pub no_memory : Report
 no_memory = unnumbered status_no_memory []
 
+-- the text of a result; none of one that has more bytes than the caller allows
+abbrev pub report_of_text : ℕ → List ℕ → Report
+report_of_text limit result =
+    if nat_lt limit (length result) then unnumbered status_too_large [] else unnumbered status_result result
+
 -- why a text is not a document
 abbrev pub report_of_unread : ℕ → ℕ → ReadFault → Report
 report_of_unread status number read.NotJson = numbered status number (codes "not JSON")
@@ -86,10 +107,14 @@ report_of_unread status number read.NotWhole = numbered status number (codes "nu
 report_of_unread status number read.TooDeep = numbered status number (codes "too deep")
 report_of_unread status number read.OutOfMemory = no_memory
 
--- the numbers of two patches that clash, and all their places
+-- the numbers of two patches that clash, how many places they clash at, and these
+abbrev pub report_of_places : ℕ → ℕ → ℕ → List ℕ → Report
+report_of_places first second total array =
+    record { status = status_conflict; first = first; second = second; total = total; text = array }
+
 abbrev pub report_of_conflict : ℕ → ℕ → List Tokens → Report
 report_of_conflict first second places =
-    record { status = status_conflict; first = first; second = second; text = compact (places_list places) }
+    report_of_places first second (length places) (compact (places_list places))
 
 abbrev pub report_of_list : ListFault → Report
 report_of_list list.NoPatches = unnumbered status_no_patches (codes "no patches")
@@ -122,7 +147,27 @@ report_of_fault (texts.Pointer why) = report_of_pointer why
 report_of_fault texts.Missing = unnumbered status_missing (codes "missing")
 report_of_fault texts.OutOfMemory = no_memory
 
-abbrev pub report_of : ExportAnswer → Report
-report_of (answer_text result) = unnumbered status_result result
-report_of (answer_fault why) = report_of_fault why
-report_of (not_utf8 offset) = numbered status_pointer offset (codes "not UTF-8")
+-- `limit` is the most bytes that the text of a result may have
+abbrev pub report_of : ℕ → ExportAnswer → Report
+report_of limit (answer_text result) = report_of_text limit result
+report_of limit (answer_fault why) = report_of_fault why
+report_of limit (not_utf8 offset) = numbered status_pointer offset (codes "not UTF-8")
+
+-- ---- of calls on handles: `unread` is the status of a text that is not what it has to be
+
+abbrev pub report_of_live_fault : ℕ → LiveFault → Report
+report_of_live_fault unread (live.Document why) = report_of_unread unread 0 why
+report_of_live_fault unread (live.Pointer why) = report_of_pointer why
+report_of_live_fault unread live.Missing = unnumbered status_missing (codes "missing")
+report_of_live_fault unread live.NoPatches = unnumbered status_no_patches (codes "no patches")
+report_of_live_fault unread live.Conflict = unnumbered status_conflict []
+report_of_live_fault unread live.Pending = unnumbered status_pending (codes "pending")
+report_of_live_fault unread live.NotKept = unnumbered unread (codes "not kept patches")
+report_of_live_fault unread live.OutOfMemory = no_memory
+
+abbrev pub report_of_handle : ℕ → ℕ → HandleAnswer → Report
+report_of_handle limit unread (handle_text result) = report_of_text limit result
+report_of_handle limit unread (handle_conflict total array) = report_of_places 0 0 total array
+report_of_handle limit unread (handle_fault why) = report_of_live_fault unread why
+report_of_handle limit unread (handle_not_utf8 offset) = numbered status_pointer offset (codes "not UTF-8")
+report_of_handle limit unread handle_not_started = unnumbered status_not_started (codes "not started")

@@ -10,7 +10,7 @@ use std::alloc::Global;
 /// The text of a merge patch as a JSON Patch for the document, as `mp_texts::rewrite_text` gives it.
 ///
 /// ```text
-/// mergejoin_rewrite("5", 1, "6", 1, out, buffer)
+/// mergejoin_rewrite("5", 1, "6", 1, out, buffer, SIZE_MAX)
 /// // [{"op":"test","path":"","value":5},{"op":"replace","path":"","value":6}], status 0
 /// ```
 #[unsafe(no_mangle)]
@@ -19,16 +19,17 @@ pub extern "C" fn mergejoin_rewrite(
     document: &[u8],
     patch: &[u8],
     out: &mut [u8],
+    limit: usize,
 ) -> Reply
-    ensures { Replies (IsRewritten document.now patch.now) result out.old out.new }
+    ensures { Replies limit (IsRewritten document.now patch.now) result out.old out.new }
 {
-    report(alloc, rewrite_text(alloc, document, patch), out)
+    report(alloc, rewrite_text(alloc, document, patch), out, limit)
 }
 
 /// The text of the document after a JSON Patch (RFC 6902), as `mp_texts::patch_text` gives it.
 ///
 /// ```text
-/// mergejoin_patch("[1]", 3, patch, length, out, buffer)  // of [{"op":"remove","path":"/0"}]: [], status 0
+/// mergejoin_patch("[1]", 3, patch, length, out, buffer, SIZE_MAX)  // of [{"op":"remove","path":"/0"}]: [], status 0
 /// ```
 #[unsafe(no_mangle)]
 pub extern "C" fn mergejoin_patch(
@@ -36,17 +37,18 @@ pub extern "C" fn mergejoin_patch(
     document: &[u8],
     patch: &[u8],
     out: &mut [u8],
+    limit: usize,
 ) -> Reply
-    ensures { Replies (IsPatched document.now patch.now) result out.old out.new }
+    ensures { Replies limit (IsPatched document.now patch.now) result out.old out.new }
 {
-    report(alloc, patch_text(alloc, document, patch), out)
+    report(alloc, patch_text(alloc, document, patch), out, limit)
 }
 
 /// The text of the part of the document that the pointer names (RFC 6901), as `mp_texts::part_text` gives it. A pointer
 /// whose bytes are not UTF-8 is reported after a document that is not one, and before any other error of a pointer.
 ///
 /// ```text
-/// mergejoin_get("{\"a\":[5]}", 9, "/a", 2, out, buffer)  // [5], status 0
+/// mergejoin_get("{\"a\":[5]}", 9, "/a", 2, out, buffer, SIZE_MAX)  // [5], status 0
 /// ```
 #[unsafe(no_mangle)]
 pub extern "C" fn mergejoin_get(
@@ -54,14 +56,15 @@ pub extern "C" fn mergejoin_get(
     document: &[u8],
     pointer: &[u8],
     out: &mut [u8],
+    limit: usize,
 ) -> Reply
-    ensures { Replies (IsPart document.now pointer.now) result out.old out.new }
+    ensures { Replies limit (IsPart document.now pointer.now) result out.old out.new }
 {
     match str::from_utf8(pointer) {
-        Ok(pointer) => report(alloc, part_text(alloc, document, pointer), out),
+        Ok(pointer) => report(alloc, part_text(alloc, document, pointer), out, limit),
         Err(fault) => match read_doc(alloc, document) {
             Ok(_) => report_not_utf8(fault.valid_up_to(), out),
-            Err(why) => report(alloc, Err(TextsFault::Document(why)), out),
+            Err(why) => report(alloc, Err(TextsFault::Document(why)), out, limit),
         },
     }
 }

@@ -13,7 +13,7 @@ returns-in-Ok c =
     let pointer = c.args.pointer.now in
     let (same, utf8) = c.in-Ok.ensures.cases in
     let is = part_of_text c.part_text.result document pointer c.in-Ok.pointer.now same utf8 c.part_text.ensures in
-    replied (IsPart document pointer) c.part_text.result c.report.result c.args.out.now c.report.new.out is tt c.report.ensures
+    replied c.args.limit (IsPart document pointer) c.part_text.result c.report.result c.args.out.now c.report.new.out is tt c.report.ensures
 
 -- a document that is not one is reported first
 pub returns-after-read_doc : goal.returns-after-read_doc
@@ -27,11 +27,11 @@ returns-after-read_doc c =
       | in-Ok-read_doc w ↦
           let read : IsRead document = (document_of w.in-Ok-read_doc.field-0, w.in-Ok-read_doc.ensures.document) in
           let report = w.report_not_utf8 in
-          renamed (IsPart document pointer) reply report.result before after report.new.out w.result-is w.out-is
+          renamed c.args.limit (IsPart document pointer) reply report.result before after report.new.out w.result-is w.out-is
           (not_utf8 w.valid_up_to.result, (read, subst (λ (n : ℕ). IsValidUpTo pointer n) (sym w.valid_up_to.ensures) c.in-Err.ensures.cases.1), report.ensures)
       | in-Err-read_doc w ↦
           let arm = w.in-Err-read_doc in
           let report = w.report-in-Err-read_doc in
-          renamed (IsPart document pointer) reply report.result before after report.new.out w.result-is w.out-is
-          (no_document arm.why document pointer report.result before report.new.out arm.ensures.faults report.ensures)
+          renamed c.args.limit (IsPart document pointer) reply report.result before after report.new.out w.result-is w.out-is
+          (no_document c.args.limit arm.why document pointer report.result before report.new.out arm.ensures.faults report.ensures)
     ]

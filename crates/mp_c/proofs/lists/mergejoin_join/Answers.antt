@@ -4,4 +4,4 @@ use Rattle.mp_c.proofs.Exports.{replied}
 use Rattle.mp_c.proofs.lists.mergejoin_join.Goals as goal
 
 pub returns : goal.returns
-returns c = replied (IsJoined (given c.args.patches.now)) c.join_texts.result c.report.result c.args.out.now c.report.new.out c.join_texts.ensures tt c.report.ensures
+returns c = replied c.args.limit (IsJoined (given c.args.patches.now)) c.join_texts.result c.report.result c.args.out.now c.report.new.out c.join_texts.ensures tt c.report.ensures

@@ -4,4 +4,4 @@ use Rattle.mp_c.proofs.Exports.{replied}
 use Rattle.mp_c.proofs.lists.mergejoin_merge.Goals as goal
 
 pub returns : goal.returns
-returns c = replied (IsMerged c.args.document.now (given c.args.patches.now)) c.merge_texts.result c.report.result c.args.out.now c.report.new.out c.merge_texts.ensures tt c.report.ensures
+returns c = replied c.args.limit (IsMerged c.args.document.now (given c.args.patches.now)) c.merge_texts.result c.report.result c.args.out.now c.report.new.out c.merge_texts.ensures tt c.report.ensures

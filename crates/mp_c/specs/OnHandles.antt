@@ -1,0 +1,213 @@
+-- What each call on a handle answers, and what it makes of what the handle owns.
+use Rattle.std.specs.Prelude.{◌≡◌, ◌≢◌, ◌⊎◌, ℕ, List, [], Option, None, Some, MatchOption, Ok, Err, length, ⊤}
+use Rattle.std.specs.Str.{IsUtf8, IsValidUpTo}
+use Rattle.mp_tree.specs.Document.{Document}
+use Rattle.mp_tree.specs.Look.{Path}
+use Rattle.mp_tree.specs.Text.{document_in, text as compact}
+use Rattle.mp_tree.specs.View.{document}
+use Rattle.mp_texts.specs.Answers.{IsJoinText, IsReplayText, places_list}
+use Rattle.mp_texts.specs.Texts.{AreCompatible, AreRead}
+use Rattle.mp_replica.specs.Faults.{IsNoPart, IsNotJoined, IsUnread, IsUnshown}
+use Rattle.mp_replica.specs.Held.{AreClashesWith, HeldPatches, HeldReplica}
+use Rattle.mp_replica.specs.Kept.{IsHeldBy, IsKept, IsNoKept, IsNotKeptYet}
+use Rattle.mp_replica.specs.Taking.{TakesAll, TakesOne}
+use Rattle.mp_replica.specs.Texts.{FollowsTexts, FollowsTextsOn, HasTakenTexts, IsPartOf}
+use Rattle.mp_replica.specs.declared.fault.LiveFault.{LiveFault}
+use Rattle.mp_replica.specs.declared.fault.LiveFault.TheVariants.{Document as NoDocument, NoPatches, Pending, OutOfMemory}
+use Rattle.mp_replica.specs.declared.patches.Added.{Added}
+use Rattle.mp_replica.specs.declared.patches.Added.TheVariants as added
+use Rattle.mp_replica.specs.declared.replica.Received.{Received}
+use Rattle.mp_replica.specs.declared.replica.Received.TheVariants as received
+
+pub data HandleAnswer : Type 0 where
+  handle_text : List ℕ → HandleAnswer
+  -- patches conflict at so many places, of whose array this is the text
+  handle_conflict : ℕ → List ℕ → HandleAnswer
+  handle_fault : LiveFault → HandleAnswer
+  -- the offset of the first byte of the pointer that is not UTF-8
+  handle_not_utf8 : ℕ → HandleAnswer
+  -- no replica is held
+  handle_not_started : HandleAnswer
+
+-- ---- replicas
+
+-- a call on a replica that was started; without one it does nothing and says so
+abbrev pub OfStarted : (HeldReplica → HandleAnswer → HeldReplica → Type 0) → Option HeldReplica → HandleAnswer
+    → Option HeldReplica → Type 0
+OfStarted Does None handle_not_started None = ⊤
+OfStarted Does (Some before) answer (Some after) = Does before answer after
+OfStarted Does before answer after = ⊥
+
+-- whatever texts it followed, it still does
+abbrev pub StillFollows : HeldReplica → HeldReplica → Type 0
+StillFollows before after = (start : List ℕ) (texts : List (List ℕ)) → FollowsTexts start texts before
+    → FollowsTexts start texts after
+
+-- it is made of the text of a start, or is as it was
+abbrev pub IsStarted : List ℕ → Option HeldReplica → HandleAnswer → Option HeldReplica → Type 0
+IsStarted start before (handle_text said) (Some r) = (said ≡ []) × FollowsTexts start [] r × (r.pending ≡ None)
+IsStarted start before (handle_fault why) after = IsUnread why start × (after ≡ before)
+IsStarted start before answer after = ⊥
+
+-- what becomes of a patch, whatever texts were received
+abbrev pub Receives : Received → List ℕ → HeldReplica → HeldReplica → Type 0
+Receives what patch before after = (start : List ℕ) (texts : List (List ℕ)) → FollowsTexts start texts before
+    → FollowsTextsOn what start texts patch after
+
+-- all places at which a patch clashes with the patches of these texts: how many they are, and the text of their array
+pub record AreAllPlaces (texts : List (List ℕ)) (patch : List ℕ) (total : ℕ) (array : List ℕ) : Type 0 where
+  pub documents : List Document
+  pub read : AreRead texts documents
+  pub change : Document
+  pub patch_read : document_in patch ≡ Ok change
+  pub places : List Path
+  pub clashes : AreClashesWith documents change places
+  pub counted : total ≡ length places
+  pub text : array ≡ compact (places_list places)
+
+-- a patch is not shown: its text is not read and nothing is changed, or it is pending, or it is not received
+abbrev pub IsUnshownPatch : LiveFault → List ℕ → HeldReplica → HeldReplica → Type 0
+IsUnshownPatch (NoDocument why) patch before after = (document_in patch ≡ Err why) × (after ≡ before)
+IsUnshownPatch Pending patch before after = Receives received.Pending patch before after
+IsUnshownPatch OutOfMemory patch before after = StillFollows before after
+IsUnshownPatch other patch before after = ⊥
+
+abbrev pub HasReceived : List ℕ → HeldReplica → HandleAnswer → HeldReplica → Type 0
+HasReceived patch before (handle_text said) after = (said ≡ []) × Receives received.Taken patch before after
+HasReceived patch before (handle_conflict total array) after =
+    Receives received.Conflict patch before after
+    × ((start : List ℕ) (texts : List (List ℕ)) → FollowsTexts start texts before → AreAllPlaces texts patch total array)
+HasReceived patch before (handle_fault why) after = IsUnshownPatch why patch before after
+HasReceived patch before answer after = ⊥
+
+-- the text of the document, which is that of a replay of whatever texts were received
+abbrev pub ShowsDocument : HeldReplica → HandleAnswer → HeldReplica → Type 0
+ShowsDocument before (handle_text shown) after =
+    StillFollows before after × (after.pending ≡ None) × (shown ≡ compact (document after.shown))
+    × ((start : List ℕ) (texts : List (List ℕ)) → FollowsTexts start texts before → IsReplayText start texts shown)
+ShowsDocument before (handle_fault why) after = StillFollows before after × IsUnshown why after
+ShowsDocument before answer after = ⊥
+
+-- the text of the join, which is that of whatever texts were received
+abbrev pub ShowsJoin : HeldReplica → HandleAnswer → HeldReplica → Type 0
+ShowsJoin before (handle_text joined) after =
+    StillFollows before after × (after.pending ≡ None)
+    × MatchOption after.joined ⊥ (λ j. joined ≡ compact (document j))
+    × ((start : List ℕ) (texts : List (List ℕ)) → FollowsTexts start texts before → IsJoinText texts joined)
+ShowsJoin before (handle_fault why) after = StillFollows before after × IsNotJoined why after
+ShowsJoin before answer after = ⊥
+
+abbrev pub ShowsPart : List ℕ → HeldReplica → HandleAnswer → HeldReplica → Type 0
+ShowsPart pointer before (handle_text value) after =
+    StillFollows before after × IsUtf8 pointer × (after.pending ≡ None)
+    × IsPartOf (document after.shown) pointer value
+ShowsPart pointer before (handle_fault why) after =
+    StillFollows before after × IsUtf8 pointer × IsNoPart why after pointer
+ShowsPart pointer before (handle_not_utf8 offset) after = (after ≡ before) × IsValidUpTo pointer offset
+ShowsPart pointer before handle_not_started after = ⊥
+ShowsPart pointer before (handle_conflict total array) after = ⊥
+
+-- ---- patches without a start
+
+-- a handle that owns nothing has no patches
+abbrev pub patches_in : Option HeldPatches → HeldPatches
+patches_in None = record { joined = None; pending = None; places = None }
+patches_in (Some r) = r
+
+-- a call on patches
+abbrev pub OfPatches : (HeldPatches → HandleAnswer → HeldPatches → Type 0) → Option HeldPatches → HandleAnswer
+    → Option HeldPatches → Type 0
+OfPatches Does before answer after = Does (patches_in before) answer (patches_in after)
+
+-- whatever texts it has taken, it still has
+abbrev pub StillTaken : HeldPatches → HeldPatches → Type 0
+StillTaken before after = (texts : List (List ℕ)) → HasTakenTexts before texts → HasTakenTexts after texts
+
+-- the places of the conflict that it holds: how many they are, and the text of their array
+abbrev pub HoldsPlaces : ℕ → List ℕ → HeldPatches → Type 0
+HoldsPlaces total array r =
+    MatchOption r.places ⊥ (λ places. (total ≡ length places) × (array ≡ compact (places_list places)))
+
+-- what becomes of a patch, whatever texts were taken
+abbrev pub TakesPatch : Added → List ℕ → HeldPatches → HeldPatches → Type 0
+TakesPatch what patch before after = (texts : List (List ℕ)) → HasTakenTexts before texts
+    → TakesOne HasTakenTexts what texts patch after
+
+-- a patch is not joined: its text is not read and nothing is changed, or it is taken and cannot be shown, or it is not taken
+abbrev pub IsNotAdded : LiveFault → List ℕ → HeldPatches → HeldPatches → Type 0
+IsNotAdded (NoDocument why) patch before after = (document_in patch ≡ Err why) × (after ≡ before)
+IsNotAdded Pending patch before after =
+    TakesPatch added.Pending patch before after ⊎ TakesPatch added.Conflict patch before after
+IsNotAdded OutOfMemory patch before after = StillTaken before after
+IsNotAdded other patch before after = ⊥
+
+abbrev pub HasAdded : List ℕ → HeldPatches → HandleAnswer → HeldPatches → Type 0
+HasAdded patch before (handle_text said) after = (said ≡ []) × TakesPatch added.Joined patch before after
+HasAdded patch before (handle_conflict total array) after =
+    TakesPatch added.Conflict patch before after × HoldsPlaces total array after
+HasAdded patch before (handle_fault why) after = IsNotAdded why patch before after
+HasAdded patch before answer after = ⊥
+
+-- what becomes of two, whatever texts they have taken
+abbrev pub Combines : Added → HeldPatches → HeldPatches → HeldPatches → HeldPatches → Type 0
+Combines what before other after left = (texts others : List (List ℕ)) → HasTakenTexts before texts
+    → HasTakenTexts other others → TakesAll HasTakenTexts what texts others after left
+
+-- whatever texts two have taken, both still have
+abbrev pub StillBoth : HeldPatches → HeldPatches → HeldPatches → HeldPatches → Type 0
+StillBoth before other after left = (texts others : List (List ℕ)) → HasTakenTexts before texts
+    → HasTakenTexts other others → HasTakenTexts after texts × HasTakenTexts left others
+
+-- two are not joined: all is taken and cannot be shown, or both have what they had
+abbrev pub IsNotCombined : LiveFault → HeldPatches → HeldPatches → HeldPatches → HeldPatches → Type 0
+IsNotCombined Pending before other after left =
+    Combines added.Pending before other after left ⊎ Combines added.Conflict before other after left
+IsNotCombined OutOfMemory before other after left = StillBoth before other after left
+IsNotCombined why before other after left = ⊥
+
+abbrev pub HasCombined : HeldPatches → HeldPatches → HandleAnswer → HeldPatches → HeldPatches → Type 0
+HasCombined before other (handle_text said) after left =
+    (said ≡ []) × Combines added.Joined before other after left
+HasCombined before other (handle_conflict total array) after left =
+    Combines added.Conflict before other after left × HoldsPlaces total array after
+HasCombined before other (handle_fault why) after left = IsNotCombined why before other after left
+HasCombined before other answer after left = ⊥
+
+-- there is no join, though no two conflict; or memory ran out
+abbrev pub HasNoJoin : LiveFault → HeldPatches → HeldPatches → Type 0
+HasNoJoin Pending before after = (after.places ≡ None) × (after.pending ≢ None)
+HasNoJoin NoPatches before after = (texts : List (List ℕ)) → HasTakenTexts before texts → texts ≡ []
+HasNoJoin OutOfMemory before after = ⊤
+HasNoJoin other before after = ⊥
+
+-- the text of the join of whatever texts were taken, or that two of them conflict
+abbrev pub GivesJoin : HeldPatches → HandleAnswer → HeldPatches → Type 0
+GivesJoin before (handle_text joined) after =
+    StillTaken before after × (after.places ≡ None) × (after.pending ≡ None)
+    × MatchOption after.joined ⊥ (λ j. joined ≡ compact (document j))
+    × ((texts : List (List ℕ)) → HasTakenTexts before texts → IsJoinText texts joined)
+GivesJoin before (handle_conflict total array) after =
+    StillTaken before after × HoldsPlaces total array after
+    × ((texts : List (List ℕ)) → HasTakenTexts before texts → ¬ AreCompatible texts)
+GivesJoin before (handle_fault why) after = StillTaken before after × HasNoJoin why before after
+GivesJoin before answer after = ⊥
+
+-- the kept form
+abbrev pub GivesKept : HeldPatches → HandleAnswer → HeldPatches → Type 0
+GivesKept before (handle_text kept) after =
+    StillTaken before after × ((texts : List (List ℕ)) → HasTakenTexts before texts → IsKept after kept)
+GivesKept before (handle_fault why) after = StillTaken before after × IsNotKeptYet why after
+GivesKept before answer after = ⊥
+
+-- it holds what a kept form holds: it has taken what was taken where that was made
+abbrev pub HoldsKept : List ℕ → HeldPatches → Type 0
+HoldsKept kept r =
+    IsHeldBy kept r
+    × ((from : HeldPatches) (texts : List (List ℕ)) → IsKept from kept → HasTakenTexts from texts → HasTakenTexts r texts)
+
+-- it is made of a kept form, or is as it was
+abbrev pub IsMadeOfKept : List ℕ → HeldPatches → HandleAnswer → HeldPatches → Type 0
+IsMadeOfKept kept before (handle_text said) after = (said ≡ []) × HoldsKept kept after × (after.places ≡ None)
+IsMadeOfKept kept before (handle_conflict total array) after = HoldsKept kept after × HoldsPlaces total array after
+IsMadeOfKept kept before (handle_fault why) after = IsNoKept why kept × (after ≡ before)
+IsMadeOfKept kept before answer after = ⊥

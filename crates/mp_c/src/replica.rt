@@ -1,0 +1,178 @@
+//! Exports on a replica that stays in memory.
+ghost use Rattle.std.specs.Prelude.{◌≡◌, IfOk, List, None, Ok, ℕ};
+ghost use Rattle.mp_tree.specs.Document.{Document};
+ghost use Rattle.mp_tree.specs.Text.{document_in};
+ghost use Rattle.mp_c.specs.OnHandles.{AreAllPlaces, HasReceived, IsStarted, OfStarted, ShowsDocument, ShowsJoin, ShowsPart};
+ghost use Rattle.mp_c.specs.Private.Stopping.{handle_answer, IsAllPlacesOf};
+ghost use Rattle.mp_c.specs.Replies.{HandleReplies};
+ghost use Rattle.mp_c.specs.Report.{status_document, status_patch};
+
+use crate::replica_handle::ReplicaHandle;
+use crate::replying::{DOCUMENT, PATCH, Reply};
+use crate::stopping::{Stop, conflict_at, report_live};
+use mp_replica::{LiveFault, Received, Replica};
+use mp_tree::read_doc;
+use std::alloc::{AllocError, Global};
+
+/// Starts a replica from the text of a document, in the place of one that was started before.
+#[unsafe(no_mangle)]
+pub extern "C" fn mergejoin_replica_start(
+    alloc: Global,
+    replica: &mut ReplicaHandle,
+    start: &[u8],
+    out: &mut [u8],
+    limit: usize,
+) -> Reply
+    ensures { HandleReplies limit status_document
+        (λ answer. IsStarted start.now replica.old.value answer replica.new.value)
+        result out.old out.new }
+{
+    report_live(start_replica(alloc, replica, start), DOCUMENT, out, limit)
+}
+
+fn start_replica(alloc: Global, replica: &mut ReplicaHandle, start: &[u8]) -> Result<String, Stop>
+    ensures { IsStarted start.now replica.old.value (handle_answer result) replica.new.value }
+{
+    let started = Replica::from_text(alloc, start)?;
+    let held = Box::new(alloc, started)?;
+    replica.put(alloc, held);
+    Ok(String::new(alloc))
+}
+
+/// Receives the patch of a text, as `mp_replica::Replica::receive_text` does.
+#[unsafe(no_mangle)]
+pub extern "C" fn mergejoin_replica_receive(
+    alloc: Global,
+    replica: &mut ReplicaHandle,
+    patch: &[u8],
+    out: &mut [u8],
+    limit: usize,
+) -> Reply
+    ensures { HandleReplies limit status_patch
+        (λ answer. OfStarted (HasReceived patch.now) replica.old.value answer replica.new.value)
+        result out.old out.new }
+{
+    let Some(mut held) = replica.take(alloc) else {
+        return report_live(Err(Stop::NotStarted), PATCH, out, limit);
+    };
+    let answer = receive(alloc, &mut held, patch);
+    replica.put(alloc, held);
+    report_live(answer, PATCH, out, limit)
+}
+
+fn receive(alloc: Global, replica: &mut Replica, patch: &[u8]) -> Result<String, Stop>
+    ensures { HasReceived patch.now replica.old (handle_answer result) replica.new }
+{
+    match replica.receive_text(alloc, patch)? {
+        Received::Taken => Ok(String::new(alloc)),
+        Received::Conflict => Err(conflict_with(alloc, replica, patch)?),
+        Received::Pending => Err(Stop::Fault(LiveFault::Pending)),
+        Received::Refused => Err(Stop::Fault(LiveFault::OutOfMemory)),
+    }
+}
+
+// Where the patch of a text, which was read before, conflicts with what was received.
+fn conflict_with(alloc: Global, replica: &Replica, patch: &[u8]) -> Result<Stop, AllocError>
+    ensures { IfOk result (IsAllPlacesOf replica.now patch.now) }
+{
+    let Ok(patch) = read_doc(alloc, patch) else {
+        return Err(AllocError);
+    };
+    let places = replica.conflicts(alloc, &patch)?;
+    conflict_at(alloc, places.as_slice())
+}
+
+/// The text of what a replica shows.
+#[unsafe(no_mangle)]
+pub extern "C" fn mergejoin_replica_document(
+    alloc: Global,
+    replica: &mut ReplicaHandle,
+    out: &mut [u8],
+    limit: usize,
+) -> Reply
+    ensures { HandleReplies limit status_document
+        (λ answer. OfStarted ShowsDocument replica.old.value answer replica.new.value)
+        result out.old out.new }
+{
+    let Some(mut held) = replica.take(alloc) else {
+        return report_live(Err(Stop::NotStarted), DOCUMENT, out, limit);
+    };
+    let answer = document(alloc, &mut held);
+    replica.put(alloc, held);
+    report_live(answer, DOCUMENT, out, limit)
+}
+
+fn document(alloc: Global, replica: &mut Replica) -> Result<String, Stop>
+    ensures { ShowsDocument replica.old (handle_answer result) replica.new }
+{
+    let _settled = replica.settle(alloc);
+    Ok(replica.shown_text(alloc)?)
+}
+
+/// The text of the join of what a replica received.
+#[unsafe(no_mangle)]
+pub extern "C" fn mergejoin_replica_joined(
+    alloc: Global,
+    replica: &mut ReplicaHandle,
+    out: &mut [u8],
+    limit: usize,
+) -> Reply
+    ensures { HandleReplies limit status_document
+        (λ answer. OfStarted ShowsJoin replica.old.value answer replica.new.value)
+        result out.old out.new }
+{
+    let Some(mut held) = replica.take(alloc) else {
+        return report_live(Err(Stop::NotStarted), DOCUMENT, out, limit);
+    };
+    let answer = joined(alloc, &mut held);
+    replica.put(alloc, held);
+    report_live(answer, DOCUMENT, out, limit)
+}
+
+fn joined(alloc: Global, replica: &mut Replica) -> Result<String, Stop>
+    ensures { ShowsJoin replica.old (handle_answer result) replica.new }
+{
+    let _settled = replica.settle(alloc);
+    Ok(replica.joined_text(alloc)?)
+}
+
+/// The text of the part of what a replica shows that the pointer names (RFC 6901).
+#[unsafe(no_mangle)]
+pub extern "C" fn mergejoin_replica_get(
+    alloc: Global,
+    replica: &mut ReplicaHandle,
+    pointer: &[u8],
+    out: &mut [u8],
+    limit: usize,
+) -> Reply
+    ensures { HandleReplies limit status_document
+        (λ answer. OfStarted (ShowsPart pointer.now) replica.old.value answer replica.new.value)
+        result out.old out.new }
+{
+    let Some(mut held) = replica.take(alloc) else {
+        return report_live(Err(Stop::NotStarted), DOCUMENT, out, limit);
+    };
+    let answer = part(alloc, &mut held, pointer);
+    replica.put(alloc, held);
+    report_live(answer, DOCUMENT, out, limit)
+}
+
+fn part(alloc: Global, replica: &mut Replica, pointer: &[u8]) -> Result<String, Stop>
+    ensures { ShowsPart pointer.now replica.old (handle_answer result) replica.new }
+{
+    match str::from_utf8(pointer) {
+        Ok(pointer) => {
+            let _settled = replica.settle(alloc);
+            Ok(replica.part_text(alloc, pointer)?)
+        }
+        Err(fault) => Err(Stop::NotUtf8(fault.valid_up_to())),
+    }
+}
+
+/// Frees the replica, if one is held.
+#[unsafe(no_mangle)]
+pub extern "C" fn mergejoin_replica_free(alloc: Global, replica: &mut ReplicaHandle)
+    ensures { replica.new.value ≡ None }
+{
+    let _freed = replica.take(alloc);
+}
