@@ -1,35 +1,61 @@
 /*
  * mergejoin: JSON Merge Patches (RFC 7396), JSON Pointers (RFC 6901) and JSON Patches (RFC 6902) over texts.
  *
- * Six functions. Each borrows texts from its caller, writes the text of its answer into a buffer of the caller's, and
- * returns a mergejoin_reply by value. It keeps nothing: there is no handle, no global state and no callback, and any
- * number of threads may call at once.
+ * Six functions keep nothing: join, replay, merge, rewrite, patch and get. Each borrows texts from its caller, writes the text of
+ * its answer into a buffer of the caller's, and returns a mergejoin_reply by value.
  *
- * A short text can take all memory: a JSON Patch doubles a document with each copy, and two patches may conflict at very
- * many places. No function takes a limit. So call them with the texts of strangers in a process of its own, under a limit of
- * its memory (ulimit -d, a cgroup), and pass no JSON Patch with more than a few copies.
+ * Two handles stay in memory. A mergejoin_replica has a start and the patches that it received, and shows their document. A
+ * mergejoin_patches has patches without a start, for a reduce or an aggregate. A further patch costs what that patch is long.
  *
- * What each of the six
+ * A short text can take all memory: a JSON Patch doubles a document with each copy, and two patches may conflict at very many
+ * places. A limit bounds the text of a result, and not yet the memory that a call takes on the way. So call with the texts of
+ * strangers in a process of its own, under a limit of its memory (ulimit -d, a cgroup), and pass no JSON Patch with more than a
+ * few copies.
+ *
+ * What a call
  *
  *   reads    the texts it is given, as UTF-8 bytes without a terminating 0, while it runs and no longer; of any length. They
  *            may be one another, and may not change meanwhile.
  *   writes   the first min(reply.length, capacity) bytes of the buffer, and nothing after them: no terminating 0 either.
  *            reply.length is the length of the whole text. If it is greater than the capacity, the text is cut: call again
- *            with a buffer of that length. That is safe because, unless memory runs out, the same arguments give the same
- *            reply and the same text. A capacity of 0 asks for the length alone. The buffer may not overlap what is read.
- *   owns     nothing when it returns. Meanwhile it takes memory by malloc and realloc, and gives it back by free: for each
- *            byte that is read mostly 10 to 100 bytes at the peak, up to 170 for many small patches that nest objects, and
- *            never more than 360; and in addition what copies and the answer take. For n bytes that are read, the places of a
- *            conflict and the edits of a rewriting may have n * n / 15 bytes. If malloc or realloc fails, the status is
- *            MERGEJOIN_NO_MEMORY.
+ *            with a buffer of that length. A capacity of 0 asks for the length alone. The buffer may not overlap what is read.
+ *   owns     nothing when it returns, but for what a handle holds. It takes memory by malloc and realloc, and gives it back by
+ *            free: for each byte that is read mostly 10 to 100 bytes at the peak, up to 170 for many small patches that nest
+ *            objects, and never more than 360; and in addition what copies and the answer take. For n bytes that are read, the
+ *            places of a conflict and the edits of a rewriting may have n * n / 15 bytes. If malloc or realloc fails, the
+ *            status is MERGEJOIN_NO_MEMORY or MERGEJOIN_PENDING. A handle holds mostly 1 to 50 bytes for each byte of its start
+ *            and of its patches, and up to 140 for many small objects. A replica holds a patch twice: in the join and in the
+ *            document.
  *   needs    256 KiB of stack: the deepest documents take up to 176 KiB of them.
  *
- * No pointer may be null, even if its length, count or capacity is 0. No length is more than PTRDIFF_MAX. No function may be
- * called from a signal handler, nor in the child of a process that had threads when it forked, before it calls exec. A call
- * can't be cancelled.
+ * To call again is safe. Of the six, and of a call that reads a handle, the same arguments give the same reply and the same
+ * text, unless memory runs out. If a replica has refused a patch, nothing was changed, and it refuses the patch again. If patches
+ * conflict, an add of a patch that was taken takes it again, and repeats do not count; a combine takes nothing more of the other.
  *
- * It is proved that the status, the numbers, the length and the buffer are as this page says. That callers do what this
- * page asks is not proved.
+ * A pointer may be null if its length, count or capacity is 0, as those of an empty std::string_view or std::vector are. No other
+ * may: not the bytes of a mergejoin_text, for which mergejoin_text_of is there, and not a handle. No length is more than
+ * PTRDIFF_MAX. The functions that the libraries export may be given no null at all, since proved code takes references: inline
+ * functions of the same names, below, replace it. Another language calls the exports, and so may give none.
+ *
+ * No function may be called from a signal handler, nor in the child of a process that had threads when it forked, before it calls
+ * exec. A call can't be cancelled.
+ *
+ * Threads: there is no global state and no callback, and any number of threads may call at once. A handle serves one call at a
+ * time. That holds of the calls that read it too, since they may settle what is pending. A handle may go from thread to thread if
+ * the caller orders its calls: by a lock, or by the start or the end of a thread. One lock for each handle is enough:
+ *
+ *   static mergejoin_replica replica;
+ *   static pthread_mutex_t lock = PTHREAD_MUTEX_INITIALIZER;
+ *
+ *   uint32_t receive(const uint8_t *patch, size_t length) {
+ *     pthread_mutex_lock(&lock);
+ *     mergejoin_reply reply = mergejoin_replica_receive(&replica, patch, length, NULL, 0, SIZE_MAX);
+ *     pthread_mutex_unlock(&lock);
+ *     return reply.status;
+ *   }
+ *
+ * It is proved that the status, the numbers, the length, the buffer and what a handle holds are as this page says, also if memory
+ * ran out. The inline functions are tested. That callers do what this page asks is not proved.
  */
 #ifndef MERGEJOIN_H
 #define MERGEJOIN_H
@@ -37,6 +63,14 @@
 #include <stddef.h>
 #include <stdint.h>
 #include <stdlib.h>
+#include <string.h>
+
+/* The version of this header. That of the library that is linked is what mergejoin_version() returns. */
+#define MERGEJOIN_VERSION_MAJOR 0
+#define MERGEJOIN_VERSION_MINOR 3
+#define MERGEJOIN_VERSION_PATCH 0
+#define MERGEJOIN_VERSION (MERGEJOIN_VERSION_MAJOR * 1000000 + MERGEJOIN_VERSION_MINOR * 1000 + MERGEJOIN_VERSION_PATCH)
+#define MERGEJOIN_VERSION_STRING "0.3.0"
 
 #ifdef __cplusplus
 extern "C" {
@@ -45,9 +79,10 @@ extern "C" {
 /* What the text in the buffer is: the result, or the reason why there is no result. If several errors hold, a call reports
  * the first in the order in which its own comment lists them. */
 enum mergejoin_status {
-  /* the result */
+  /* The result. It is empty if a call has none but to have succeeded. */
   MERGEJOIN_RESULT = 0,
-  /* A JSON array of all places at which two patches conflict, as JSON Pointers: patches `first` < `second`. */
+  /* A JSON array of the places at which patches conflict, as JSON Pointers; `total` is how many it has. Of join and replay these are
+   * all places of the patches `first` < `second`. Of a handle the numbers are 0. */
   MERGEJOIN_CONFLICT = 1,
   /* "no patches": there are none to join. */
   MERGEJOIN_NO_PATCHES = 2,
@@ -57,7 +92,7 @@ enum mergejoin_status {
   /* "missing": the document has no part there. */
   MERGEJOIN_MISSING = 4,
   /* The document, or the start, is not one: "not JSON", "number not whole" (a document has whole numbers from -2^63 to
-   * 2^64 - 1) or "too deep" (a document has at most 126 levels). */
+   * 2^64 - 1) or "too deep" (a document has at most 126 levels). Of a kept form also "not kept patches". */
   MERGEJOIN_DOCUMENT = 5,
   /* The patch of number `first` is not a document, by the same words; the number of a single patch is 0. */
   MERGEJOIN_PATCH = 6,
@@ -66,11 +101,18 @@ enum mergejoin_status {
   MERGEJOIN_FORM = 7,
   /* The text is not a pointer: "not UTF-8", "no slash" or "bad tilde", at the offset `first` in bytes. */
   MERGEJOIN_POINTER = 8,
-  /* Memory ran out: no text, and the buffer is unchanged. Any call may return this. */
-  MERGEJOIN_NO_MEMORY = 9
+  /* Memory ran out: no text, and the buffer and the handle are unchanged. Any call may return this. */
+  MERGEJOIN_NO_MEMORY = 9,
+  /* "pending": the handle has received or taken the patch, and memory ran out before it was joined. The patch is not lost, and is
+   * not to be given again: the next call that reads the handle goes on with it, and returns this if memory runs out again. */
+  MERGEJOIN_PENDING = 10,
+  /* There is a result, but its text is longer than the limit: no text, and the buffer is unchanged. */
+  MERGEJOIN_TOO_LARGE = 11,
+  /* "not started": the replica is {0}. A call looks for this first. */
+  MERGEJOIN_NOT_STARTED = 12
 };
 
-/* A text that a call borrows: `length` bytes at `bytes`, which is not null. */
+/* A text that a call borrows: `length` bytes at `bytes`, which is not null, even if the length is 0. */
 typedef struct mergejoin_text {
   const uint8_t *bytes;
   size_t length;
@@ -82,122 +124,428 @@ typedef struct mergejoin_reply {
   size_t length; /* of the whole text in bytes, even if the buffer has only its beginning */
   size_t first;
   size_t second;
+  size_t total; /* of a conflict: how many places there are */
+  size_t spare; /* 0 in this version, as `flags` is */
   uint32_t status; /* an enum mergejoin_status */
+  uint32_t flags;
 } mergejoin_reply;
+
+/* Handles. Each is {0} (in C++ {}) before its first use, is never copied, and is freed once it is not needed. To free it again, or to
+ * free {0}, is harmless: after that it is {0}. */
+typedef struct mergejoin_replica {
+  void *held;
+} mergejoin_replica;
+
+typedef struct mergejoin_patches {
+  void *held;
+} mergejoin_patches;
+
+/*
+ * Each call ends with the buffer, its capacity and a limit: the most bytes that the text of a result may have. A longer result is
+ * MERGEJOIN_TOO_LARGE. SIZE_MAX is no limit. The words of an error and the places of a conflict are not limited yet.
+ *
+ * Below, each call lists its statuses in the order in which it looks for them.
+ */
 
 /*
  * The join of merge patches: one patch with the effect of all, in any order and with any repeats. It may be given in the
  * place of the patches, to this function again too.
- * MERGEJOIN_PATCH, MERGEJOIN_NO_PATCHES, MERGEJOIN_CONFLICT, MERGEJOIN_NO_MEMORY.
+ * MERGEJOIN_PATCH, MERGEJOIN_NO_PATCHES, MERGEJOIN_CONFLICT, MERGEJOIN_NO_MEMORY, MERGEJOIN_TOO_LARGE.
  */
-mergejoin_reply mergejoin_join(const mergejoin_text *patches, size_t count, uint8_t *out, size_t capacity);
+static inline
+mergejoin_reply mergejoin_join(const mergejoin_text *patches, size_t count, uint8_t *out, size_t capacity, size_t limit);
 
 /*
  * The document that merge patches, no two of which conflict, make of the start, in any order and with any repeats. Of no
  * patches it is the start. Two calls with texts of the same documents on one start have the same bytes.
- * MERGEJOIN_DOCUMENT, MERGEJOIN_PATCH, MERGEJOIN_CONFLICT, MERGEJOIN_NO_MEMORY.
+ * MERGEJOIN_DOCUMENT, MERGEJOIN_PATCH, MERGEJOIN_CONFLICT, MERGEJOIN_NO_MEMORY, MERGEJOIN_TOO_LARGE.
  */
+static inline
 mergejoin_reply mergejoin_replay(const uint8_t *start, size_t start_length, const mergejoin_text *patches, size_t count,
-                                 uint8_t *out, size_t capacity);
+                                 uint8_t *out, size_t capacity, size_t limit);
 
 /*
  * The document after the merge patches, each applied to what the earlier ones left: if two conflict, their order decides.
- * MERGEJOIN_DOCUMENT, MERGEJOIN_PATCH, MERGEJOIN_NO_MEMORY.
+ * MERGEJOIN_DOCUMENT, MERGEJOIN_PATCH, MERGEJOIN_NO_MEMORY, MERGEJOIN_TOO_LARGE.
  */
-mergejoin_reply mergejoin_merge(const uint8_t *document, size_t document_length, const mergejoin_text *patches,
-                                size_t count, uint8_t *out, size_t capacity);
+static inline
+mergejoin_reply mergejoin_merge(const uint8_t *document, size_t document_length, const mergejoin_text *patches, size_t count,
+                                uint8_t *out, size_t capacity, size_t limit);
 
 /*
  * The merge patch as a JSON Patch for the document: tests of what it changes and the document has, and then the edits.
- * MERGEJOIN_DOCUMENT, MERGEJOIN_PATCH, MERGEJOIN_NO_MEMORY.
+ * MERGEJOIN_DOCUMENT, MERGEJOIN_PATCH, MERGEJOIN_NO_MEMORY, MERGEJOIN_TOO_LARGE.
  */
-mergejoin_reply mergejoin_rewrite(const uint8_t *document, size_t document_length, const uint8_t *patch,
-                                  size_t patch_length, uint8_t *out, size_t capacity);
+static inline
+mergejoin_reply mergejoin_rewrite(const uint8_t *document, size_t document_length, const uint8_t *patch, size_t patch_length,
+                                  uint8_t *out, size_t capacity, size_t limit);
 
 /*
  * The document after the JSON Patch.
- * MERGEJOIN_DOCUMENT, MERGEJOIN_PATCH, MERGEJOIN_FORM, MERGEJOIN_REFUSED, MERGEJOIN_NO_MEMORY.
+ * MERGEJOIN_DOCUMENT, MERGEJOIN_PATCH, MERGEJOIN_FORM, MERGEJOIN_REFUSED, MERGEJOIN_NO_MEMORY, MERGEJOIN_TOO_LARGE.
  */
-mergejoin_reply mergejoin_patch(const uint8_t *document, size_t document_length, const uint8_t *patch,
-                                size_t patch_length, uint8_t *out, size_t capacity);
+static inline
+mergejoin_reply mergejoin_patch(const uint8_t *document, size_t document_length, const uint8_t *patch, size_t patch_length,
+                                uint8_t *out, size_t capacity, size_t limit);
 
 /*
  * The part of the document that the JSON Pointer names.
- * MERGEJOIN_DOCUMENT, MERGEJOIN_POINTER, MERGEJOIN_MISSING, MERGEJOIN_NO_MEMORY.
+ * MERGEJOIN_DOCUMENT, MERGEJOIN_POINTER, MERGEJOIN_MISSING, MERGEJOIN_NO_MEMORY, MERGEJOIN_TOO_LARGE.
  */
-mergejoin_reply mergejoin_get(const uint8_t *document, size_t document_length, const uint8_t *pointer,
-                              size_t pointer_length, uint8_t *out, size_t capacity);
+static inline
+mergejoin_reply mergejoin_get(const uint8_t *document, size_t document_length, const uint8_t *pointer, size_t pointer_length,
+                              uint8_t *out, size_t capacity, size_t limit);
 
 /*
- * The same six with a buffer of their own. Each returns the text with a terminating 0 after its reply->length bytes; the
- * caller passes it to free. If memory runs out, it returns NULL, and the status is MERGEJOIN_NO_MEMORY. The first buffer is
- * as long as all that is read; if that is too short, a longer one is made, and the call is made again.
+ * Makes the replica of a start, with nothing received. A replica that is there already is made anew, and what it had is freed.
+ * After another status than MERGEJOIN_RESULT it is as it was.
+ * MERGEJOIN_DOCUMENT, MERGEJOIN_NO_MEMORY.
+ */
+static inline
+mergejoin_reply mergejoin_replica_start(mergejoin_replica *replica, const uint8_t *start, size_t length, uint8_t *out,
+                                        size_t capacity, size_t limit);
+
+/*
+ * Receives a merge patch: afterwards the document shows it. If it conflicts with what was received, the text is all places at
+ * which it does, and the replica is as it was. A patch that was received before changes nothing.
+ * MERGEJOIN_NOT_STARTED, MERGEJOIN_PATCH, MERGEJOIN_CONFLICT, MERGEJOIN_NO_MEMORY (not received), MERGEJOIN_PENDING (received).
+ */
+static inline
+mergejoin_reply mergejoin_replica_receive(mergejoin_replica *replica, const uint8_t *patch, size_t length, uint8_t *out,
+                                          size_t capacity, size_t limit);
+
+/*
+ * The document: what mergejoin_replay returns of the start and of all that was received, in any order.
+ * MERGEJOIN_NOT_STARTED, MERGEJOIN_PENDING, MERGEJOIN_NO_MEMORY, MERGEJOIN_TOO_LARGE.
+ */
+static inline
+mergejoin_reply mergejoin_replica_document(mergejoin_replica *replica, uint8_t *out, size_t capacity, size_t limit);
+
+/*
+ * The join of all that was received.
+ * MERGEJOIN_NOT_STARTED, MERGEJOIN_PENDING, MERGEJOIN_NO_PATCHES, MERGEJOIN_NO_MEMORY, MERGEJOIN_TOO_LARGE.
+ */
+static inline
+mergejoin_reply mergejoin_replica_joined(mergejoin_replica *replica, uint8_t *out, size_t capacity, size_t limit);
+
+/*
+ * The part of the document that the JSON Pointer names.
+ * MERGEJOIN_NOT_STARTED, MERGEJOIN_POINTER, MERGEJOIN_PENDING, MERGEJOIN_MISSING, MERGEJOIN_NO_MEMORY, MERGEJOIN_TOO_LARGE.
+ */
+static inline
+mergejoin_reply mergejoin_replica_get(mergejoin_replica *replica, const uint8_t *pointer, size_t length, uint8_t *out,
+                                      size_t capacity, size_t limit);
+
+/* Frees what the replica has, which is {0} then. */
+void mergejoin_replica_free(mergejoin_replica *replica);
+
+/*
+ * Takes a merge patch. {0} has taken none. If two of those taken conflict, now or since an earlier call, the text is the places of the
+ * conflict that was seen first; the patch is taken too.
+ * MERGEJOIN_PATCH, MERGEJOIN_NO_MEMORY (not taken), MERGEJOIN_CONFLICT (taken), MERGEJOIN_PENDING (taken).
+ */
+static inline
+mergejoin_reply mergejoin_patches_add(mergejoin_patches *patches, const uint8_t *patch, size_t length, uint8_t *out,
+                                      size_t capacity, size_t limit);
+
+/*
+ * Takes what the other has taken, which has taken nothing then. The other is another handle.
+ * MERGEJOIN_NO_MEMORY (neither has changed), MERGEJOIN_CONFLICT (taken), MERGEJOIN_PENDING (taken).
+ */
+static inline
+mergejoin_reply mergejoin_patches_combine(mergejoin_patches *patches, mergejoin_patches *other, uint8_t *out, size_t capacity,
+                                          size_t limit);
+
+/*
+ * The join of all that was taken.
+ * MERGEJOIN_CONFLICT, MERGEJOIN_PENDING, MERGEJOIN_NO_PATCHES, MERGEJOIN_NO_MEMORY, MERGEJOIN_TOO_LARGE.
+ */
+static inline
+mergejoin_reply mergejoin_patches_text(mergejoin_patches *patches, uint8_t *out, size_t capacity, size_t limit);
+
+/*
+ * What was taken, as a text that mergejoin_patches_from_kept reads: empty if nothing was taken, else the join, or `!` and the JSON
+ * array of places if two conflict.
+ * MERGEJOIN_PENDING, MERGEJOIN_NO_MEMORY, MERGEJOIN_TOO_LARGE.
+ */
+static inline
+mergejoin_reply mergejoin_patches_kept(mergejoin_patches *patches, uint8_t *out, size_t capacity, size_t limit);
+
+/*
+ * Makes the patches of such a text. Patches that are there already are made anew, and what they had is freed. After
+ * MERGEJOIN_DOCUMENT and MERGEJOIN_NO_MEMORY they are as they were. MERGEJOIN_CONFLICT has the places that the text has.
+ * MERGEJOIN_DOCUMENT, MERGEJOIN_CONFLICT, MERGEJOIN_NO_MEMORY.
+ */
+static inline
+mergejoin_reply mergejoin_patches_from_kept(mergejoin_patches *patches, const uint8_t *kept, size_t length, uint8_t *out,
+                                            size_t capacity, size_t limit);
+
+/* Frees what the patches have, which are {0} then. */
+void mergejoin_patches_free(mergejoin_patches *patches);
+
+/* The version of the library: MERGEJOIN_VERSION of the header that it was made with. */
+uint32_t mergejoin_version(void);
+
+/*
+ * What follows is inline. Names that end in `_` are the header's own.
  */
 
-/* A buffer of `size` bytes in the place of another. */
-static inline char *mergejoin_buffer_(char *other, size_t size, mergejoin_reply *reply) {
-  free(other);
-  reply->length = reply->first = reply->second = 0;
-  reply->status = MERGEJOIN_NO_MEMORY;
-  return (char *)malloc(size);
+#ifdef __cplusplus
+#define MERGEJOIN_AS_(type, pointer) static_cast<type>(pointer)
+#define MERGEJOIN_NULL_ nullptr
+#else
+#define MERGEJOIN_AS_(type, pointer) ((type)(pointer))
+#define MERGEJOIN_NULL_ NULL
+#endif
+
+/* A text whose bytes are not null. */
+static inline mergejoin_text mergejoin_text_of(const void *bytes, size_t length) {
+  static const uint8_t nothing[1] = {0};
+  mergejoin_text text;
+  text.bytes = length ? MERGEJOIN_AS_(const uint8_t *, bytes) : nothing;
+  text.length = length;
+  return text;
 }
+
+/*
+ * The replacement of null. Each function that takes texts or a buffer is inline, and calls the export of its name by another name. In
+ * the place of null it passes the address of its last parameter, of which no byte is read or written. If the compiler emits the
+ * inline function, it gives it that other name, so that the two are never confused.
+ */
+#pragma GCC diagnostic push
+#pragma GCC diagnostic ignored "-Wredundant-decls" /* the name that the compiler gives it needs a declaration */
+#define MERGEJOIN_GIVEN_(type, pointer, length) ((length) ? (pointer) : MERGEJOIN_AS_(type, MERGEJOIN_AS_(void *, &limit))), (length)
+#define MERGEJOIN_TEXT_(bytes, length) MERGEJOIN_GIVEN_(const uint8_t *, bytes, length)
+#define MERGEJOIN_TEXTS_(patches, count) MERGEJOIN_GIVEN_(const mergejoin_text *, patches, count)
+#define MERGEJOIN_OUT_ MERGEJOIN_GIVEN_(uint8_t *, out, capacity), limit
+#define MERGEJOIN_WITHOUT_NULL_(name, parameters, arguments)     \
+  extern __typeof__(name) name##_ __asm__(#name);                \
+  static inline mergejoin_reply name parameters __asm__(#name "_"); \
+  static inline mergejoin_reply name parameters { return name##_ arguments; }
+
+MERGEJOIN_WITHOUT_NULL_(mergejoin_join,
+                        (const mergejoin_text *patches, size_t count, uint8_t *out, size_t capacity, size_t limit),
+                        (MERGEJOIN_TEXTS_(patches, count), MERGEJOIN_OUT_))
+
+/* The calls of a document and patches, of two texts, of a handle and a text, and of a handle. */
+#define MERGEJOIN_ON_PATCHES_(name)                                                                                     \
+  MERGEJOIN_WITHOUT_NULL_(name,                                                                                         \
+                          (const uint8_t *bytes, size_t length, const mergejoin_text *patches, size_t count,            \
+                           uint8_t *out, size_t capacity, size_t limit),                                                \
+                          (MERGEJOIN_TEXT_(bytes, length), MERGEJOIN_TEXTS_(patches, count), MERGEJOIN_OUT_))
+#define MERGEJOIN_ON_TEXTS_(name)                                                                                       \
+  MERGEJOIN_WITHOUT_NULL_(name,                                                                                         \
+                          (const uint8_t *bytes, size_t length, const uint8_t *other, size_t other_length,              \
+                           uint8_t *out, size_t capacity, size_t limit),                                                \
+                          (MERGEJOIN_TEXT_(bytes, length), MERGEJOIN_TEXT_(other, other_length), MERGEJOIN_OUT_))
+#define MERGEJOIN_OF_TEXT_(name, handle)                                                                                \
+  MERGEJOIN_WITHOUT_NULL_(name,                                                                                         \
+                          (handle *it, const uint8_t *bytes, size_t length, uint8_t *out, size_t capacity, size_t limit), \
+                          (it, MERGEJOIN_TEXT_(bytes, length), MERGEJOIN_OUT_))
+#define MERGEJOIN_OF_NONE_(name, handle) \
+  MERGEJOIN_WITHOUT_NULL_(name, (handle *it, uint8_t *out, size_t capacity, size_t limit), (it, MERGEJOIN_OUT_))
+
+MERGEJOIN_ON_PATCHES_(mergejoin_replay)
+MERGEJOIN_ON_PATCHES_(mergejoin_merge)
+MERGEJOIN_ON_TEXTS_(mergejoin_rewrite)
+MERGEJOIN_ON_TEXTS_(mergejoin_patch)
+MERGEJOIN_ON_TEXTS_(mergejoin_get)
+MERGEJOIN_OF_TEXT_(mergejoin_replica_start, mergejoin_replica)
+MERGEJOIN_OF_TEXT_(mergejoin_replica_receive, mergejoin_replica)
+MERGEJOIN_OF_NONE_(mergejoin_replica_document, mergejoin_replica)
+MERGEJOIN_OF_NONE_(mergejoin_replica_joined, mergejoin_replica)
+MERGEJOIN_OF_TEXT_(mergejoin_replica_get, mergejoin_replica)
+MERGEJOIN_OF_TEXT_(mergejoin_patches_add, mergejoin_patches)
+MERGEJOIN_WITHOUT_NULL_(mergejoin_patches_combine,
+                        (mergejoin_patches *patches, mergejoin_patches *other, uint8_t *out, size_t capacity, size_t limit),
+                        (patches, other, MERGEJOIN_OUT_))
+MERGEJOIN_OF_NONE_(mergejoin_patches_text, mergejoin_patches)
+MERGEJOIN_OF_NONE_(mergejoin_patches_kept, mergejoin_patches)
+MERGEJOIN_OF_TEXT_(mergejoin_patches_from_kept, mergejoin_patches)
+
+#pragma GCC diagnostic pop
+#undef MERGEJOIN_OF_NONE_
+#undef MERGEJOIN_OF_TEXT_
+#undef MERGEJOIN_ON_TEXTS_
+#undef MERGEJOIN_ON_PATCHES_
+#undef MERGEJOIN_WITHOUT_NULL_
+#undef MERGEJOIN_OUT_
+#undef MERGEJOIN_TEXTS_
+#undef MERGEJOIN_TEXT_
+#undef MERGEJOIN_GIVEN_
+
+/*
+ * The same calls with a buffer of their own: each has the name of its call and `_new`, and a reply in the place of the buffer. It
+ * returns the text with a terminating 0 after its reply->length bytes; the caller passes it to free. If memory runs out, it
+ * returns NULL, and the status is MERGEJOIN_NO_MEMORY.
+ *
+ * The first buffer is as long as the text will be in most cases, and what is not needed is given back. If the text is longer, a
+ * longer buffer is made, and the call is made again. So a text that is much longer than what is read costs twice: the places of
+ * a conflict, a JSON Patch with copies, or a rewriting that is longer than the document and sixteen times the patch. A text of a
+ * handle that is longer than 64 KB is written twice. A patch is never taken twice.
+ */
+
+/* First capacities: of a text that is most often empty or a few words, of a part, and of a document that a handle has. */
+enum mergejoin_capacity_ { MERGEJOIN_WORDS_ = 256, MERGEJOIN_PART_ = 4096, MERGEJOIN_DOCUMENT_ = 65536 };
+
+/* Memory ran out: there is nothing more to say. */
+static inline void mergejoin_no_memory_(mergejoin_reply *reply) {
+  memset(reply, 0, sizeof *reply);
+  reply->status = MERGEJOIN_NO_MEMORY;
+}
+
+/* A buffer in the place of another. */
+static inline uint8_t *mergejoin_buffer_(uint8_t *other, size_t capacity, mergejoin_reply *reply) {
+  free(other);
+  mergejoin_no_memory_(reply);
+  return MERGEJOIN_AS_(uint8_t *, malloc(capacity));
+}
+
+/* The capacity for a text that is likely to have up to `length` bytes: with the words of an error, and the 0 at the end. */
+static inline size_t mergejoin_capacity_(size_t length, size_t limit) { return (length < limit ? length : limit) + 64; }
 
 static inline size_t mergejoin_lengths_(size_t length, const mergejoin_text *patches, size_t count) {
   for (size_t number = 0; number < count; number += 1) length += patches[number].length;
   return length;
 }
 
-#define MERGEJOIN_ANSWER_(lengths, call)                      \
-  size_t capacity = (lengths) + 64;                           \
-  char *text = mergejoin_buffer_(NULL, capacity, reply);      \
-  while (text) {                                              \
+/* The text of a reply, with its 0, in as many bytes as it needs; or nothing if memory ran out. */
+static inline char *mergejoin_text_in_(uint8_t *out, size_t capacity, const mergejoin_reply *reply) {
+  void *less = MERGEJOIN_NULL_;
+  if (!out || reply->status == MERGEJOIN_NO_MEMORY) {
+    free(out);
+    return MERGEJOIN_NULL_;
+  }
+  out[reply->length] = 0;
+  if (capacity - reply->length > reply->length / 8 + 512) less = realloc(out, reply->length + 1);
+  return MERGEJOIN_AS_(char *, less ? less : MERGEJOIN_AS_(void *, out));
+}
+
+/* The text of a call that may be made again, with a buffer for `guess` bytes first. */
+#define MERGEJOIN_NEW_(guess, call)                           \
+  size_t capacity = mergejoin_capacity_(guess, limit);        \
+  uint8_t *out = mergejoin_buffer_(MERGEJOIN_NULL_, capacity, reply);    \
+  while (out) {                                               \
     *reply = call;                                            \
     if (reply->length < capacity) break;                      \
     capacity = reply->length + 1;                             \
-    text = mergejoin_buffer_(text, capacity, reply);          \
+    out = mergejoin_buffer_(out, capacity, reply);            \
   }                                                           \
-  if (text && reply->status != MERGEJOIN_NO_MEMORY) {         \
-    text[reply->length] = 0;                                  \
-    return text;                                              \
-  }                                                           \
-  free(text);                                                 \
-  return NULL
+  return mergejoin_text_in_(out, capacity, reply)
 
-static inline char *mergejoin_join_new(const mergejoin_text *patches, size_t count, mergejoin_reply *reply) {
-  MERGEJOIN_ANSWER_(mergejoin_lengths_(0, patches, count), mergejoin_join(patches, count, (uint8_t *)text, capacity));
+static inline char *mergejoin_join_new(const mergejoin_text *patches, size_t count, size_t limit, mergejoin_reply *reply) {
+  MERGEJOIN_NEW_(mergejoin_lengths_(0, patches, count), mergejoin_join(patches, count, out, capacity, limit));
 }
 
-static inline char *mergejoin_replay_new(const uint8_t *start, size_t start_length, const mergejoin_text *patches,
-                                         size_t count, mergejoin_reply *reply) {
-  MERGEJOIN_ANSWER_(mergejoin_lengths_(start_length, patches, count),
-                    mergejoin_replay(start, start_length, patches, count, (uint8_t *)text, capacity));
+static inline char *mergejoin_replay_new(const uint8_t *start, size_t start_length, const mergejoin_text *patches, size_t count,
+                                         size_t limit, mergejoin_reply *reply) {
+  MERGEJOIN_NEW_(mergejoin_lengths_(start_length, patches, count),
+                 mergejoin_replay(start, start_length, patches, count, out, capacity, limit));
 }
 
 static inline char *mergejoin_merge_new(const uint8_t *document, size_t document_length, const mergejoin_text *patches,
-                                        size_t count, mergejoin_reply *reply) {
-  MERGEJOIN_ANSWER_(mergejoin_lengths_(document_length, patches, count),
-                    mergejoin_merge(document, document_length, patches, count, (uint8_t *)text, capacity));
+                                        size_t count, size_t limit, mergejoin_reply *reply) {
+  MERGEJOIN_NEW_(mergejoin_lengths_(document_length, patches, count),
+                 mergejoin_merge(document, document_length, patches, count, out, capacity, limit));
 }
 
 static inline char *mergejoin_rewrite_new(const uint8_t *document, size_t document_length, const uint8_t *patch,
-                                          size_t patch_length, mergejoin_reply *reply) {
-  MERGEJOIN_ANSWER_(document_length + patch_length,
-                    mergejoin_rewrite(document, document_length, patch, patch_length, (uint8_t *)text, capacity));
+                                          size_t patch_length, size_t limit, mergejoin_reply *reply) {
+  MERGEJOIN_NEW_(document_length + 16 * patch_length,
+                 mergejoin_rewrite(document, document_length, patch, patch_length, out, capacity, limit));
 }
 
-static inline char *mergejoin_patch_new(const uint8_t *document, size_t document_length, const uint8_t *patch,
-                                        size_t patch_length, mergejoin_reply *reply) {
-  MERGEJOIN_ANSWER_(document_length + patch_length,
-                    mergejoin_patch(document, document_length, patch, patch_length, (uint8_t *)text, capacity));
+static inline char *mergejoin_patch_new(const uint8_t *document, size_t document_length, const uint8_t *patch, size_t patch_length,
+                                        size_t limit, mergejoin_reply *reply) {
+  MERGEJOIN_NEW_(document_length + patch_length,
+                 mergejoin_patch(document, document_length, patch, patch_length, out, capacity, limit));
 }
 
 static inline char *mergejoin_get_new(const uint8_t *document, size_t document_length, const uint8_t *pointer,
-                                      size_t pointer_length, mergejoin_reply *reply) {
-  MERGEJOIN_ANSWER_(document_length,
-                    mergejoin_get(document, document_length, pointer, pointer_length, (uint8_t *)text, capacity));
+                                      size_t pointer_length, size_t limit, mergejoin_reply *reply) {
+  MERGEJOIN_NEW_(document_length, mergejoin_get(document, document_length, pointer, pointer_length, out, capacity, limit));
 }
 
-#undef MERGEJOIN_ANSWER_
+static inline char *mergejoin_replica_start_new(mergejoin_replica *replica, const uint8_t *start, size_t length, size_t limit,
+                                                mergejoin_reply *reply) {
+  MERGEJOIN_NEW_(MERGEJOIN_WORDS_, mergejoin_replica_start(replica, start, length, out, capacity, limit));
+}
+
+static inline char *mergejoin_replica_receive_new(mergejoin_replica *replica, const uint8_t *patch, size_t length, size_t limit,
+                                                  mergejoin_reply *reply) {
+  MERGEJOIN_NEW_(MERGEJOIN_WORDS_, mergejoin_replica_receive(replica, patch, length, out, capacity, limit));
+}
+
+static inline char *mergejoin_replica_document_new(mergejoin_replica *replica, size_t limit, mergejoin_reply *reply) {
+  MERGEJOIN_NEW_(MERGEJOIN_DOCUMENT_, mergejoin_replica_document(replica, out, capacity, limit));
+}
+
+static inline char *mergejoin_replica_joined_new(mergejoin_replica *replica, size_t limit, mergejoin_reply *reply) {
+  MERGEJOIN_NEW_(MERGEJOIN_DOCUMENT_, mergejoin_replica_joined(replica, out, capacity, limit));
+}
+
+static inline char *mergejoin_replica_get_new(mergejoin_replica *replica, const uint8_t *pointer, size_t length, size_t limit,
+                                              mergejoin_reply *reply) {
+  MERGEJOIN_NEW_(MERGEJOIN_PART_, mergejoin_replica_get(replica, pointer, length, out, capacity, limit));
+}
+
+static inline char *mergejoin_patches_text_new(mergejoin_patches *patches, size_t limit, mergejoin_reply *reply) {
+  MERGEJOIN_NEW_(MERGEJOIN_DOCUMENT_, mergejoin_patches_text(patches, out, capacity, limit));
+}
+
+static inline char *mergejoin_patches_kept_new(mergejoin_patches *patches, size_t limit, mergejoin_reply *reply) {
+  MERGEJOIN_NEW_(MERGEJOIN_DOCUMENT_, mergejoin_patches_kept(patches, out, capacity, limit));
+}
+
+/* The text of a call that has taken patches. If it was cut, it is the places of a conflict, which are read again; if memory runs
+ * out then, the patches are taken all the same, and the status is MERGEJOIN_PENDING. */
+static inline char *mergejoin_taken_(mergejoin_patches *patches, uint8_t *out, size_t capacity, size_t limit,
+                                     mergejoin_reply *reply) {
+  if (out && reply->length >= capacity) {
+    size_t longer = reply->length + 1;
+    uint8_t *places = MERGEJOIN_AS_(uint8_t *, malloc(longer));
+    mergejoin_no_memory_(reply);
+    if (places) *reply = mergejoin_patches_text(patches, places, longer, limit);
+    if (reply->status != MERGEJOIN_NO_MEMORY) {
+      free(out);
+      return mergejoin_text_in_(places, longer, reply);
+    }
+    free(places);
+    reply->status = MERGEJOIN_PENDING;
+    reply->length = sizeof "pending" - 1;
+    memcpy(out, "pending", reply->length);
+  }
+  return mergejoin_text_in_(out, capacity, reply);
+}
+
+static inline char *mergejoin_patches_add_new(mergejoin_patches *patches, const uint8_t *patch, size_t length, size_t limit,
+                                              mergejoin_reply *reply) {
+  size_t capacity = mergejoin_capacity_(MERGEJOIN_WORDS_, SIZE_MAX);
+  uint8_t *out = mergejoin_buffer_(MERGEJOIN_NULL_, capacity, reply);
+  if (out) *reply = mergejoin_patches_add(patches, patch, length, out, capacity, limit);
+  return mergejoin_taken_(patches, out, capacity, limit, reply);
+}
+
+static inline char *mergejoin_patches_combine_new(mergejoin_patches *patches, mergejoin_patches *other, size_t limit,
+                                                  mergejoin_reply *reply) {
+  size_t capacity = mergejoin_capacity_(MERGEJOIN_WORDS_, SIZE_MAX);
+  uint8_t *out = mergejoin_buffer_(MERGEJOIN_NULL_, capacity, reply);
+  if (out) *reply = mergejoin_patches_combine(patches, other, out, capacity, limit);
+  return mergejoin_taken_(patches, out, capacity, limit, reply);
+}
+
+/* The places of a kept conflict are in the text that is read, so they fit. */
+static inline char *mergejoin_patches_from_kept_new(mergejoin_patches *patches, const uint8_t *kept, size_t length, size_t limit,
+                                                    mergejoin_reply *reply) {
+  size_t capacity = mergejoin_capacity_(length, SIZE_MAX);
+  uint8_t *out = mergejoin_buffer_(MERGEJOIN_NULL_, capacity, reply);
+  if (out) *reply = mergejoin_patches_from_kept(patches, kept, length, out, capacity, limit);
+  return mergejoin_taken_(patches, out, capacity, limit, reply);
+}
+
+#undef MERGEJOIN_NEW_
+#undef MERGEJOIN_NULL_
+#undef MERGEJOIN_AS_
 
 #ifdef __cplusplus
 }

@@ -1,15 +1,16 @@
 // Makes the calls of rows in one of several ways, and reports what is wrong. Standard input has a row a line: the number of
-// the export, the status, the two numbers, the text and then what the call is given, the texts in hexadecimal digits behind
+// the export, the status, the three numbers, the text and then what the call is given, the texts in hexadecimal digits behind
 // an x. Malloc, realloc and free are wrapped, so that requests can be refused and what is not given back is counted.
 #include <pthread.h>
 #include <stdio.h>
 #include <string.h>
-#include <sys/mman.h>
 
 #include "mergejoin.h"
+#include "painted_stack.h"
+#include "refusing_heap.h"
 
 enum { JOIN, REPLAY, MERGE, REWRITE, PATCH, GET };
-enum { MOST_ROWS = 4000, MOST_TEXTS = 48, MOST_BYTES = 1 << 24, STACK = 1 << 20, BEHIND = 16, THREADS = 4 };
+enum { MOST_ROWS = 4000, MOST_TEXTS = 48, MOST_BYTES = 1 << 24, BEHIND = 16, THREADS = 4 };
 
 typedef struct row {
   unsigned export;
@@ -25,79 +26,45 @@ static char line[MOST_BYTES];
 static uint8_t bytes[MOST_BYTES];
 static size_t used, wrong;
 
-// ---- a heap that refuses
-
-void *__real_malloc(size_t);
-void *__real_realloc(void *, size_t);
-void __real_free(void *);
-void *__wrap_malloc(size_t);
-void *__wrap_realloc(void *, size_t);
-void __wrap_free(void *);
-
-static int counting, refuses_on;
-static size_t requests, refused_at, refusals;
-static long live;
-
-static int is_refused(void) {
-  if (!counting) return 0;
-  requests += 1;
-  if (requests != refused_at && !(refuses_on && requests > refused_at)) return 0;
-  refusals += 1;
-  return 1;
-}
-
-void *__wrap_malloc(size_t size) {
-  if (is_refused()) return NULL;
-  if (counting) live += 1;
-  return __real_malloc(size);
-}
-
-void *__wrap_realloc(void *block, size_t size) {
-  if (is_refused()) return NULL;
-  if (counting && !block) live += 1;
-  return __real_realloc(block, size);
-}
-
-void __wrap_free(void *block) {
-  if (counting && block) live -= 1;
-  __real_free(block);
-}
-
 // ---- calls
 
-static mergejoin_reply call(const row *it, const mergejoin_text *given, uint8_t *out, size_t buffer) {
+static mergejoin_reply call_within(const row *it, const mergejoin_text *given, uint8_t *out, size_t buffer, size_t limit) {
   const mergejoin_text *rest = given + 1;
   switch (it->export) {
-  case JOIN: return mergejoin_join(given, it->count, out, buffer);
-  case REPLAY: return mergejoin_replay(given->bytes, given->length, rest, it->count - 1, out, buffer);
-  case MERGE: return mergejoin_merge(given->bytes, given->length, rest, it->count - 1, out, buffer);
-  case REWRITE: return mergejoin_rewrite(given->bytes, given->length, rest->bytes, rest->length, out, buffer);
-  case PATCH: return mergejoin_patch(given->bytes, given->length, rest->bytes, rest->length, out, buffer);
-  default: return mergejoin_get(given->bytes, given->length, rest->bytes, rest->length, out, buffer);
+  case JOIN: return mergejoin_join(given, it->count, out, buffer, limit);
+  case REPLAY: return mergejoin_replay(given->bytes, given->length, rest, it->count - 1, out, buffer, limit);
+  case MERGE: return mergejoin_merge(given->bytes, given->length, rest, it->count - 1, out, buffer, limit);
+  case REWRITE: return mergejoin_rewrite(given->bytes, given->length, rest->bytes, rest->length, out, buffer, limit);
+  case PATCH: return mergejoin_patch(given->bytes, given->length, rest->bytes, rest->length, out, buffer, limit);
+  default: return mergejoin_get(given->bytes, given->length, rest->bytes, rest->length, out, buffer, limit);
   }
 }
 
-static char *call_new(const row *it, mergejoin_reply *reply) {
+static mergejoin_reply call(const row *it, const mergejoin_text *given, uint8_t *out, size_t buffer) {
+  return call_within(it, given, out, buffer, SIZE_MAX);
+}
+
+static char *call_new(const row *it, size_t limit, mergejoin_reply *reply) {
   const mergejoin_text *given = it->given, *rest = given + 1;
   switch (it->export) {
-  case JOIN: return mergejoin_join_new(given, it->count, reply);
-  case REPLAY: return mergejoin_replay_new(given->bytes, given->length, rest, it->count - 1, reply);
-  case MERGE: return mergejoin_merge_new(given->bytes, given->length, rest, it->count - 1, reply);
-  case REWRITE: return mergejoin_rewrite_new(given->bytes, given->length, rest->bytes, rest->length, reply);
-  case PATCH: return mergejoin_patch_new(given->bytes, given->length, rest->bytes, rest->length, reply);
-  default: return mergejoin_get_new(given->bytes, given->length, rest->bytes, rest->length, reply);
+  case JOIN: return mergejoin_join_new(given, it->count, limit, reply);
+  case REPLAY: return mergejoin_replay_new(given->bytes, given->length, rest, it->count - 1, limit, reply);
+  case MERGE: return mergejoin_merge_new(given->bytes, given->length, rest, it->count - 1, limit, reply);
+  case REWRITE: return mergejoin_rewrite_new(given->bytes, given->length, rest->bytes, rest->length, limit, reply);
+  case PATCH: return mergejoin_patch_new(given->bytes, given->length, rest->bytes, rest->length, limit, reply);
+  default: return mergejoin_get_new(given->bytes, given->length, rest->bytes, rest->length, limit, reply);
   }
 }
 
 static int is_same(mergejoin_reply one, mergejoin_reply other) {
-  return one.length == other.length && one.first == other.first && one.second == other.second && one.status == other.status;
+  return !memcmp(&one, &other, sizeof one); // there is no padding
 }
 
 static void report(const row *it, const char *what, size_t number, mergejoin_reply reply) {
   wrong += 1;
   if (wrong > 20) return;
-  printf("row %zu, %s %zu: status %u, numbers %zu and %zu, length %zu\n", (size_t)(it - rows) + 1, what, number,
-         reply.status, reply.first, reply.second, reply.length);
+  printf("row %zu, %s %zu: status %u, numbers %zu, %zu and %zu, length %zu\n", (size_t)(it - rows) + 1, what, number,
+         reply.status, reply.first, reply.second, reply.total, reply.length);
 }
 
 // Whether the buffer begins with the row's text, as far as it goes, and has dots after that.
@@ -131,6 +98,31 @@ static void in_buffers(void) {
   printf("%zu calls in buffers of each size, %zu wrong\n", calls, wrong);
 }
 
+// A limit bounds the text of a result: as long as the text it changes nothing, and one byte less is too large, with the buffer as it
+// was. Nothing else is bounded.
+static void within_limits(void) {
+  static const mergejoin_reply too_large = {.status = MERGEJOIN_TOO_LARGE};
+  for (row *it = rows; it < rows + row_count; it += 1) {
+    size_t length = it->reply.length;
+    int is_bounded = it->reply.status == MERGEJOIN_RESULT;
+    uint8_t *buffer = malloc(length + BEHIND);
+    for (size_t number = 0; number < 3; number += 1) {
+      size_t limit = number == 0 ? 0 : length - (number == 1);
+      int fits = !is_bounded || limit == length;
+      memset(buffer, '.', length + BEHIND);
+      mergejoin_reply reply = call_within(it, it->given, buffer, length, limit), made;
+      if (!is_same(reply, fits ? it->reply : too_large) || !is_buffer(it, buffer, length, reply.length))
+        report(it, "limit", limit, reply);
+      char *text = call_new(it, limit, &made);
+      if (!text || !is_same(made, reply) || memcmp(text, it->text, made.length) || text[made.length])
+        report(it, "helper, limit", limit, made);
+      free(text);
+    }
+    free(buffer);
+  }
+  printf("%zu rows within limits, %zu wrong\n", row_count, wrong);
+}
+
 // What is borrowed, and the buffer, in blocks of their own that end where they end.
 static void in_blocks(void) {
   for (row *it = rows; it < rows + row_count; it += 1) {
@@ -158,13 +150,15 @@ static void in_blocks(void) {
 static void in_buffers_of_their_own(void) {
   for (row *it = rows; it < rows + row_count; it += 1) {
     mergejoin_reply reply;
-    char *text = call_new(it, &reply);
+    char *text = call_new(it, SIZE_MAX, &reply);
     if (!text || !is_same(reply, it->reply) || memcmp(text, it->text, reply.length) || text[reply.length])
       report(it, "a buffer of its own", 0, reply);
     free(text);
   }
   printf("%zu rows in buffers of their own, %zu wrong\n", row_count, wrong);
 }
+
+static const mergejoin_reply no_memory = {.status = MERGEJOIN_NO_MEMORY};
 
 // Request number `refused_at` is refused, or each from it on: out of memory, with the buffer as it was, or the answer.
 static int is_refused_well(const row *it, uint8_t *buffer, mergejoin_reply *reply) {
@@ -174,16 +168,16 @@ static int is_refused_well(const row *it, uint8_t *buffer, mergejoin_reply *repl
   counting = 0;
   if (live) return 0;
   if (is_same(*reply, it->reply)) return is_buffer(it, buffer, it->reply.length, reply->length);
-  return refusals && reply->status == MERGEJOIN_NO_MEMORY && !reply->length && !reply->first && !reply->second &&
+  return refusals && is_same(*reply, no_memory) &&
          is_buffer(it, buffer, 0, 0) && is_buffer(it, buffer + it->reply.length, 0, 0);
 }
 
 // The helper under the same heap gives a text, or none and says so.
 static int is_made_well(const row *it, mergejoin_reply *reply) {
   requests = refusals = 0, live = 0, counting = 1;
-  char *text = call_new(it, reply);
+  char *text = call_new(it, SIZE_MAX, reply);
   int well = text ? is_same(*reply, it->reply) && !memcmp(text, it->text, reply->length)
-                  : refusals && reply->status == MERGEJOIN_NO_MEMORY && !reply->length;
+                  : refusals && is_same(*reply, no_memory);
   free(text);
   counting = 0;
   return well && !live;
@@ -236,34 +230,17 @@ typedef struct measured {
   mergejoin_reply reply;
 } measured;
 
-static void *on_a_stack(void *call_of) {
+static void on_a_stack(void *call_of) {
   measured *here = call_of;
   if (here->it) here->reply = call(here->it, here->it->given, stack_buffer, sizeof stack_buffer);
-  return NULL;
-}
-
-// How many bytes of a fresh stack a thread touched that makes the call, or makes none.
-static size_t stack_of(measured *here) {
-  uint8_t *stack = mmap(NULL, STACK, PROT_READ | PROT_WRITE, MAP_PRIVATE | MAP_ANONYMOUS, -1, 0);
-  pthread_attr_t how;
-  pthread_t thread;
-  size_t place = 0;
-  memset(stack, 0xa5, STACK);
-  pthread_attr_init(&how);
-  pthread_attr_setstack(&how, stack, STACK);
-  wrong += pthread_create(&thread, &how, on_a_stack, here) != 0;
-  pthread_join(thread, NULL);
-  while (place < STACK && stack[place] == 0xa5) place += 1;
-  munmap(stack, STACK);
-  return STACK - place;
 }
 
 static void on_stacks(void) {
   measured idle = {0};
-  size_t most = 0, none = stack_of(&idle);
+  size_t most = 0, none = stack_of(on_a_stack, &idle);
   for (row *it = rows; it < rows + row_count; it += 1) {
     measured here = {.it = it};
-    size_t size = stack_of(&here) - none;
+    size_t size = stack_of(on_a_stack, &here) - none;
     if (!is_same(here.reply, it->reply) || memcmp(stack_buffer, it->text, it->reply.length)) report(it, "stack", size, here.reply);
     printf("row %zu: %zu bytes\n", (size_t)(it - rows) + 1, size);
     if (size > most) most = size;
@@ -287,7 +264,8 @@ static void read_rows(void) {
   while (fgets(line, sizeof line, stdin)) {
     row *it = &rows[row_count++];
     int head = 0;
-    sscanf(line, "%u %u %zu %zu %n", &it->export, &it->reply.status, &it->reply.first, &it->reply.second, &head);
+    mergejoin_reply *reply = &it->reply;
+    sscanf(line, "%u %u %zu %zu %zu %n", &it->export, &reply->status, &reply->first, &reply->second, &reply->total, &head);
     char *at = line + head;
     mergejoin_text text = next_text(&at);
     it->text = text.bytes;
@@ -300,7 +278,7 @@ static void read_rows(void) {
 
 int main(int count, char **words) {
   static const struct { const char *name; void (*run)(void); } ways[] = {
-      {"buffers", in_buffers}, {"blocks", in_blocks}, {"own", in_buffers_of_their_own},
+      {"buffers", in_buffers}, {"limits", within_limits}, {"blocks", in_blocks}, {"own", in_buffers_of_their_own},
       {"refused", with_a_heap_that_refuses}, {"threads", in_threads}, {"stack", on_stacks}};
   read_rows();
   for (size_t number = 0; count == 2 && number < sizeof ways / sizeof *ways; number += 1) {

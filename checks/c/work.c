@@ -19,12 +19,12 @@ static mergejoin_text texts[MOST_TEXTS];
 static mergejoin_reply call(uint64_t export, size_t count) {
   const mergejoin_text *first = texts, *rest = texts + 1;
   switch (export) {
-  case JOIN: return mergejoin_join(texts, count, buffer, sizeof buffer);
-  case REPLAY: return mergejoin_replay(first->bytes, first->length, rest, count - 1, buffer, sizeof buffer);
-  case MERGE: return mergejoin_merge(first->bytes, first->length, rest, count - 1, buffer, sizeof buffer);
-  case REWRITE: return mergejoin_rewrite(first->bytes, first->length, rest->bytes, rest->length, buffer, sizeof buffer);
-  case PATCH: return mergejoin_patch(first->bytes, first->length, rest->bytes, rest->length, buffer, sizeof buffer);
-  default: return mergejoin_get(first->bytes, first->length, rest->bytes, rest->length, buffer, sizeof buffer);
+  case JOIN: return mergejoin_join(texts, count, buffer, sizeof buffer, SIZE_MAX);
+  case REPLAY: return mergejoin_replay(first->bytes, first->length, rest, count - 1, buffer, sizeof buffer, SIZE_MAX);
+  case MERGE: return mergejoin_merge(first->bytes, first->length, rest, count - 1, buffer, sizeof buffer, SIZE_MAX);
+  case REWRITE: return mergejoin_rewrite(first->bytes, first->length, rest->bytes, rest->length, buffer, sizeof buffer, SIZE_MAX);
+  case PATCH: return mergejoin_patch(first->bytes, first->length, rest->bytes, rest->length, buffer, sizeof buffer, SIZE_MAX);
+  default: return mergejoin_get(first->bytes, first->length, rest->bytes, rest->length, buffer, sizeof buffer, SIZE_MAX);
   }
 }
 

@@ -10,7 +10,7 @@ from calls import TOP
 # The distribution's own interpreter, which has what makes a package.
 PYTHON = "/usr/bin/python3"
 SOURCES = TOP / "bindings/python"
-LIBRARY = TOP / "out/lib/libmergejoin.so.0"
+LIBRARY = TOP / "out/lib/libmergejoin.so.1"
 NEEDED = {"pip": "python3-pip", "venv": "python3-venv", "setuptools": "python3-setuptools", "wheel": "python3-wheel"}
 WHEEL = "mergejoin-{}-py3-none-linux_x86_64.whl"
 SETTING = {"PATH": "/usr/bin:/bin", "PIP_DISABLE_PIP_VERSION_CHECK": "1", "PIP_ROOT_USER_ACTION": "ignore",

@@ -20,7 +20,7 @@ sys.path.insert(0, str(TOP / "checks/common"))
 import table
 from rows import EXPORTS
 
-LIBRARY = TOP / "out/lib/libmergejoin.so.0"
+LIBRARY = TOP / "out/lib/libmergejoin.so.1"
 WORKLOADS = TOP / "crates/workloads/out/workloads"
 RUNS = TOP / "crates/replica_runs/out/replica_runs"
 # The jobs of the benchmark, each with one of its inputs and this seed.

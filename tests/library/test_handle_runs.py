@@ -1,0 +1,154 @@
+"""Random runs of calls of handles reply what a model replies that has all texts, and makes the six calls over them anew each time."""
+
+import ctypes
+import json
+import random
+
+import pytest
+
+import driving
+from driving import CONFLICT, NO_PATCHES, RESULT, call, each
+
+RUNS, CALLS = 150, 30
+
+
+class Text(ctypes.Structure):
+    _fields_ = [("bytes", ctypes.c_char_p), ("length", ctypes.c_size_t)]
+
+
+class Reply(ctypes.Structure):
+    _fields_ = [(name, ctypes.c_size_t) for name in ("length", "first", "second", "total", "spare")] + [
+        (name, ctypes.c_uint32) for name in ("status", "flags")]
+
+
+class Six:
+    """The calls that keep nothing: each gives the status, the total and the text."""
+
+    def __init__(self):
+        self.library = ctypes.CDLL(str(driving.SHARED))
+
+    def __call__(self, name, *given):
+        words = []
+        for it in given:
+            words += [it] if isinstance(it, bytes) else [(Text * max(1, len(it)))(*[(text, len(text)) for text in it])]
+            words.append(ctypes.c_size_t(len(it)))
+        buffer = ctypes.create_string_buffer(1 << 16)
+        function = getattr(self.library, f"mergejoin_{name}")
+        function.restype = Reply
+        reply = function(*words, buffer, ctypes.c_size_t(len(buffer)), ctypes.c_size_t(-1 % 2**64))
+        return reply.status, reply.total, buffer.raw[:reply.length]
+
+
+class Replica:
+    """What a replica replies: the status, the total and the text."""
+
+    def __init__(self, six, start):
+        self.six, self.given, self.received = six, start, []
+
+    def receive(self, patch):
+        status, total, places = self.six("join", [self.joined()[2], patch] if self.received else [patch])
+        if status == CONFLICT:
+            return status, total, places
+        self.received.append(patch)
+        return RESULT, 0, b""
+
+    def document(self):
+        return self.six("replay", self.given, self.received)
+
+    def joined(self):
+        return self.six("join", self.received)
+
+    def get(self, pointer):
+        return self.six("get", self.document()[2], pointer)
+
+
+class Patches:
+    """What patches reply: they have the texts that they took, or the places of the first conflict."""
+
+    def __init__(self, six):
+        self.six, self.taken, self.places = six, [], None
+
+    def add(self, patch):
+        return self.take([patch], None)
+
+    def combine(self, other):
+        taken, places = other.taken, other.places
+        other.taken, other.places = [], None
+        return self.take(taken, places)
+
+    def take(self, taken, places):
+        joined = [text for texts in (self.taken, taken) if texts for text in [self.six("join", texts)[2]]]
+        self.taken, self.places = self.taken + taken, self.places or places
+        if self.places is None and self.taken:
+            status, _, text = self.six("join", joined)
+            self.places = text if status == CONFLICT else None
+        return self.said() or (RESULT, 0, b"")
+
+    def said(self):
+        return self.places and (CONFLICT, len(json.loads(self.places)), self.places)
+
+    def text(self):
+        return self.said() or self.six("join", self.taken)
+
+    def kept(self):
+        if self.places:
+            return RESULT, 0, b"!" + self.places
+        status, total, text = self.text()
+        return (RESULT, 0, b"") if status == NO_PATCHES else (status, total, text)
+
+    def from_kept(self, kept):
+        is_conflict = kept.startswith(b"!")
+        self.taken, self.places = ([], kept[1:]) if is_conflict else ([kept] if kept else [], None)
+        return self.said() or (RESULT, 0, b"")
+
+
+def document(some, depth=3):
+    kind = some.random()
+    if depth and kind < 0.7:
+        return {some.choice("abcd/~"): document(some, depth - 1) for _ in range(some.randrange(4))}
+    return some.choice([None, None, 0, 1, "text", [0, {"a": None}], {}, True])
+
+
+def text(some):
+    return driving.written(document(some)).encode()
+
+
+def replica_run(six, some):
+    """Gives lines of the script, and what the model replies to each."""
+    start = text(some)
+    model = Replica(six, start)
+    yield call("start", 0, start), (RESULT, 0, b"")
+    for _ in range(CALLS):
+        what = some.choice(["receive"] * 4 + ["document", "joined", "get"])
+        given = {"receive": text(some), "get": some.choice([b"", b"/a", b"/a/b", b"/c", b"/~1", b"x"])}.get(what)
+        yield call(what, 0, given or b""), getattr(model, what)(*[] if given is None else [given])
+
+
+def patches_run(six, some):
+    models = [Patches(six) for _ in range(3)]
+    for _ in range(CALLS):
+        one, other = some.sample(range(3), 2)
+        what = some.choice(["add"] * 5 + ["combine", "text", "kept", "from"])
+        if what == "from":
+            kept = models[other].kept()[2]
+            yield call(what, one, kept), models[one].from_kept(kept)
+        elif what == "combine":
+            yield call(what, one, b"", other), models[one].combine(models[other])
+        elif what == "add":
+            patch = driving.written({some.choice("abcdefghijkl"): document(some, 1)}).encode()
+            yield call(what, one, patch), models[one].add(patch)
+        else:
+            yield call(what, one), getattr(models[one], what)()
+
+
+@pytest.mark.parametrize("way", ["buffer", "new"])
+@pytest.mark.parametrize("run", [replica_run, patches_run])
+def test_a_run_replies_what_the_texts_do(driver, run, way):
+    seen, six = set(), Six()
+    for seed in range(RUNS):
+        made = list(run(six, random.Random(seed)))
+        found, = each([driver, way], [[line for line, _ in made]])
+        for number, (reply, (line, wanted)) in enumerate(zip(found, made)):
+            assert (reply.status, reply.total, reply.text.encode()) == wanted, (seed, number, line, reply, wanted)
+            seen.add((reply.name, reply.status))
+    assert len(seen) >= 6 and {status for _, status in seen} >= {RESULT, CONFLICT, NO_PATCHES}
