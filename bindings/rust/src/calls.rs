@@ -1,0 +1,62 @@
+//! The one place that calls with a buffer.
+
+use crate::raw::{Reply, RESULT};
+use crate::Error;
+
+/// A buffer has so many bytes more than the guess. No text but a result, a list of places and a kept form is longer than
+/// this.
+const LEAST: usize = 64;
+
+/// Calls with a buffer of so many bytes and a few more, and once more if the text is longer. It gives the text of a
+/// result, or why there is none.
+///
+/// # Safety
+///
+/// With a buffer and its capacity the call writes the first `length` bytes of its reply's text, as many as fit, and
+/// nothing else. It may be made again if they did not fit.
+pub(crate) unsafe fn text_of(
+    guess: usize,
+    mut call: impl FnMut(*mut u8, usize) -> Reply,
+) -> Result<String, Error> {
+    let most = guess.saturating_add(LEAST);
+    let mut buffer = buffer_of(most).or_else(|_| buffer_of(LEAST))?; // the text may be shorter than the guess
+    loop {
+        let reply = call(buffer.as_mut_ptr(), buffer.capacity());
+        if reply.length <= buffer.capacity() {
+            // SAFETY: the call has written so many bytes, and the buffer has them.
+            unsafe { buffer.set_len(reply.length) };
+            let text = String::from_utf8(buffer).expect("the library writes UTF-8");
+            return result_of(&reply, text);
+        }
+        drop(buffer);
+        buffer = buffer_of(reply.length)?;
+    }
+}
+
+/// Calls once, with a buffer of a few bytes, and gives the status and the text's beginning.
+///
+/// # Safety
+///
+/// As of [`text_of`].
+pub(crate) unsafe fn status_of(call: impl FnOnce(*mut u8, usize) -> Reply) -> (Reply, String) {
+    let mut buffer = [0; LEAST];
+    let reply = call(buffer.as_mut_ptr(), LEAST);
+    let shown = &buffer[..reply.length.min(LEAST)];
+    (reply, String::from_utf8_lossy(shown).into_owned())
+}
+
+fn buffer_of(capacity: usize) -> Result<Vec<u8>, Error> {
+    let mut buffer = Vec::new();
+    let reserved = buffer.try_reserve_exact(capacity);
+    reserved.map(|()| buffer).map_err(|_| Error::NoMemory)
+}
+
+fn result_of(reply: &Reply, mut text: String) -> Result<String, Error> {
+    if reply.status != RESULT {
+        return Err(Error::of(reply, text));
+    }
+    if text.capacity() / 2 > text.len() {
+        text.shrink_to_fit();
+    }
+    Ok(text)
+}

@@ -1,0 +1,145 @@
+//! Why there is no text.
+
+use crate::raw::{Reply, CONFLICT, PENDING};
+use crate::{places, DocumentCause, FormCause, PointerCause, RefusedCause};
+use std::fmt;
+
+/// Why there is no text. Patches and operations are numbered from 0.
+#[derive(Clone, Debug, PartialEq, Eq)]
+#[non_exhaustive]
+pub enum Error {
+    /// Patches conflict.
+    Conflict {
+        /// The numbers of the two, of a list: the second is the least number of a patch that conflicts with an earlier one,
+        /// and the first the least of those. [`Replica`](crate::Replica) and [`Patches`](crate::Patches) keep no numbers.
+        patches: Option<(usize, usize)>,
+        /// All places at which they conflict, as JSON Pointers, in the order of paths.
+        places: Vec<String>,
+    },
+    /// There are no patches to join.
+    NoPatches,
+    /// An operation of the JSON Patch is refused.
+    Refused {
+        /// Its number.
+        operation: usize,
+        /// The first cause that is true.
+        cause: RefusedCause,
+    },
+    /// The document has no part there.
+    Missing,
+    /// The document, or the start, is not one.
+    Document(DocumentCause),
+    /// A patch is not a document.
+    Patch {
+        /// Its number; 0 of a single patch.
+        number: usize,
+        /// Why it is not one.
+        cause: DocumentCause,
+    },
+    /// The document that is given as a JSON Patch is not one.
+    Form {
+        /// The number of what is not an operation; 0 if the document is not an array.
+        operation: usize,
+        /// Why it is not one.
+        cause: FormCause,
+    },
+    /// The text is not a JSON Pointer.
+    Pointer {
+        /// Where it goes wrong, in bytes.
+        offset: usize,
+        /// Why it is not one.
+        cause: PointerCause,
+    },
+    /// The text is not the kept form of patches.
+    NotKept,
+    /// A patch was received, and memory ran out before it can be shown. The next call tries again; nothing is lost.
+    Pending,
+    /// The result's text is longer than the limit that was set.
+    TooLarge,
+    /// Memory ran out.
+    NoMemory,
+    /// What a later library may report.
+    Unknown {
+        /// The status.
+        status: u32,
+        /// The words.
+        words: String,
+    },
+}
+
+impl Error {
+    /// Why a call with this reply and this text has no result.
+    pub(crate) fn of(reply: &Reply, text: String) -> Self {
+        Self::known(reply, &text).unwrap_or(Error::Unknown {
+            status: reply.status,
+            words: text,
+        })
+    }
+
+    fn known(reply: &Reply, words: &str) -> Option<Self> {
+        let number = reply.first;
+        Some(match reply.status {
+            CONFLICT => Error::Conflict {
+                patches: (number < reply.second).then_some((number, reply.second)),
+                places: places::read(words, reply.total),
+            },
+            2 => Error::NoPatches,
+            3 => Error::Refused {
+                operation: number,
+                cause: RefusedCause::of(words)?,
+            },
+            4 => Error::Missing,
+            5 if words == "not kept patches" => Error::NotKept,
+            5 => Error::Document(DocumentCause::of(words)?),
+            6 => Error::Patch {
+                number,
+                cause: DocumentCause::of(words)?,
+            },
+            7 => Error::Form {
+                operation: number,
+                cause: FormCause::of(words)?,
+            },
+            8 => Error::Pointer {
+                offset: number,
+                cause: PointerCause::of(words)?,
+            },
+            9 => Error::NoMemory,
+            PENDING => Error::Pending,
+            11 => Error::TooLarge,
+            _ => return None,
+        })
+    }
+}
+
+impl fmt::Display for Error {
+    fn fmt(&self, to: &mut fmt::Formatter<'_>) -> fmt::Result {
+        match self {
+            Error::Conflict { patches, places } => {
+                to.write_str("conflict")?;
+                if let Some((first, second)) = patches {
+                    write!(to, ": patches {first} and {second}")?;
+                }
+                write!(to, " at {}", places::Quoted(places))
+            }
+            Error::NoPatches => to.write_str("no patches"),
+            Error::Refused { operation, cause } => write!(to, "operation {operation}: {cause}"),
+            Error::Missing => to.write_str("missing"),
+            Error::Document(cause) => write!(to, "document: {cause}"),
+            Error::Patch { number, cause } => write!(to, "patch {number}: {cause}"),
+            Error::Form { cause, .. } if *cause == FormCause::NotAnArray => write!(to, "{cause}"),
+            Error::Form { operation, cause } => write!(to, "operation {operation}: {cause}"),
+            Error::Pointer { cause, .. } if *cause == PointerCause::NoSlash => {
+                write!(to, "pointer: {cause}")
+            }
+            Error::Pointer { offset, cause } => write!(to, "pointer: {cause} at {offset}"),
+            Error::NotKept => to.write_str("not kept patches"),
+            Error::Pending => to.write_str("pending"),
+            Error::TooLarge => to.write_str("too large"),
+            Error::NoMemory => to.write_str("out of memory"),
+            Error::Unknown { status, words } => write!(to, "status {status}: {words}"),
+        }
+    }
+}
+
+// `source` gives nothing: what an error shows has the words of its cause, which a report of all sources would show again.
+impl std::error::Error for Error {}

@@ -1,0 +1,233 @@
+//! The six functions: what they take, their results, and each error.
+
+use mergejoin::{
+    get, join, merge, patch, replay, rewrite, within, DocumentCause, Error, FormCause,
+    PointerCause, RefusedCause,
+};
+
+fn text(it: &str) -> String {
+    it.to_owned()
+}
+
+#[test]
+fn each_function_has_a_result() {
+    assert_eq!(join(["[1]", " [1]"]), Ok(text("[1]")));
+    assert_eq!(
+        replay(r#"{"k":0}"#, [r#"{"a":1}"#, r#"{"k":null}"#]),
+        Ok(text(r#"{"a":1}"#))
+    );
+    assert_eq!(merge("1", ["2", "3"]), Ok(text("3")));
+    assert_eq!(rewrite("5", "5"), Ok(text("[]")));
+    let edit = r#"[{"op":"remove","path":"/0"}]"#;
+    assert_eq!(patch("[1]", edit), Ok(text("[]")));
+    assert_eq!(get("5", ""), Ok(text("5")));
+}
+
+#[test]
+fn texts_are_of_each_kind() {
+    let owned = vec![text("[1]"), text("[1]")];
+    let bytes: &[&[u8]] = &[b"[1]", b"[1]"];
+    let vectors = [b"[1]".to_vec(), b"[1]".to_vec()];
+    for joined in [
+        join(&owned),
+        join(owned.iter().rev()),
+        join(owned.clone()),
+        join(owned.iter().map(String::as_bytes)),
+        join(bytes),
+        join(&vectors),
+        join(vectors),
+        join(std::iter::repeat("[1]").take(3)),
+    ] {
+        assert_eq!(joined, Ok(text("[1]")));
+    }
+    assert_eq!(replay(*b"1", &owned[..0]), Ok(text("1")));
+    assert_eq!(merge(vec![b'1'], owned), Ok(text("[1]")));
+    assert_eq!(get(b"[1]", text("/0")), Ok(text("1")));
+}
+
+#[test]
+fn a_conflict_has_all_its_places() {
+    let names = [
+        "\\b\\f\\n\\r\\t\\u0001\\u001f",
+        "\\\",",
+        "\\\\",
+        "a/b",
+        "é",
+        "\u{1f600}",
+    ];
+    let with = |value| {
+        format!(
+            "{{{}}}",
+            names.map(|name| format!("\"{name}\":{value}")).join(",")
+        )
+    };
+    let places = [
+        "/\u{8}\u{c}\n\r\t\u{1}\u{1f}",
+        "/\",",
+        "/\\",
+        "/a~1b",
+        "/é",
+        "/\u{1f600}",
+    ];
+    let wanted = Error::Conflict {
+        patches: Some((0, 2)),
+        places: places.map(text).to_vec(),
+    };
+    let given = [with(1), text(r#"{"other":1}"#), with(2)];
+    let shown = r#"conflict: patches 0 and 2 at "/\b\f\n\r\t\u0001\u001f", "/\",", "/\\", "/a~1b", "/é", "/😀""#;
+    assert_eq!(wanted.to_string(), shown);
+    assert_eq!(join(&given), Err(wanted.clone()));
+    assert_eq!(replay("5", given), Err(wanted));
+}
+
+#[test]
+fn each_error_is_reported() {
+    let none: [&str; 0] = [];
+    assert_eq!(join(none), Err(Error::NoPatches));
+    assert_eq!(get("1", "/a"), Err(Error::Missing));
+    let cause = DocumentCause::NotWhole;
+    assert_eq!(merge("1.5", ["["]), Err(Error::Document(cause)));
+    let (number, cause) = (1, DocumentCause::NotJson);
+    assert_eq!(merge("1", ["1", ""]), Err(Error::Patch { number, cause }));
+    let not_utf8: [&[u8]; 2] = [b"1", b"\"\xff\""];
+    assert_eq!(merge("1", not_utf8), Err(Error::Patch { number, cause }));
+    let (offset, cause) = (1, PointerCause::BadTilde);
+    assert_eq!(get("1", "/~2"), Err(Error::Pointer { offset, cause }));
+    let (offset, cause) = (0, PointerCause::NoSlash);
+    assert_eq!(get("1", "a"), Err(Error::Pointer { offset, cause }));
+    let deep = "[".repeat(127) + &"]".repeat(127);
+    let cause = DocumentCause::TooDeep;
+    assert_eq!(rewrite(deep, "1"), Err(Error::Document(cause)));
+}
+
+/// Why the second of two operations is refused.
+fn refusal(document: &str, operation: &str) -> Option<RefusedCause> {
+    let edits = format!(r#"[{{"op":"copy","from":"","path":""}},{operation}]"#);
+    match patch(document, edits) {
+        Err(Error::Refused {
+            operation: 1,
+            cause,
+        }) => Some(cause),
+        _ => None,
+    }
+}
+
+#[test]
+fn each_cause_of_a_refusal_is_reported() {
+    let deep = "[".repeat(126) + &"]".repeat(126);
+    let moved = r#"{"op":"move","from":"","path":"/a"}"#;
+    assert_eq!(refusal("{}", moved), Some(RefusedCause::IntoItself));
+    let removed = r#"{"op":"remove","path":""}"#;
+    assert_eq!(refusal("{}", removed), Some(RefusedCause::RemoveOfRoot));
+    let removed = r#"{"op":"remove","path":"/a"}"#;
+    assert_eq!(refusal("{}", removed), Some(RefusedCause::Missing));
+    let added = r#"{"op":"add","path":"/a/b","value":1}"#;
+    assert_eq!(refusal("{}", added), Some(RefusedCause::NoPlace));
+    let copied = r#"{"op":"copy","from":"","path":"/0"}"#;
+    assert_eq!(refusal(&deep, copied), Some(RefusedCause::TooDeep));
+    let tested = r#"{"op":"test","path":"","value":2}"#;
+    assert_eq!(refusal("1", tested), Some(RefusedCause::TestFailed));
+}
+
+#[test]
+fn each_cause_of_a_form_is_reported() {
+    for (edit, cause) in [
+        ("1", FormCause::NotAnObject),
+        ("{}", FormCause::NoOp),
+        (r#"{"op":"edit"}"#, FormCause::UnknownOp),
+        (r#"{"op":"add"}"#, FormCause::NoPath),
+        (r#"{"op":"copy","path":""}"#, FormCause::NoFrom),
+        (
+            r#"{"op":"add","path":"a","value":1}"#,
+            FormCause::BadPointer,
+        ),
+        (r#"{"op":"add","path":""}"#, FormCause::NoValue),
+    ] {
+        let edits = format!(r#"[{{"op":"test","path":"","value":1}},{edit}]"#);
+        let operation = 1;
+        assert_eq!(patch("1", edits), Err(Error::Form { operation, cause }));
+    }
+    let (operation, cause) = (0, FormCause::NotAnArray);
+    assert_eq!(patch("1", "{}"), Err(Error::Form { operation, cause }));
+}
+
+#[test]
+fn an_error_begins_with_the_words_of_the_program() {
+    let shown = |answer: Result<String, Error>| answer.unwrap_err().to_string();
+    let two = [
+        r#"{"a":{"\"\n\u0001":1}}"#,
+        r#"{"a":{"\"\n\u0001":2},"b":3}"#,
+    ];
+    assert_eq!(
+        shown(join(two)),
+        r#"conflict: patches 0 and 1 at "/a/\"\n\u0001""#
+    );
+    let more = [r#"{"a":1,"b":1}"#, r#"{"a":2,"b":2}"#];
+    assert_eq!(
+        shown(join(more)),
+        r#"conflict: patches 0 and 1 at "/a", "/b""#
+    );
+    assert_eq!(shown(join([""; 0])), "no patches");
+    assert_eq!(shown(patch("1", "[{}]")), "operation 0: no op");
+    assert_eq!(shown(patch("1", "{}")), "not an array");
+    assert_eq!(shown(get("1", "x")), "pointer: no slash");
+    assert_eq!(shown(get("1", "/~2")), "pointer: bad tilde at 1");
+    assert_eq!(shown(get("1", "/a")), "missing");
+    assert_eq!(shown(merge("1", ["["])), "patch 0: not JSON");
+    assert_eq!(shown(merge("", ["["])), "document: not JSON");
+    let edit = r#"[{"op":"test","path":"","value":2}]"#;
+    assert_eq!(shown(patch("1", edit)), "operation 0: test failed");
+}
+
+#[test]
+fn causes_and_errors_are_errors() {
+    let boxed: Box<dyn std::error::Error + Send + Sync> = Box::new(PointerCause::BadTilde);
+    assert_eq!(format!("{boxed:>10}"), " bad tilde");
+    let boxed: Box<dyn std::error::Error + Send + Sync> = join([""; 0]).unwrap_err().into();
+    assert!(boxed.source().is_none());
+}
+
+#[test]
+fn a_long_answer_is_asked_for_again() {
+    for length in (0..150).chain([5000]) {
+        let document = format!(r#"{{"a":"{}"}}"#, "x".repeat(length));
+        let copy = r#"[{"op":"copy","from":"/a","path":"/b"}]"#;
+        let copied = patch(&document, copy).unwrap();
+        assert_eq!(copied.len(), 15 + 2 * length);
+    }
+}
+
+#[test]
+fn a_limit_is_of_the_result() {
+    let (document, merged) = (r#"{"a":1}"#, r#"{"a":1,"b":2}"#);
+    let (add, edits) = (r#"{"b":2}"#, r#"[{"op":"add","path":"/b","value":2}]"#);
+    let call = |limit| {
+        let within = within(limit);
+        [
+            within.join([document, add]),
+            within.replay(document, [add]),
+            within.merge(document, [add]),
+            within.patch(document, edits),
+            within.get(merged, ""),
+            within.rewrite(document, add),
+        ]
+    };
+    let [five @ .., rewritten] = call(merged.len());
+    assert_eq!(five, [(); 5].map(|()| Ok(text(merged))));
+    assert_eq!(rewritten, Err(Error::TooLarge));
+    assert_eq!(call(edits.len())[5].as_deref(), Ok(edits));
+    assert_eq!(
+        call(merged.len() - 1),
+        [(); 6].map(|()| Err(Error::TooLarge))
+    );
+    assert_eq!(within(0).get(document, "/b"), Err(Error::Missing));
+    assert!(within(0).join([document, "1"]).is_err());
+}
+
+#[test]
+fn what_is_not_needed_is_given_back() {
+    let long = format!(r#"{{"a":"{}","b":5}}"#, "x".repeat(100_000));
+    for part in [get(&long, "/b").unwrap(), rewrite(&long, "{}").unwrap()] {
+        assert!(part.capacity() < 1000, "{}", part.capacity());
+    }
+}

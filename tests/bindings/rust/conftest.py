@@ -1,0 +1,37 @@
+"""The crate for Rust in a directory of its own, over the library that bin/library has made."""
+
+import os
+import pathlib
+import shutil
+import subprocess
+
+import pytest
+
+TOP = pathlib.Path(__file__).resolve().parents[3]
+LIBRARY = TOP / "out/lib"
+ARCHIVE = LIBRARY / "libmergejoin.a"
+
+
+@pytest.fixture(scope="session", name="crate")
+def crate_of_its_own(tmp_path_factory):
+    if not shutil.which("cargo"):
+        (pytest.fail if os.environ.get("MERGEJOIN_ALL_CHECKS") else pytest.skip)("not installed: cargo")
+    assert ARCHIVE.is_file(), f"{ARCHIVE} is not there: bin/library makes it"
+    place = tmp_path_factory.mktemp("crate") / "rust"
+    shutil.copytree(TOP / "bindings/rust", place, ignore=shutil.ignore_patterns("target", "Cargo.lock"))
+    return place
+
+
+@pytest.fixture(scope="session", name="cargo")
+def command_in_the_crate(crate):
+    def cargo(*words, **setting):
+        """Runs cargo offline, and gives what it prints, which has to be without a warning."""
+        environment = {"MERGEJOIN_LIB": str(LIBRARY), "CARGO_TARGET_DIR": str(crate.parent / "target"), **setting}
+        kept = {name: value for name, value in (os.environ | environment).items() if value}
+        words = ["cargo", words[0], "--offline", *words[1:]]
+        done = subprocess.run(words, cwd=crate, env=kept, capture_output=True, text=True, timeout=600, check=False)
+        assert done.returncode == 0, done.stdout + done.stderr
+        assert "warning" not in done.stderr
+        return done.stdout
+
+    return cargo
