@@ -13,6 +13,10 @@
 
 /* The most bytes that a value can have after its header. */
 #define LONGEST (MaxAllocSize - VARHDRSZ)
+/* A rewriting has a test and an edit for each change, each with its path: at most about so many bytes for a byte of the patch. */
+#define REWRITTEN 16
+
+#define TOO_LONG "the result is longer than a value can be"
 
 /* Borrows the bytes of a value, which is not compressed nor out of line, and stays its owner's. */
 mergejoin_text borrowed(const text *value) {
@@ -27,17 +31,17 @@ static mergejoin_reply called(const Request *request, uint8_t *buffer, size_t ca
 
   switch (request->export) {
     case EXPORT_JOIN:
-      return mergejoin_join(texts, request->count, buffer, capacity);
+      return mergejoin_join(texts, request->count, buffer, capacity, LONGEST);
     case EXPORT_REPLAY:
-      return mergejoin_replay(document->bytes, document->length, texts, request->count, buffer, capacity);
+      return mergejoin_replay(document->bytes, document->length, texts, request->count, buffer, capacity, LONGEST);
     case EXPORT_MERGE:
-      return mergejoin_merge(document->bytes, document->length, texts, request->count, buffer, capacity);
+      return mergejoin_merge(document->bytes, document->length, texts, request->count, buffer, capacity, LONGEST);
     case EXPORT_REWRITE:
-      return mergejoin_rewrite(document->bytes, document->length, texts->bytes, texts->length, buffer, capacity);
+      return mergejoin_rewrite(document->bytes, document->length, texts->bytes, texts->length, buffer, capacity, LONGEST);
     case EXPORT_PATCH:
-      return mergejoin_patch(document->bytes, document->length, texts->bytes, texts->length, buffer, capacity);
+      return mergejoin_patch(document->bytes, document->length, texts->bytes, texts->length, buffer, capacity, LONGEST);
     case EXPORT_GET:
-      return mergejoin_get(document->bytes, document->length, texts->bytes, texts->length, buffer, capacity);
+      return mergejoin_get(document->bytes, document->length, texts->bytes, texts->length, buffer, capacity, LONGEST);
   }
   pg_unreachable();
 }
@@ -49,16 +53,25 @@ static void want_utf8(void) {
             errdetail("The encoding of this database is %s.", GetDatabaseEncodingName()));
 }
 
+/* Returns how many bytes the text is likely to have: as many as all that is read, and of a rewriting some times the patch. */
+static size_t likely_length(const Request *request) {
+  size_t length = request->document.length;
+
+  for (size_t number = 0; number < request->count; number += 1) length += request->texts[number].length;
+  if (request->export == EXPORT_REWRITE) length += REWRITTEN * request->texts->length;
+  return length + 64;
+}
+
 /*
- * Calls the library, with a buffer as long as all that is read, and once more if the text is longer. The value is made in
- * the current memory context, and is its caller's.
+ * Calls the library, with a buffer as long as the text is likely to be, and once more if the text is longer. The value is
+ * made in the current memory context, and is its caller's. The library has the limit for a result; the places of a conflict
+ * have it here.
  */
 Answer answer_of(const Request *request) {
   Answer answer;
-  size_t size = request->document.length + 64;
+  size_t size = likely_length(request);
 
   want_utf8();
-  for (size_t number = 0; number < request->count; number += 1) size += request->texts[number].length;
   for (;;) {
     size = Min(size, LONGEST);
     answer.value = palloc(VARHDRSZ + size);
@@ -67,7 +80,7 @@ Answer answer_of(const Request *request) {
     answer.reply = called(request, (uint8_t *)VARDATA(answer.value), size);
     if (answer.reply.length <= size) break;
     if (answer.reply.length > LONGEST)
-      ereport(ERROR, errcode(ERRCODE_PROGRAM_LIMIT_EXCEEDED), errmsg("the result is longer than a value can be"),
+      ereport(ERROR, errcode(ERRCODE_PROGRAM_LIMIT_EXCEEDED), errmsg(TOO_LONG),
               errdetail("It has %zu bytes.", answer.reply.length));
     size = answer.reply.length;
     pfree(answer.value);
@@ -120,6 +133,10 @@ void refuse(const Answer *answer) {
     case MERGEJOIN_NO_MEMORY:
       ereport(ERROR, errcode(ERRCODE_OUT_OF_MEMORY), errmsg("out of memory"),
               errdetail("A call of mergejoin could not allocate memory."));
+      break;
+    case MERGEJOIN_TOO_LARGE:
+      ereport(ERROR, errcode(ERRCODE_PROGRAM_LIMIT_EXCEEDED), errmsg(TOO_LONG),
+              errdetail("It has more than %zu bytes.", (size_t)LONGEST));
       break;
   }
   elog(ERROR, "mergejoin returns status %u", answer->reply.status);

@@ -13,7 +13,7 @@ try:
 except ImportError:  # before setuptools 70
     from wheel.bdist_wheel import bdist_wheel
 
-NAME = "libmergejoin.so.0"
+NAME = "libmergejoin.so.1"
 HERE = pathlib.Path(__file__).resolve().parent
 
 

@@ -22,6 +22,9 @@ class Status(enum.IntEnum):
     FORM = 7
     POINTER = 8
     NO_MEMORY = 9
+    PENDING = 10
+    TOO_LARGE = 11
+    NOT_STARTED = 12
 
 
 class Text(ctypes.Structure):
@@ -34,17 +37,18 @@ class Reply(ctypes.Structure):
     """What a call returns in addition to the text in the buffer."""
 
     _fields_ = [("length", ctypes.c_size_t), ("first", ctypes.c_size_t), ("second", ctypes.c_size_t),
-                ("status", ctypes.c_uint32)]
+                ("total", ctypes.c_size_t), ("spare", ctypes.c_size_t), ("status", ctypes.c_uint32), ("flags", ctypes.c_uint32)]
 
 
 # What a function reads, in the header's order: a text with its length, or an array of texts with their number. After them
-# come the buffer and its capacity.
+# come the buffer, its capacity, and the most bytes that the text of a result may have.
 _TEXT = [ctypes.c_char_p, ctypes.c_size_t]
 _TEXTS = [ctypes.POINTER(Text), ctypes.c_size_t]
-_BUFFER = [ctypes.c_void_p, ctypes.c_size_t]
+_BUFFER = [ctypes.c_void_p, ctypes.c_size_t, ctypes.c_size_t]
+NO_LIMIT = ctypes.c_size_t(-1).value
 
 # Of a CDLL a call gives up the interpreter's lock while it runs.
-_LIBRARY = ctypes.CDLL(os.path.join(os.path.dirname(os.path.abspath(__file__)), "libmergejoin.so.0"))
+_LIBRARY = ctypes.CDLL(os.path.join(os.path.dirname(os.path.abspath(__file__)), "libmergejoin.so.1"))
 
 Given = Union[str, bytes]
 _Call = Callable[..., Reply]
@@ -78,13 +82,14 @@ def borrowed(texts: Sequence[bytes]) -> "ctypes.Array[Text]":
     return (Text * len(texts))(*[(text, len(text)) for text in texts])  # type: ignore[misc]  # ctypes makes a Text of each
 
 
-def called(call: _Call, *given: Union[bytes, Sequence[bytes]]) -> str:
+def called(call: _Call, *given: Union[bytes, Sequence[bytes]], more: int = 0) -> str:
     """Calls with texts, and with lists of them, and gives the text of the result, or raises why there is none.
 
-    The buffer is as long as all that is read. If that is too short, a longer one is made, and the call is made again.
+    The buffer is as long as all that is read, and so much more. If that is too short, a longer one is made, and the call is made
+    again.
     """
     arguments: List[Any] = []
-    size = 64
+    size = 0
     for it in given:
         if isinstance(it, bytes):
             arguments += [it, len(it)]
@@ -92,9 +97,10 @@ def called(call: _Call, *given: Union[bytes, Sequence[bytes]]) -> str:
         else:
             arguments += [borrowed(it), len(it)]
             size += sum(map(len, it))
+    size += more + 64
     while True:
         buffer = bytearray(size)  # stays where it is, since nothing else sees it
-        reply = call(*arguments, ctypes.addressof(ctypes.c_char.from_buffer(buffer)), size)
+        reply = call(*arguments, ctypes.addressof(ctypes.c_char.from_buffer(buffer)), size, NO_LIMIT)
         if reply.length <= size:
             break
         size = reply.length
@@ -111,7 +117,7 @@ _NO_BUFFER = bytearray(1)
 def read(text: bytes) -> None:
     """Raises what is wrong with a text that is not a patch, and writes no answer of one that is."""
     nowhere = ctypes.addressof(ctypes.c_char.from_buffer(_NO_BUFFER))
-    if JOIN(borrowed([text]), 1, nowhere, 0).status != Status.RESULT:
+    if JOIN(borrowed([text]), 1, nowhere, 0, NO_LIMIT).status != Status.RESULT:
         called(JOIN, [text])
 
 
@@ -133,4 +139,6 @@ def raise_for(reply: Reply, text: str) -> NoReturn:
         raise Malformed(reply.first, text)
     if reply.status == Status.POINTER:
         raise InputError("pointer", reply.first, text)
-    raise MemoryError
+    if reply.status == Status.NO_MEMORY:
+        raise MemoryError
+    raise RuntimeError(f"mergejoin returns status {reply.status}: {text}")

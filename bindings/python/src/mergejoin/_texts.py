@@ -5,6 +5,9 @@ from typing import Iterable, List
 from . import _library
 from ._library import Given, called, encoded
 
+# A rewriting has a test and an edit for each change, each with its path: at most about so many bytes for a byte of the patch.
+_REWRITTEN = 16
+
 
 def all_encoded(texts: Iterable[Given]) -> List[bytes]:
     if isinstance(texts, (str, bytes)):
@@ -66,7 +69,8 @@ def rewrite(document: Given, patch: Given) -> str:
 
     InputError is raised of the document first, and then of the patch.
     """
-    return called(_library.REWRITE, encoded(document), encoded(patch))
+    change = encoded(patch)
+    return called(_library.REWRITE, encoded(document), change, more=_REWRITTEN * len(change))
 
 
 def patch(document: Given, operations: Given) -> str:
