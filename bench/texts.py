@@ -53,12 +53,13 @@ def shapes():
 def called(call, texts, buffer):
     """Makes one call, and wants a result."""
     if call == "join":
-        reply = _library.JOIN(_library.borrowed(texts), len(texts), buffer, len(buffer))
+        reply = _library.JOIN(_library.borrowed(texts), len(texts), buffer, len(buffer), _library.NO_LIMIT)
     elif call == "get":
-        reply = _library.GET(texts[0], len(texts[0]), b"", 0, buffer, len(buffer))
+        reply = _library.GET(texts[0], len(texts[0]), b"", 0, buffer, len(buffer), _library.NO_LIMIT)
     else:
         function = {"merge": _library.MERGE, "replay": _library.REPLAY}[call]
-        reply = function(texts[0], len(texts[0]), _library.borrowed(texts[1:]), len(texts) - 1, buffer, len(buffer))
+        reply = function(texts[0], len(texts[0]), _library.borrowed(texts[1:]), len(texts) - 1, buffer, len(buffer),
+                         _library.NO_LIMIT)
     assert reply.status == _library.Status.RESULT, reply.status
 
 

@@ -18,7 +18,7 @@ pub fn join(patches: &[Value]) -> Result<Value, Refused> {
     Ok(joined)
 }
 
-fn compatible(left: &Value, right: &Value) -> bool {
+pub fn compatible(left: &Value, right: &Value) -> bool {
     match (left, right) {
         (Value::Object(left), Value::Object(right)) => {
             right.iter().all(|(name, right)| match left.get(name) {
@@ -32,7 +32,7 @@ fn compatible(left: &Value, right: &Value) -> bool {
 }
 
 /// Adds what a compatible patch has to the join so far.
-fn unite(joined: &mut Value, patch: &Value) {
+pub fn unite(joined: &mut Value, patch: &Value) {
     if let (Value::Object(joined), Value::Object(patch)) = (joined, patch) {
         for (name, value) in patch {
             match joined.get_mut(name) {

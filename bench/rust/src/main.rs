@@ -4,6 +4,7 @@
 //! it does not check that numbers are whole or how long the input is.
 
 mod join;
+mod library;
 mod merge;
 mod patch;
 mod pointer;
@@ -24,14 +25,22 @@ pub enum Refused {
     Stream(io::Error),
 }
 
-fn read_parts() -> Result<Vec<Value>, Refused> {
+fn read_input() -> Result<Vec<u8>, Refused> {
     let mut input = Vec::new();
     let read = io::stdin().lock().read_to_end(&mut input);
     read.map_err(Refused::Stream)?;
-    serde_json::from_slice(&input).map_err(|fault| Refused::Form(format!("input: {fault}")))
+    Ok(input)
+}
+
+fn read_parts() -> Result<Vec<Value>, Refused> {
+    serde_json::from_slice(&read_input()?).map_err(|fault| Refused::Form(format!("input: {fault}")))
 }
 
 fn answer(words: &[&str]) -> Result<String, Refused> {
+    if let ["library", job, times] = words {
+        let times = times.parse().map_err(|_| Refused::Form("no number".into()))?;
+        return library::run(job, times, &read_input()?);
+    }
     let mut parts = read_parts()?;
     let result = match (words, parts.as_mut_slice()) {
         (["get", pointer], [document]) => pointer::get(document, pointer)?.take(),
