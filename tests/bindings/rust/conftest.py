@@ -9,14 +9,14 @@ import pytest
 
 TOP = pathlib.Path(__file__).resolve().parents[3]
 LIBRARY = TOP / "out/lib"
-ARCHIVE = LIBRARY / "libmergejoin.a"
 
 
 @pytest.fixture(scope="session", name="crate")
 def crate_of_its_own(tmp_path_factory):
     if not shutil.which("cargo"):
         (pytest.fail if os.environ.get("MERGEJOIN_ALL_CHECKS") else pytest.skip)("not installed: cargo")
-    assert ARCHIVE.is_file(), f"{ARCHIVE} is not there: bin/library makes it"
+    if subprocess.run([TOP / "bin/library"], stdin=subprocess.DEVNULL, check=False).returncode:
+        pytest.fail("bin/library failed")
     place = tmp_path_factory.mktemp("crate") / "rust"
     shutil.copytree(TOP / "bindings/rust", place, ignore=shutil.ignore_patterns("target", "Cargo.lock"))
     return place
