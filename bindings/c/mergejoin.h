@@ -101,10 +101,11 @@ enum mergejoin_status {
   MERGEJOIN_FORM = 7,
   /* The text is not a pointer: "not UTF-8", "no slash" or "bad tilde", at the offset `first` in bytes. */
   MERGEJOIN_POINTER = 8,
-  /* Memory ran out: no text, and the buffer and the handle are unchanged. Any call may return this. */
+  /* Memory ran out: no text, the buffer is unchanged, and a handle has received or taken nothing more. Any call may return
+   * this. */
   MERGEJOIN_NO_MEMORY = 9,
-  /* "pending": the handle has received or taken the patch, and memory ran out before it was joined. The patch is not lost, and is
-   * not to be given again: the next call that reads the handle goes on with it, and returns this if memory runs out again. */
+  /* "pending": the handle has received or taken the patch, and memory ran out before it could be shown. The patch is not lost, and
+   * need not be given again: the next call that reads the handle goes on with it, and returns this if memory runs out again. */
   MERGEJOIN_PENDING = 10,
   /* There is a result, but its text is longer than the limit: no text, and the buffer is unchanged. */
   MERGEJOIN_TOO_LARGE = 11,
