@@ -11,12 +11,11 @@ The library has to be there (bin/library), and the headers and the programs of a
 import os
 import pathlib
 import sys
-import tempfile
 import time
 
 TOP = pathlib.Path(__file__).resolve().parents[1]
-sys.path.insert(0, str(TOP / "checks/common"))
-from server import Server, lacking
+sys.path[:0] = [str(TOP / "tests" / part) for part in ("common", "bindings/postgresql")]
+from server import lacking, running
 
 DOCUMENTS = 10_000
 AGGREGATES = {
@@ -37,10 +36,6 @@ ANALYZE patches;
 SET work_mem = '4GB';
 SET hash_mem_multiplier = 10;
 SET enable_sort = off;
-SET max_parallel_workers_per_gather = 0;
-SET parallel_setup_cost = 0;
-SET parallel_tuple_cost = 0;
-SET min_parallel_table_scan_size = 0;
 """
 GROUPED = "SELECT count(answer), sum(length(answer::text)) FROM (SELECT {} AS answer FROM patches GROUP BY doc OFFSET 0) AS answers;"
 
@@ -49,7 +44,7 @@ class Session:
     """A session of psql that answers one statement after another."""
 
     def __init__(self, server):
-        self.process = server.begin("-A", "-t")
+        self.process = server.begin()
         self.pid = self.ask("SELECT pg_backend_pid();")[-1]
 
     def ask(self, statements):
@@ -70,28 +65,24 @@ class Session:
 
 
 def main(count):
-    with tempfile.TemporaryDirectory() as name:
-        os.chmod(name, 0o755)
-        server = Server(name, TOP / "out/lib")
-        server.copy_server()
-        server.make_extension()
-        with server:
-            session = Session(server)
-            session.ask(MADE.format(documents=DOCUMENTS, count=count))
-            print("| aggregate | a patch | in all |\n|---|---:|---:|")
-            for what, aggregate in AGGREGATES.items():
-                begun = session.used()
-                session.ask(GROUPED.format(aggregate))
-                seconds = session.used() - begun
-                print(f"| {what} | {seconds / count * 1e6:.1f} us | {seconds:.1f} s |", flush=True)
-            print("\n| workers | seconds by the clock |\n|---:|---:|")
-            for workers in (0, 1, 2):
-                session.ask(f"SET max_parallel_workers_per_gather = {workers};")
-                begun = time.perf_counter()
-                session.ask(GROUPED.format("mergejoin_agg(patch)"))
-                print(f"| {workers} | {time.perf_counter() - begun:.1f} |", flush=True)
-            session.process.stdin.close()
-            session.process.wait()
+    with running() as server:
+        server.install()
+        session = Session(server)
+        session.ask(MADE.format(documents=DOCUMENTS, count=count))
+        print("| aggregate | a patch | in all |\n|---|---:|---:|")
+        for what, aggregate in AGGREGATES.items():
+            begun = session.used()
+            session.ask(GROUPED.format(aggregate))
+            seconds = session.used() - begun
+            print(f"| {what} | {seconds / count * 1e6:.1f} us | {seconds:.1f} s |", flush=True)
+        print("\n| workers | seconds by the clock |\n|---:|---:|")
+        for workers in (0, 1, 2):
+            session.ask(f"SET max_parallel_workers_per_gather = {workers};")
+            begun = time.perf_counter()
+            session.ask(GROUPED.format("mergejoin_agg(patch)"))
+            print(f"| {workers} | {time.perf_counter() - begun:.1f} |", flush=True)
+        session.process.stdin.close()
+        session.process.wait()
 
 
 if __name__ == "__main__":

@@ -15,7 +15,7 @@ import tempfile
 import time
 
 TOP = pathlib.Path(__file__).resolve().parents[1]
-sys.path.insert(0, str(TOP / "tests/cost"))
+sys.path[:0] = [str(TOP / "tests" / part) for part in ("common", "cost")]
 import mergejoin
 from counting import driver_in, peak
 from mergejoin import _library

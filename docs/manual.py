@@ -6,7 +6,7 @@ those of the scripts, which are their help.
     docs/manual.py feed >docs/mergejoin-feed.1
     docs/manual.py locate >docs/mergejoin-locate.1
 
-The program is the proved one, out/mergejoin. checks/help prints them again and compares.
+The program is the proved one, out/mergejoin. tests/program/test_help.py prints them again and compares.
 """
 
 import pathlib

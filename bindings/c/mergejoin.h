@@ -4,13 +4,15 @@
  * Six functions keep nothing: join, replay, merge, rewrite, patch and get. Each borrows texts from its caller, writes the text of
  * its answer into a buffer of the caller's, and returns a mergejoin_reply by value.
  *
- * Two handles stay in memory. A mergejoin_replica has a start and the patches that it received, and shows their document. A
- * mergejoin_patches has patches without a start, for a reduce or an aggregate. A further patch costs what that patch is long.
+ * Three handles stay in memory. A mergejoin_replica has a start and the patches that it received, and shows their document. A
+ * mergejoin_patches has patches without a start, for a reduce or an aggregate. A mergejoin_patch_log has a start and each patch
+ * under its identity, also those that conflict, and begins a new start once it is decided which of them count. A further patch
+ * costs what that patch is long; in a patch log one that conflicts may cost what the log has.
  *
- * A short text can take all memory: a JSON Patch doubles a document with each copy, and two patches may conflict at very many
- * places. A limit bounds the text of a result, and not yet the memory that a call takes on the way. So call with the texts of
- * strangers in a process of its own, under a limit of its memory (ulimit -d, a cgroup), and pass no JSON Patch with more than a
- * few copies.
+ * A short text can ask for all memory: a JSON Patch doubles a document with each copy, and two patches may conflict at very many
+ * places. So call with the texts of strangers under a limit, which is the last argument of each call: no result of an operation,
+ * no rewriting, no list of places and no answer then takes more, as MERGEJOIN_TOO_LARGE and MERGEJOIN_CONFLICT say. What a call
+ * takes to read its texts is bounded by their lengths, which the caller knows: see "owns" below.
  *
  * What a call
  *
@@ -20,17 +22,21 @@
  *            reply.length is the length of the whole text. If it is greater than the capacity, the text is cut: call again
  *            with a buffer of that length. A capacity of 0 asks for the length alone. The buffer may not overlap what is read.
  *   owns     nothing when it returns, but for what a handle holds. It takes memory by malloc and realloc, and gives it back by
- *            free: for each byte that is read mostly 10 to 100 bytes at the peak, up to 170 for many small patches that nest
- *            objects, and never more than 360; and in addition what copies and the answer take. For n bytes that are read, the
- *            places of a conflict and the edits of a rewriting may have n * n / 15 bytes. If malloc or realloc fails, the
+ *            free: for each byte that is read mostly 10 to 100 bytes at the peak, up to 175 for many small objects, and never
+ *            more than 360 while patches are joined or rewritten; and in addition what copies and the answer take: up to
+ *            four times the limit, and up to eight if nearly each character of the answer has to be escaped. Without a
+ *            limit, for n bytes that are read, the places of a conflict and the edits of a rewriting may have n * n / 15
+ *            bytes. If malloc or realloc fails, the
  *            status is MERGEJOIN_NO_MEMORY or MERGEJOIN_PENDING. A handle holds mostly 1 to 50 bytes for each byte of its start
- *            and of its patches, and up to 140 for many small objects. A replica holds a patch twice: in the join and in the
- *            document.
+ *            and of its patches, and up to 350 for many small objects, of which it has each twice: a replica in the join and in
+ *            the document, a patch log by itself, and in the join if it conflicts with no other.
  *   needs    256 KiB of stack: the deepest documents take up to 176 KiB of them.
  *
  * To call again is safe. Of the six, and of a call that reads a handle, the same arguments give the same reply and the same
  * text, unless memory runs out. If a replica has refused a patch, nothing was changed, and it refuses the patch again. If patches
- * conflict, an add of a patch that was taken takes it again, and repeats do not count; a combine takes nothing more of the other.
+ * conflict, an add of a patch that was taken takes it again, and repeats do not count; a combine takes nothing more of the other. A
+ * patch log stores one patch under an identity, and a message that comes again is a repeat. A decision that was refused has changed
+ * nothing; one that has begun a new start is not made again.
  *
  * A pointer may be null if its length, count or capacity is 0, as those of an empty std::string_view or std::vector are. No other
  * may: not the bytes of a mergejoin_text, for which mergejoin_text_of is there, and not a handle. No length is more than
@@ -81,20 +87,25 @@ extern "C" {
 enum mergejoin_status {
   /* The result. It is empty if a call has none but to have succeeded. */
   MERGEJOIN_RESULT = 0,
-  /* A JSON array of the places at which patches conflict, as JSON Pointers; `total` is how many it has. Of join and replay these are
-   * all places of the patches `first` < `second`. Of a handle the numbers are 0. */
+  /* A JSON array of the first places at which patches conflict, as JSON Pointers, in order; `total` is how many there are in all.
+   * The array has all of them if they weigh at most the limit together and it has at most so many bytes; else as many as do. If the
+   * limit is less than the 2 bytes of an array there is no text. A place weighs 128, 8 for each token, and the bytes of its
+   * spelling. Of join and replay these are the places of the patches `first` < `second`. Of a decision they are those of the
+   * patches with the identities `first` and `second` of those that are chosen; of each other call of a handle the numbers are 0. */
   MERGEJOIN_CONFLICT = 1,
   /* "no patches": there are none to join. */
   MERGEJOIN_NO_PATCHES = 2,
   /* The operation of number `first` is refused: "into itself", "remove of root", "missing", "no place", "too deep" or
-   * "test failed". */
+   * "test failed". Of a decision "no number is left for a start". */
   MERGEJOIN_REFUSED = 3,
-  /* "missing": the document has no part there. */
+  /* "missing": the document has no part there; of a decision, under the identity of number `first` no patch is stored. */
   MERGEJOIN_MISSING = 4,
   /* The document, or the start, is not one: "not JSON", "number not whole" (a document has whole numbers from -2^63 to
-   * 2^64 - 1) or "too deep" (a document has at most 126 levels). Of a kept form also "not kept patches". */
+   * 2^64 - 1) or "too deep" (a document has at most 126 levels). After the last two follow " at " and the JSON Pointer of the first
+   * such number, or of the first array or object that is too deep; `total` is then how many bytes the words have before that.
+   * Of a kept form also "not kept patches", and no place. */
   MERGEJOIN_DOCUMENT = 5,
-  /* The patch of number `first` is not a document, by the same words; the number of a single patch is 0. */
+  /* The patch of number `first` is not a document, by the same words, with the same place; the number of a single patch is 0. */
   MERGEJOIN_PATCH = 6,
   /* The document is not a JSON Patch: "not an array"; or, of the operation of number `first`, "not an object", "no op",
    * "unknown op", "no path", "no from", "bad pointer" or "no value". */
@@ -107,9 +118,13 @@ enum mergejoin_status {
   /* "pending": the handle has received or taken the patch, and memory ran out before it could be shown. The patch is not lost, and
    * need not be given again: the next call that reads the handle goes on with it, and returns this if memory runs out again. */
   MERGEJOIN_PENDING = 10,
-  /* There is a result, but its text is longer than the limit: no text, and the buffer is unchanged. */
+  /* The result, or something on the way to it, is larger than the limit: no text, and the buffer is unchanged. Of a JSON Patch
+   * `first` is the number of the operation whose result weighs more; of a rewriting, how many of its operations fit; and 0 if the
+   * text of the result is longer. A weight is about what a document takes in memory, in bytes: 40 for null, true, false or a
+   * number; 80 and its bytes for a string; 80 and its elements for an array; 1,000 for an object, and for each name 128, its bytes
+   * and its value. An operation weighs its places and its value. */
   MERGEJOIN_TOO_LARGE = 11,
-  /* "not started": the replica is {0}. A call looks for this first. */
+  /* "not started": the replica or the patch log is {0}. A call looks for this first. */
   MERGEJOIN_NOT_STARTED = 12
 };
 
@@ -125,7 +140,7 @@ typedef struct mergejoin_reply {
   size_t length; /* of the whole text in bytes, even if the buffer has only its beginning */
   size_t first;
   size_t second;
-  size_t total; /* of a conflict: how many places there are */
+  size_t total; /* of a conflict: how many places there are; of words that a place follows: how many bytes they have */
   size_t spare; /* 0 in this version, as `flags` is */
   uint32_t status; /* an enum mergejoin_status */
   uint32_t flags;
@@ -141,9 +156,21 @@ typedef struct mergejoin_patches {
   void *held;
 } mergejoin_patches;
 
+typedef struct mergejoin_patch_log {
+  void *held;
+} mergejoin_patch_log;
+
+/* Who made a patch, and the sender's number for it. Identities are ordered by the sender, and then by the number. A sender gives each
+ * of its patches for one start a number of its own. */
+typedef struct mergejoin_identity {
+  uint64_t sender;
+  uint64_t number;
+} mergejoin_identity;
+
 /*
- * Each call ends with the buffer, its capacity and a limit: the most bytes that the text of a result may have. A longer result is
- * MERGEJOIN_TOO_LARGE. SIZE_MAX is no limit. The words of an error and the places of a conflict are not limited yet.
+ * Each call ends with the buffer, its capacity and a limit in bytes: of the text of a result, and of the six functions also of
+ * what they make on the way, by its weight. SIZE_MAX is no limit. The words of an error are not limited: they have a few bytes, and
+ * a place. On a handle the limit bounds the reply alone: a handle takes what its patches take.
  *
  * Below, each call lists its statuses in the order in which it looks for them.
  */
@@ -207,7 +234,7 @@ mergejoin_reply mergejoin_replica_start(mergejoin_replica *replica, const uint8_
                                         size_t capacity, size_t limit);
 
 /*
- * Receives a merge patch: afterwards the document shows it. If it conflicts with what was received, the text is all places at
+ * Receives a merge patch: afterwards the document shows it. If it conflicts with what was received, the text has the places at
  * which it does, and the replica is as it was. A patch that was received before changes nothing.
  * MERGEJOIN_NOT_STARTED, MERGEJOIN_PATCH, MERGEJOIN_CONFLICT, MERGEJOIN_NO_MEMORY (not received), MERGEJOIN_PENDING (received).
  */
@@ -283,6 +310,57 @@ mergejoin_reply mergejoin_patches_from_kept(mergejoin_patches *patches, const ui
 
 /* Frees what the patches have, which are {0} then. */
 void mergejoin_patches_free(mergejoin_patches *patches);
+
+/*
+ * Makes the patch log of a start with its number, the epoch: nothing has arrived for it. A log that is there already is made anew, and
+ * what it had is freed. After another status than MERGEJOIN_RESULT it is as it was.
+ * MERGEJOIN_DOCUMENT, MERGEJOIN_NO_MEMORY.
+ */
+static inline
+mergejoin_reply mergejoin_patch_log_start(mergejoin_patch_log *log, uint64_t epoch, const uint8_t *start, size_t length,
+                                          uint8_t *out, size_t capacity, size_t limit);
+
+/*
+ * Receives a message: a merge patch, its identity, and the number of the start that it was made for. The text is what became of it:
+ * "stored", whether it conflicts with others or not; "repeat" if a patch with its identity is stored already; "late" if it is of an
+ * earlier start, and is dropped; "early" if it is of a later one, so that the caller keeps it until that is begun. The patch is read
+ * first, whatever the message is of. If the limit is less than these words, MERGEJOIN_TOO_LARGE says nothing of the message.
+ * After another status the log is as it was.
+ * MERGEJOIN_NOT_STARTED, MERGEJOIN_PATCH, MERGEJOIN_NO_MEMORY, MERGEJOIN_TOO_LARGE.
+ */
+static inline
+mergejoin_reply mergejoin_patch_log_receive(mergejoin_patch_log *log, uint64_t epoch, uint64_t sender, uint64_t number,
+                                            const uint8_t *patch, size_t length, uint8_t *out, size_t capacity, size_t limit);
+
+/*
+ * The document: what mergejoin_replay returns of the start and of the patches that conflict with no other.
+ * MERGEJOIN_NOT_STARTED, MERGEJOIN_NO_MEMORY, MERGEJOIN_TOO_LARGE.
+ */
+static inline
+mergejoin_reply mergejoin_patch_log_document(mergejoin_patch_log *log, uint8_t *out, size_t capacity, size_t limit);
+
+/*
+ * Each two patches that conflict, as a JSON array in the order of their identities, the lower one first:
+ * [{"first":[1,1],"second":[2,1],"places":["/a"]}] of number 1 of sender 1 and number 1 of sender 2.
+ * MERGEJOIN_NOT_STARTED, MERGEJOIN_NO_MEMORY, MERGEJOIN_TOO_LARGE.
+ */
+static inline
+mergejoin_reply mergejoin_patch_log_conflicts(mergejoin_patch_log *log, uint8_t *out, size_t capacity, size_t limit);
+
+/*
+ * Ends the start by the patches with the chosen identities, of which no two conflict: what they make of it is the new start, whose
+ * number is the next. All patches are forgotten, and nothing has arrived for the new start. Neither the order of the identities
+ * counts, nor do repeats. Each log makes one decision of one start once: it is for the start of one number, which its caller compares.
+ * After another status the log is as it was. The identities are numbered from 0, and one that stands twice has the lesser number. A
+ * conflict is that of the first two of the chosen patches that conflict, in the order of mergejoin_patch_log_conflicts.
+ * MERGEJOIN_NOT_STARTED, MERGEJOIN_REFUSED, MERGEJOIN_MISSING, MERGEJOIN_CONFLICT, MERGEJOIN_NO_MEMORY.
+ */
+static inline
+mergejoin_reply mergejoin_patch_log_decide(mergejoin_patch_log *log, const mergejoin_identity *chosen, size_t count, uint8_t *out,
+                                           size_t capacity, size_t limit);
+
+/* Frees what the patch log has, which is {0} then. */
+void mergejoin_patch_log_free(mergejoin_patch_log *log);
 
 /* The version of the library: MERGEJOIN_VERSION of the header that it was made with. */
 uint32_t mergejoin_version(void);
@@ -363,6 +441,21 @@ MERGEJOIN_WITHOUT_NULL_(mergejoin_patches_combine,
 MERGEJOIN_OF_NONE_(mergejoin_patches_text, mergejoin_patches)
 MERGEJOIN_OF_NONE_(mergejoin_patches_kept, mergejoin_patches)
 MERGEJOIN_OF_TEXT_(mergejoin_patches_from_kept, mergejoin_patches)
+
+MERGEJOIN_WITHOUT_NULL_(mergejoin_patch_log_start,
+                        (mergejoin_patch_log *log, uint64_t epoch, const uint8_t *start, size_t length, uint8_t *out,
+                         size_t capacity, size_t limit),
+                        (log, epoch, MERGEJOIN_TEXT_(start, length), MERGEJOIN_OUT_))
+MERGEJOIN_WITHOUT_NULL_(mergejoin_patch_log_receive,
+                        (mergejoin_patch_log *log, uint64_t epoch, uint64_t sender, uint64_t number, const uint8_t *patch,
+                         size_t length, uint8_t *out, size_t capacity, size_t limit),
+                        (log, epoch, sender, number, MERGEJOIN_TEXT_(patch, length), MERGEJOIN_OUT_))
+MERGEJOIN_OF_NONE_(mergejoin_patch_log_document, mergejoin_patch_log)
+MERGEJOIN_OF_NONE_(mergejoin_patch_log_conflicts, mergejoin_patch_log)
+MERGEJOIN_WITHOUT_NULL_(mergejoin_patch_log_decide,
+                        (mergejoin_patch_log *log, const mergejoin_identity *chosen, size_t count, uint8_t *out,
+                         size_t capacity, size_t limit),
+                        (log, MERGEJOIN_GIVEN_(const mergejoin_identity *, chosen, count), MERGEJOIN_OUT_))
 
 #pragma GCC diagnostic pop
 #undef MERGEJOIN_OF_NONE_
@@ -519,11 +612,17 @@ static inline char *mergejoin_taken_(mergejoin_patches *patches, uint8_t *out, s
   return mergejoin_text_in_(out, capacity, reply);
 }
 
+/* Why a text is not a patch may end with a long place. Then nothing was taken, and the call is made again. */
 static inline char *mergejoin_patches_add_new(mergejoin_patches *patches, const uint8_t *patch, size_t length, size_t limit,
                                               mergejoin_reply *reply) {
   size_t capacity = mergejoin_capacity_(MERGEJOIN_WORDS_, SIZE_MAX);
   uint8_t *out = mergejoin_buffer_(MERGEJOIN_NULL_, capacity, reply);
-  if (out) *reply = mergejoin_patches_add(patches, patch, length, out, capacity, limit);
+  while (out) {
+    *reply = mergejoin_patches_add(patches, patch, length, out, capacity, limit);
+    if (reply->status != MERGEJOIN_PATCH || reply->length < capacity) break;
+    capacity = reply->length + 1;
+    out = mergejoin_buffer_(out, capacity, reply);
+  }
   return mergejoin_taken_(patches, out, capacity, limit, reply);
 }
 
@@ -542,6 +641,31 @@ static inline char *mergejoin_patches_from_kept_new(mergejoin_patches *patches, 
   uint8_t *out = mergejoin_buffer_(MERGEJOIN_NULL_, capacity, reply);
   if (out) *reply = mergejoin_patches_from_kept(patches, kept, length, out, capacity, limit);
   return mergejoin_taken_(patches, out, capacity, limit, reply);
+}
+
+static inline char *mergejoin_patch_log_start_new(mergejoin_patch_log *log, uint64_t epoch, const uint8_t *start, size_t length,
+                                                  size_t limit, mergejoin_reply *reply) {
+  MERGEJOIN_NEW_(MERGEJOIN_WORDS_, mergejoin_patch_log_start(log, epoch, start, length, out, capacity, limit));
+}
+
+/* What became of a message fits, so none is received twice. */
+static inline char *mergejoin_patch_log_receive_new(mergejoin_patch_log *log, uint64_t epoch, uint64_t sender, uint64_t number,
+                                                    const uint8_t *patch, size_t length, size_t limit, mergejoin_reply *reply) {
+  MERGEJOIN_NEW_(MERGEJOIN_WORDS_,
+                 mergejoin_patch_log_receive(log, epoch, sender, number, patch, length, out, capacity, limit));
+}
+
+static inline char *mergejoin_patch_log_document_new(mergejoin_patch_log *log, size_t limit, mergejoin_reply *reply) {
+  MERGEJOIN_NEW_(MERGEJOIN_DOCUMENT_, mergejoin_patch_log_document(log, out, capacity, limit));
+}
+
+static inline char *mergejoin_patch_log_conflicts_new(mergejoin_patch_log *log, size_t limit, mergejoin_reply *reply) {
+  MERGEJOIN_NEW_(MERGEJOIN_PART_, mergejoin_patch_log_conflicts(log, out, capacity, limit));
+}
+
+static inline char *mergejoin_patch_log_decide_new(mergejoin_patch_log *log, const mergejoin_identity *chosen, size_t count,
+                                                   size_t limit, mergejoin_reply *reply) {
+  MERGEJOIN_NEW_(MERGEJOIN_WORDS_, mergejoin_patch_log_decide(log, chosen, count, out, capacity, limit));
 }
 
 #undef MERGEJOIN_NEW_

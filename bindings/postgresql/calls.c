@@ -13,6 +13,8 @@
 
 /* The most bytes that a value can have after its header. */
 #define LONGEST (MaxAllocSize - VARHDRSZ)
+/* The library limits what a result takes in memory, too: of small objects at most about so many bytes for a byte of their text. */
+#define WEIGHT 650
 /* A rewriting has a test and an edit for each change, each with its path: at most about so many bytes for a byte of the patch. */
 #define REWRITTEN 16
 
@@ -25,23 +27,40 @@ mergejoin_text borrowed(const text *value) {
   return bytes;
 }
 
+/* Returns how many bytes are read. */
+static size_t length_of(const Request *request) {
+  size_t length = request->document.length;
+
+  for (size_t number = 0; number < request->count; number += 1) length += request->texts[number].length;
+  return length;
+}
+
+/* Returns how many bytes the text is likely to have: as many as all that is read, and of a rewriting some times the patch. */
+static size_t likely_length(const Request *request) {
+  size_t length = length_of(request) + 64;
+
+  if (request->export == EXPORT_REWRITE) length += REWRITTEN * request->texts->length;
+  return length;
+}
+
 /* Makes the call of a request. The texts and the buffer are its caller's. */
 static mergejoin_reply called(const Request *request, uint8_t *buffer, size_t capacity) {
   const mergejoin_text *document = &request->document, *texts = request->texts;
+  size_t limit = LONGEST + WEIGHT * length_of(request);
 
   switch (request->export) {
     case EXPORT_JOIN:
-      return mergejoin_join(texts, request->count, buffer, capacity, LONGEST);
+      return mergejoin_join(texts, request->count, buffer, capacity, limit);
     case EXPORT_REPLAY:
-      return mergejoin_replay(document->bytes, document->length, texts, request->count, buffer, capacity, LONGEST);
+      return mergejoin_replay(document->bytes, document->length, texts, request->count, buffer, capacity, limit);
     case EXPORT_MERGE:
-      return mergejoin_merge(document->bytes, document->length, texts, request->count, buffer, capacity, LONGEST);
+      return mergejoin_merge(document->bytes, document->length, texts, request->count, buffer, capacity, limit);
     case EXPORT_REWRITE:
-      return mergejoin_rewrite(document->bytes, document->length, texts->bytes, texts->length, buffer, capacity, LONGEST);
+      return mergejoin_rewrite(document->bytes, document->length, texts->bytes, texts->length, buffer, capacity, limit);
     case EXPORT_PATCH:
-      return mergejoin_patch(document->bytes, document->length, texts->bytes, texts->length, buffer, capacity, LONGEST);
+      return mergejoin_patch(document->bytes, document->length, texts->bytes, texts->length, buffer, capacity, limit);
     case EXPORT_GET:
-      return mergejoin_get(document->bytes, document->length, texts->bytes, texts->length, buffer, capacity, LONGEST);
+      return mergejoin_get(document->bytes, document->length, texts->bytes, texts->length, buffer, capacity, limit);
   }
   pg_unreachable();
 }
@@ -53,19 +72,10 @@ static void want_utf8(void) {
             errdetail("The encoding of this database is %s.", GetDatabaseEncodingName()));
 }
 
-/* Returns how many bytes the text is likely to have: as many as all that is read, and of a rewriting some times the patch. */
-static size_t likely_length(const Request *request) {
-  size_t length = request->document.length;
-
-  for (size_t number = 0; number < request->count; number += 1) length += request->texts[number].length;
-  if (request->export == EXPORT_REWRITE) length += REWRITTEN * request->texts->length;
-  return length + 64;
-}
-
 /*
  * Calls the library, with a buffer as long as the text is likely to be, and once more if the text is longer. The value is
- * made in the current memory context, and is its caller's. The library has the limit for a result; the places of a conflict
- * have it here.
+ * made in the current memory context, and is its caller's. What takes no more than a value can have, and what is read allows
+ * besides, is within the library's limit; the text of a value has its limit here.
  */
 Answer answer_of(const Request *request) {
   Answer answer;
@@ -97,6 +107,14 @@ text *result_of(const Request *request) {
   return answer.value;
 }
 
+/* Returns why a text is not a document: the words, and after them the place in quotes if there is one. */
+char *why_unread(const Answer *answer) {
+  char *text = text_to_cstring(answer->value);
+  size_t words = answer->reply.total;
+
+  return words == 0 ? text : psprintf("%.*s at \"%s\"", (int)words, text, text + words + strlen(" at "));
+}
+
 /* Raises what the library refuses, as an error whose message begins as the program's line. Patches and operations are
  * numbered from 0, as everywhere. */
 void refuse(const Answer *answer) {
@@ -115,10 +133,10 @@ void refuse(const Answer *answer) {
       ereport(ERROR, errcode(ERRCODE_MERGEJOIN_REFUSED), errmsg("operation %zu: %s", first, words));
       break;
     case MERGEJOIN_DOCUMENT:
-      ereport(ERROR, errcode(ERRCODE_INVALID_JSON_TEXT), errmsg("document: %s", words));
+      ereport(ERROR, errcode(ERRCODE_INVALID_JSON_TEXT), errmsg("document: %s", why_unread(answer)));
       break;
     case MERGEJOIN_PATCH:
-      ereport(ERROR, errcode(ERRCODE_INVALID_JSON_TEXT), errmsg("patch %zu: %s", first, words));
+      ereport(ERROR, errcode(ERRCODE_INVALID_JSON_TEXT), errmsg("patch %zu: %s", first, why_unread(answer)));
       break;
     case MERGEJOIN_FORM:
       if (strcmp(words, "not an array") == 0)
@@ -136,7 +154,7 @@ void refuse(const Answer *answer) {
       break;
     case MERGEJOIN_TOO_LARGE:
       ereport(ERROR, errcode(ERRCODE_PROGRAM_LIMIT_EXCEEDED), errmsg(TOO_LONG),
-              errdetail("It has more than %zu bytes.", (size_t)LONGEST));
+              errdetail("It takes more than %zu bytes.", (size_t)LONGEST));
       break;
   }
   elog(ERROR, "mergejoin returns status %u", answer->reply.status);

@@ -32,6 +32,7 @@ typedef struct Answer {
 extern mergejoin_text borrowed(const text *value);
 extern Answer answer_of(const Request *request);
 extern text *result_of(const Request *request);
+extern char *why_unread(const Answer *answer);
 extern void refuse(const Answer *answer) pg_attribute_noreturn();
 
 #endif

@@ -43,7 +43,7 @@ static void borrow_elements(Request *request, ArrayType *array, bool passes_null
 
 /* Calls with a document, and an array of patches. */
 static Datum of_patches(FunctionCallInfo fcinfo, Export export) {
-  Request request = {export, borrowed(PG_GETARG_TEXT_PP(0))};
+  Request request = {.export = export, .document = borrowed(PG_GETARG_TEXT_PP(0))};
 
   borrow_elements(&request, PG_GETARG_ARRAYTYPE_P(1), false);
   PG_RETURN_TEXT_P(result_of(&request));
@@ -61,7 +61,7 @@ static Datum of_two(FunctionCallInfo fcinfo, Export export) {
 }
 
 Datum mergejoin_sql_join(PG_FUNCTION_ARGS) {
-  Request request = {EXPORT_JOIN};
+  Request request = {.export = EXPORT_JOIN};
 
   borrow_elements(&request, PG_GETARG_ARRAYTYPE_P(0), false);
   PG_RETURN_TEXT_P(result_of(&request));
@@ -79,7 +79,7 @@ Datum mergejoin_sql_get(PG_FUNCTION_ARGS) { return of_two(fcinfo, EXPORT_GET); }
 
 /* Ends mergejoin_conflict_agg: returns the first two of an array of patches that conflict, and where, or NULL if none do. */
 Datum mergejoin_first_conflict(PG_FUNCTION_ARGS) {
-  Request request = {EXPORT_JOIN};
+  Request request = {.export = EXPORT_JOIN};
   Answer answer;
   StringInfoData report;
 

@@ -82,13 +82,13 @@ static void refuse_patch(const Answer *answer, mergejoin_text wrong) {
   int length = pg_mbcliplen(bytes, (int)wrong.length, REPORTED);
 
   ereport(ERROR, errcode(ERRCODE_INVALID_JSON_TEXT),
-          errmsg("patch of the group: %s", text_to_cstring(answer->value)),
-          errdetail("The patch is %s%s", pnstrdup(bytes, length), length < wrong.length ? ".." : ""));
+          errmsg("patch of the group: %s", why_unread(answer)),
+          errdetail("The patch is %s%s", pnstrdup(bytes, length), (size_t)length < wrong.length ? ".." : ""));
 }
 
 /* Joins the texts since with the join so far. If two conflict, it only reads them. */
 static void join_since(Patches *patches) {
-  Request request = {EXPORT_JOIN};
+  Request request = {.export = EXPORT_JOIN};
   mergejoin_text *texts;
   Answer answer;
   size_t offset = 0;
@@ -96,7 +96,7 @@ static void join_since(Patches *patches) {
   if (patches->count == 0) return;
   request.texts = texts = palloc_extended((patches->count + 1) * sizeof(mergejoin_text), MCXT_ALLOC_HUGE);
   if (patches->joined) texts[request.count++] = borrowed(patches->joined);
-  while (offset < patches->since.len) texts[request.count++] = next_since(patches, &offset);
+  while (offset < (size_t)patches->since.len) texts[request.count++] = next_since(patches, &offset);
   answer = answer_of(&request);
   if (answer.reply.status == MERGEJOIN_PATCH) refuse_patch(&answer, texts[answer.reply.first]);
   if (answer.reply.status == MERGEJOIN_CONFLICT)
@@ -185,7 +185,7 @@ Datum mergejoin_combine(PG_FUNCTION_ARGS) {
     take(patches, borrowed(other->joined));
   }
   if (other->is_conflict) keep_conflict(patches);
-  while (offset < other->since.len) take(patches, next_since(other, &offset));
+  while (offset < (size_t)other->since.len) take(patches, next_since(other, &offset));
   PG_RETURN_POINTER(patches);
 }
 

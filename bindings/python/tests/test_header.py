@@ -45,7 +45,7 @@ class Header(unittest.TestCase):
 
     def test_functions(self):
         found = dict(re.findall(r"^mergejoin_reply mergejoin_(\w+)\((.*?)\);", CODE, re.M | re.S))
-        called = {name: parameters for name, parameters in found.items() if not re.match("replica_|patches_", name)}
+        called = {name: parameters for name, parameters in found.items() if not re.match("replica_|patches_|patch_log_", name)}
         self.assertEqual(sorted(called), ["get", "join", "merge", "patch", "replay", "rewrite"])
         for name, parameters in called.items():
             function = getattr(_library, name.upper())

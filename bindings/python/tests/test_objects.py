@@ -16,7 +16,7 @@ def nested(levels, inner=1):
     return inner if levels == 0 else {"a": nested(levels - 1, inner)}
 
 
-HIMSELF = []
+HIMSELF: list = []
 HIMSELF.append(HIMSELF)
 REFUSED = [
     (1.5, "number not whole", ""),
@@ -67,6 +67,6 @@ class Objects(unittest.TestCase):
         self.assertEqual(json.loads(mergejoin.get(json.dumps(nested(126)), "")), nested(126))
         with self.assertRaises(InputError) as raised:
             mergejoin.get(json.dumps(nested(127)), "")
-        self.assertEqual((raised.exception.why, raised.exception.place), ("too deep", None))
+        self.assertEqual((raised.exception.why, raised.exception.place), ("too deep", "/a" * 126))
         edits = [{"op": "add", "path": "/a", "value": nested(124)}]
         self.assertEqual(objects.patch({}, edits), nested(125))

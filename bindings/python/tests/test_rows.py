@@ -8,7 +8,7 @@ import unittest
 import mergejoin
 from mergejoin import objects
 
-sys.path.insert(0, str(pathlib.Path(__file__).resolve().parents[3] / "checks/common"))
+sys.path.insert(0, str(pathlib.Path(__file__).resolve().parents[3] / "tests/common"))
 from rows import ROWS, vector_rows
 
 
@@ -32,7 +32,8 @@ def seen(call, *words):
     except mergejoin.Missing as it:
         return 4, 0, 0, str(it)
     except mergejoin.InputError as it:
-        return {"document": 5, "patch": 6, "pointer": 8}[it.what], it.number, 0, it.why
+        said = it.why if it.place is None else f"{it.why} at {it.place}"
+        return {"document": 5, "patch": 6, "pointer": 8}[it.what], it.number, 0, said
     except mergejoin.Malformed as it:
         return 7, it.operation, 0, it.cause
 

@@ -5,7 +5,7 @@ use crate::Error;
 
 /// A buffer has so many bytes more than the guess. No text but a result, a list of places and a kept form is longer than
 /// this.
-const LEAST: usize = 64;
+pub(crate) const LEAST: usize = 64;
 
 /// Calls with a buffer of so many bytes and a few more, and once more if the text is longer. It gives the text of a
 /// result, or why there is none.
@@ -16,8 +16,22 @@ const LEAST: usize = 64;
 /// nothing else. It may be made again if they did not fit.
 pub(crate) unsafe fn text_of(
     guess: usize,
-    mut call: impl FnMut(*mut u8, usize) -> Reply,
+    call: impl FnMut(*mut u8, usize) -> Reply,
 ) -> Result<String, Error> {
+    // SAFETY: the call is as this one wants it.
+    let (reply, text) = unsafe { reply_of(guess, call) }?;
+    result_of(&reply, text)
+}
+
+/// So does this, and gives the reply with its text. An error is that of a buffer.
+///
+/// # Safety
+///
+/// As of [`text_of`].
+pub(crate) unsafe fn reply_of(
+    guess: usize,
+    mut call: impl FnMut(*mut u8, usize) -> Reply,
+) -> Result<(Reply, String), Error> {
     let most = guess.saturating_add(LEAST);
     let mut buffer = buffer_of(most).or_else(|_| buffer_of(LEAST))?; // the text may be shorter than the guess
     loop {
@@ -26,7 +40,7 @@ pub(crate) unsafe fn text_of(
             // SAFETY: the call has written so many bytes, and the buffer has them.
             unsafe { buffer.set_len(reply.length) };
             let text = String::from_utf8(buffer).expect("the library writes UTF-8");
-            return result_of(&reply, text);
+            return Ok((reply, text));
         }
         drop(buffer);
         buffer = buffer_of(reply.length)?;

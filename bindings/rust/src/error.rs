@@ -1,6 +1,6 @@
 //! Why there is no text.
 
-use crate::raw::{Reply, CONFLICT, PENDING};
+use crate::raw::{Reply, CONFLICT, MISSING, NO_MEMORY, PATCH, PENDING, REFUSED};
 use crate::{places, DocumentCause, FormCause, PointerCause, RefusedCause};
 use std::fmt;
 
@@ -13,8 +13,11 @@ pub enum Error {
         /// The numbers of the two, of a list: the second is the least number of a patch that conflicts with an earlier one,
         /// and the first the least of those. [`Replica`](crate::Replica) and [`Patches`](crate::Patches) keep no numbers.
         patches: Option<(usize, usize)>,
-        /// All places at which they conflict, as JSON Pointers, in the order of paths.
+        /// The places at which they conflict, as JSON Pointers, in the order of paths: all of them, or as many of the first as
+        /// the limit allows.
         places: Vec<String>,
+        /// How many places there are in all.
+        total: usize,
     },
     /// There are no patches to join.
     NoPatches,
@@ -28,13 +31,20 @@ pub enum Error {
     /// The document has no part there.
     Missing,
     /// The document, or the start, is not one.
-    Document(DocumentCause),
+    Document {
+        /// Why it is not one.
+        cause: DocumentCause,
+        /// Where it has the first number that is not whole, or the first part that is too deep, as a JSON Pointer.
+        place: Option<String>,
+    },
     /// A patch is not a document.
     Patch {
         /// Its number; 0 of a single patch.
         number: usize,
         /// Why it is not one.
         cause: DocumentCause,
+        /// As of a document.
+        place: Option<String>,
     },
     /// The document that is given as a JSON Patch is not one.
     Form {
@@ -54,7 +64,7 @@ pub enum Error {
     NotKept,
     /// A patch was received, and memory ran out before it can be shown. The next call tries again; nothing is lost.
     Pending,
-    /// The result's text is longer than the limit that was set.
+    /// The result, or something on the way to it, is larger than the limit that was set.
     TooLarge,
     /// Memory ran out.
     NoMemory,
@@ -82,19 +92,27 @@ impl Error {
             CONFLICT => Error::Conflict {
                 patches: (number < reply.second).then_some((number, reply.second)),
                 places: places::read(words, reply.total),
+                total: reply.total,
             },
             2 => Error::NoPatches,
-            3 => Error::Refused {
+            REFUSED => Error::Refused {
                 operation: number,
                 cause: RefusedCause::of(words)?,
             },
-            4 => Error::Missing,
+            MISSING => Error::Missing,
             5 if words == "not kept patches" => Error::NotKept,
-            5 => Error::Document(DocumentCause::of(words)?),
-            6 => Error::Patch {
-                number,
-                cause: DocumentCause::of(words)?,
-            },
+            5 => {
+                let (cause, place) = unread(words, reply.total)?;
+                Error::Document { cause, place }
+            }
+            PATCH => {
+                let (cause, place) = unread(words, reply.total)?;
+                Error::Patch {
+                    number,
+                    cause,
+                    place,
+                }
+            }
             7 => Error::Form {
                 operation: number,
                 cause: FormCause::of(words)?,
@@ -103,7 +121,7 @@ impl Error {
                 offset: number,
                 cause: PointerCause::of(words)?,
             },
-            9 => Error::NoMemory,
+            NO_MEMORY => Error::NoMemory,
             PENDING => Error::Pending,
             11 => Error::TooLarge,
             _ => return None,
@@ -111,21 +129,53 @@ impl Error {
     }
 }
 
+/// Why a text is not a document, and the place after the words if there is one: they have so many bytes then.
+fn unread(text: &str, words: usize) -> Option<(DocumentCause, Option<String>)> {
+    if words == 0 {
+        return Some((DocumentCause::of(text)?, None));
+    }
+    let cause = DocumentCause::of(text.get(..words)?)?;
+    let place = text.get(words..)?.strip_prefix(" at ")?;
+    Some((cause, Some(place.to_owned())))
+}
+
+/// Shows a place as a JSON string, after ` at `.
+fn show_place(to: &mut fmt::Formatter<'_>, place: Option<&String>) -> fmt::Result {
+    match place {
+        Some(place) => write!(to, " at {}", places::Quoted(std::slice::from_ref(place))),
+        None => Ok(()),
+    }
+}
+
 impl fmt::Display for Error {
     fn fmt(&self, to: &mut fmt::Formatter<'_>) -> fmt::Result {
         match self {
-            Error::Conflict { patches, places } => {
+            Error::Conflict {
+                patches,
+                places,
+                total,
+            } => {
                 to.write_str("conflict")?;
                 if let Some((first, second)) = patches {
                     write!(to, ": patches {first} and {second}")?;
                 }
-                write!(to, " at {}", places::Quoted(places))
+                places::show(to, places, *total)
             }
             Error::NoPatches => to.write_str("no patches"),
             Error::Refused { operation, cause } => write!(to, "operation {operation}: {cause}"),
             Error::Missing => to.write_str("missing"),
-            Error::Document(cause) => write!(to, "document: {cause}"),
-            Error::Patch { number, cause } => write!(to, "patch {number}: {cause}"),
+            Error::Document { cause, place } => {
+                write!(to, "document: {cause}")?;
+                show_place(to, place.as_ref())
+            }
+            Error::Patch {
+                number,
+                cause,
+                place,
+            } => {
+                write!(to, "patch {number}: {cause}")?;
+                show_place(to, place.as_ref())
+            }
             Error::Form { cause, .. } if *cause == FormCause::NotAnArray => write!(to, "{cause}"),
             Error::Form { operation, cause } => write!(to, "operation {operation}: {cause}"),
             Error::Pointer { cause, .. } if *cause == PointerCause::NoSlash => {

@@ -13,12 +13,13 @@
 //! assert_eq!(join(patches)?, r#"{"author":"Ada","title":null}"#);
 //!
 //! let other = join([patches[0], r#"{"author":"Bob"}"#]);
-//! assert!(matches!(other, Err(Error::Conflict { patches: Some((0, 1)), places }) if places == ["/author"]));
+//! assert!(matches!(other, Err(Error::Conflict { patches: Some((0, 1)), places, .. }) if places == ["/author"]));
 //! # Ok::<(), Error>(())
 //! ```
 //!
 //! [`join`], [`replay`], [`merge`], [`rewrite`], [`patch`] and [`get`] read all texts anew. [`Replica`] and [`Patches`] stay in
-//! memory, and receive each patch at the cost of the patch.
+//! memory, and receive each patch at the cost of the patch. A [`PatchLog`] stays in memory too, and keeps patches that conflict
+//! until it is decided which of them count.
 //!
 //! Each document and each patch is a JSON text of its own: a `&str`, a `String`, a `&[u8]` or a `Vec<u8>` of UTF-8. Patches are an
 //! array, a slice or any iterator of them. Results are compact, with names in the order of their UTF-8 bytes. Numbers are
@@ -27,9 +28,9 @@
 //! A call needs 256 KiB of stack. It takes mostly 10 to 100 bytes of memory for each byte that it reads, and never more than
 //! 360, in addition to what copies and the answer take. If memory runs out in the library, the error is [`Error::NoMemory`].
 //!
-//! A short text can take all memory: a JSON Patch doubles a document with each `copy`, and two patches may conflict at very many
-//! places. [`within`] limits a result, and not yet what is taken on the way to it. So pass the texts of strangers in a process
-//! of its own, under a limit of its memory, and no JSON Patch with more than a few copies.
+//! A short text can ask for all memory: a JSON Patch doubles a document with each `copy`, and two patches may conflict at very many
+//! places. So call with the texts of strangers by [`within`] a limit: no result of an operation, no rewriting, no list of places and
+//! no answer then takes more.
 //!
 //! What a call answers is proved down to the exports of the library that this crate calls. The crate itself is tested alone.
 #![warn(missing_docs, unsafe_op_in_unsafe_fn)]
@@ -37,6 +38,7 @@
 mod calls;
 mod causes;
 mod error;
+mod patch_log;
 mod patches;
 mod places;
 mod raw;
@@ -45,6 +47,7 @@ mod texts;
 
 pub use causes::{DocumentCause, FormCause, PointerCause, RefusedCause};
 pub use error::Error;
+pub use patch_log::{Arrival, DecideError, Identity, PatchLog};
 pub use patches::{Added, Patches};
 pub use replica::{Received, Replica};
 pub use texts::{get, join, merge, patch, replay, rewrite, within, Within};

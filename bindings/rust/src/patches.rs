@@ -1,7 +1,7 @@
 //! Patches that are gathered without a start.
 
-use crate::calls::{status_of, text_of};
-use crate::raw::{self, Handle, OfHandle, OfText, CONFLICT, PENDING, RESULT};
+use crate::calls::{reply_of, status_of, text_of, LEAST};
+use crate::raw::{self, Handle, OfHandle, OfText, CONFLICT, PATCH, PENDING, RESULT};
 use crate::Error;
 use std::fmt;
 
@@ -146,14 +146,21 @@ impl Patches {
         Ok(patches)
     }
 
-    /// Makes one of the header's calls that give patches a text.
+    /// Makes one of the header's calls that give patches a text. Why it is not a document may end with a long place: then nothing
+    /// was taken, and the call is made again.
     fn take(&mut self, call: OfText, text: &[u8]) -> Result<Added, Error> {
         let (held, limit) = (&mut self.held, self.limit);
-        // SAFETY: no other call has `held`; the text is borrowed for the call, and no pointer of a slice is null; the call is made
-        // once, and writes its text alone.
-        let (reply, words) = unsafe {
-            status_of(|out, capacity| call(held, text.as_ptr(), text.len(), out, capacity, limit))
+        let mut make = |out, capacity| {
+            // SAFETY: no other call has `held`; the text is borrowed for the call, and no pointer of a slice is null; the buffer
+            // has the capacity, as the two below pass it.
+            unsafe { call(held, text.as_ptr(), text.len(), out, capacity, limit) }
         };
+        // SAFETY: the call writes its text alone.
+        let (mut reply, mut words) = unsafe { status_of(&mut make) };
+        if reply.status == PATCH && reply.length > LEAST {
+            // SAFETY: as above; after this status the call may be made again, since nothing is changed.
+            (reply, words) = unsafe { reply_of(reply.length, make) }?;
+        }
         let added = added_of(&reply, words)?;
         self.length = self.length.saturating_add(text.len());
         Ok(added)

@@ -3,9 +3,10 @@
 use std::fmt::{self, Write};
 use std::str::Chars;
 
-/// The strings of a JSON array of strings, as the library writes one, which has so many.
+/// The strings of a JSON array of strings, as the library writes one, which has at most so many.
 pub(crate) fn read(text: &str, total: usize) -> Vec<String> {
-    let mut places = Vec::with_capacity(total);
+    // Each takes two quotes and a comma or a bracket: the number may be that of many more places than the text has.
+    let mut places = Vec::with_capacity(total.min(text.len() / 3));
     let mut rest = text.chars();
     while let Some(next) = rest.next() {
         if next == '"' {
@@ -44,6 +45,15 @@ fn escaped_in(rest: &mut Chars<'_>) -> char {
                 .unwrap_or(char::REPLACEMENT_CHARACTER)
         }
         other => other.unwrap_or(char::REPLACEMENT_CHARACTER),
+    }
+}
+
+/// Shows the places of a conflict after ` at `, and how many more there are.
+pub(crate) fn show(to: &mut fmt::Formatter<'_>, places: &[String], total: usize) -> fmt::Result {
+    write!(to, " at {}", Quoted(places))?;
+    match total.saturating_sub(places.len()) {
+        0 => Ok(()),
+        more => write!(to, " and {more} more"),
     }
 }
 

@@ -1,5 +1,6 @@
 //! What the header of the library for C declares.
 
+use crate::Identity;
 use std::ffi::c_void;
 use std::marker::PhantomData;
 use std::ptr;
@@ -7,6 +8,10 @@ use std::ptr;
 /// The statuses that more than the table in `error.rs` looks for.
 pub(crate) const RESULT: u32 = 0;
 pub(crate) const CONFLICT: u32 = 1;
+pub(crate) const REFUSED: u32 = 3;
+pub(crate) const MISSING: u32 = 4;
+pub(crate) const PATCH: u32 = 6;
+pub(crate) const NO_MEMORY: u32 = 9;
 pub(crate) const PENDING: u32 = 10;
 
 /// A text that a call borrows, as the header's `mergejoin_text`.
@@ -29,7 +34,7 @@ pub(crate) struct Reply {
     _flags: u32,
 }
 
-/// A handle, as the header's `mergejoin_replica` and `mergejoin_patches`.
+/// A handle, as the header's `mergejoin_replica`, `mergejoin_patches` and `mergejoin_patch_log`.
 #[repr(C)]
 pub(crate) struct Handle {
     held: *mut c_void,
@@ -222,4 +227,46 @@ extern "C" {
         limit: usize,
     ) -> Reply;
     pub(crate) fn mergejoin_patches_free(patches: &mut Handle);
+
+    pub(crate) fn mergejoin_patch_log_start(
+        log: &mut Handle,
+        epoch: u64,
+        start: *const u8,
+        length: usize,
+        out: *mut u8,
+        capacity: usize,
+        limit: usize,
+    ) -> Reply;
+    pub(crate) fn mergejoin_patch_log_receive(
+        log: &mut Handle,
+        epoch: u64,
+        sender: u64,
+        number: u64,
+        patch: *const u8,
+        length: usize,
+        out: *mut u8,
+        capacity: usize,
+        limit: usize,
+    ) -> Reply;
+    pub(crate) fn mergejoin_patch_log_document(
+        log: &mut Handle,
+        out: *mut u8,
+        capacity: usize,
+        limit: usize,
+    ) -> Reply;
+    pub(crate) fn mergejoin_patch_log_conflicts(
+        log: &mut Handle,
+        out: *mut u8,
+        capacity: usize,
+        limit: usize,
+    ) -> Reply;
+    pub(crate) fn mergejoin_patch_log_decide(
+        log: &mut Handle,
+        chosen: *const Identity,
+        count: usize,
+        out: *mut u8,
+        capacity: usize,
+        limit: usize,
+    ) -> Reply;
+    pub(crate) fn mergejoin_patch_log_free(log: &mut Handle);
 }

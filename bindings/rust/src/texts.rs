@@ -8,21 +8,21 @@ use crate::Error;
 /// patch, in addition to the values of the document that are tested.
 const REWRITTEN: usize = 16;
 
-/// The six functions, each with a limit of its result; [`within`] gives them.
-///
-/// What a call takes on the way, and the places of a conflict, are not bounded by it.
+/// The six functions, each within a limit; [`within`] gives them.
 #[derive(Clone, Copy, Debug)]
 pub struct Within {
     limit: usize,
 }
 
-/// Gives the six functions with a limit: a result whose text has more bytes is [`Error::TooLarge`].
+/// Gives the six functions within a limit in bytes. It bounds the text of a result; the weight of what each operation of a JSON Patch
+/// leaves, and of a rewriting, which is about what they take in memory; and the places that are reported of a conflict. If the result, or
+/// something on the way to it, is larger, that is [`Error::TooLarge`]; of a conflict the first places are reported, and how many there are.
 ///
 /// ```
 /// use mergejoin::{within, Error};
 ///
 /// let copy = r#"[{"op":"copy","from":"","path":"/a"}]"#;
-/// assert_eq!(within(100).patch("{}", copy)?, r#"{"a":{}}"#);
+/// assert_eq!(within(2_500).patch("{}", copy)?, r#"{"a":{}}"#);
 /// assert_eq!(within(5).patch("{}", copy), Err(Error::TooLarge));
 /// # Ok::<(), Error>(())
 /// ```

@@ -1,7 +1,8 @@
-//! What stays in memory: replicas, and patches without a start.
+//! What stays in memory: replicas, patches without a start, and patch logs.
 
 use mergejoin::{
-    join, replay, Added, DocumentCause, Error, Patches, PointerCause, Received, Replica,
+    join, replay, Added, Arrival, DecideError, DocumentCause, Error, Identity, PatchLog, Patches,
+    PointerCause, Received, Replica,
 };
 
 const ADA: &str = r#"{"author":"Ada"}"#;
@@ -13,12 +14,18 @@ fn conflict(place: &str) -> Error {
     Error::Conflict {
         patches: None,
         places: vec![place.to_owned()],
+        total: 1,
     }
 }
 
+// Of a kept form there is no place.
+fn unread(cause: DocumentCause) -> Error {
+    Error::Document { cause, place: None }
+}
+
 fn is_not_json<T>(answer: Result<T, Error>) -> bool {
-    let (number, cause) = (0, DocumentCause::NotJson);
-    answer.err() == Some(Error::Patch { number, cause })
+    let (number, cause, place) = (0, DocumentCause::NotJson, None);
+    answer.err() == Some(Error::Patch { number, cause, place })
 }
 
 /// Members enough that no first buffer has their join, or their places.
@@ -43,9 +50,9 @@ fn a_replica_shows_what_it_received() {
 
 #[test]
 fn each_error_of_a_replica_is_reported() {
-    let cause = DocumentCause::TooDeep;
+    let (cause, place) = (DocumentCause::TooDeep, Some("/0".repeat(126)));
     let deep = "[".repeat(127) + &"]".repeat(127);
-    assert_eq!(Replica::new(deep).err(), Some(Error::Document(cause)));
+    assert_eq!(Replica::new(deep).err(), Some(Error::Document { cause, place }));
 
     let mut replica = Replica::new(START).unwrap();
     replica.receive(ADA).unwrap();
@@ -65,7 +72,7 @@ fn texts_are_longer_than_a_first_buffer() {
     replica.receive(format!(r#"{{"all":{one}}}"#)).unwrap();
     assert_eq!(replica.get("/all").as_deref(), Ok(one.as_str()));
     match replica.receive(format!(r#"{{"all":{other}}}"#)) {
-        Err(Error::Conflict { patches, places }) => {
+        Err(Error::Conflict { patches, places, .. }) => {
             assert_eq!((patches, places.len()), (None, 500));
             assert_eq!(places[499], "/all/499");
         }
@@ -75,6 +82,25 @@ fn texts_are_longer_than_a_first_buffer() {
         replica.document(),
         replay("{}", [format!(r#"{{"all":{one}}}"#)])
     );
+}
+
+#[test]
+fn a_place_is_longer_than_a_first_buffer() {
+    for name in ["n".repeat(1000), format!("{}\u{e9}", "n".repeat(43))] {
+        let patch = format!(r#"{{"{name}":1.5}}"#);
+        let (number, cause) = (0, DocumentCause::NotWhole);
+        let place = Some(format!("/{name}"));
+        let error = Error::Patch { number, cause, place };
+        let mut patches = Patches::new();
+        patches.add(ADA).unwrap();
+        assert_eq!(patches.add(&patch).err().as_ref(), Some(&error));
+        assert_eq!(patches.text().as_deref(), Ok(ADA), "it is as it was");
+        let mut replica = Replica::new(START).unwrap();
+        assert_eq!(replica.receive(&patch).err().as_ref(), Some(&error));
+        let (epoch, identity) = (0, Identity { sender: 1, number: 1 });
+        let mut log = PatchLog::new(epoch, START).unwrap();
+        assert_eq!(log.receive(epoch, identity, &patch).err().as_ref(), Some(&error));
+    }
 }
 
 #[test]
@@ -98,7 +124,7 @@ fn a_conflict_takes_all_further_patches() {
     assert_eq!(patches.add(ADA), Ok(Added::Conflict));
     assert!(is_not_json(patches.add("")));
     let places = |answer| match answer {
-        Err(Error::Conflict { patches, places }) => (patches, places.len()),
+        Err(Error::Conflict { patches, places, .. }) => (patches, places.len()),
         answer => panic!("{answer:?}"),
     };
     assert_eq!(places(patches.text()), (None, 500));
@@ -148,9 +174,9 @@ fn a_kept_form_is_taken_back() {
 #[test]
 fn each_error_of_a_kept_form_is_reported() {
     for (kept, why) in [
-        ("{", Error::Document(DocumentCause::NotJson)),
-        ("1.5", Error::Document(DocumentCause::NotWhole)),
-        ("!", Error::Document(DocumentCause::NotJson)),
+        ("{", unread(DocumentCause::NotJson)),
+        ("1.5", unread(DocumentCause::NotWhole)),
+        ("!", unread(DocumentCause::NotJson)),
         ("!{}", Error::NotKept),
         ("![]", Error::NotKept),
         (r#"!["a"]"#, Error::NotKept),
@@ -158,6 +184,100 @@ fn each_error_of_a_kept_form_is_reported() {
         assert_eq!(Patches::from_kept(kept).err(), Some(why), "{kept}");
     }
     assert_eq!(Error::NotKept.to_string(), "not kept patches");
+}
+
+const ONE: Identity = Identity { sender: 1, number: 1 };
+const TWO: Identity = Identity { sender: 2, number: 1 };
+const LAST: Identity = Identity { sender: u64::MAX, number: u64::MAX };
+
+/// A log of the start of number 7, which has patches of Ada and of Bob, that conflict, and one that conflicts with neither.
+fn log_of_three() -> PatchLog {
+    let mut log = PatchLog::new(7, START).unwrap();
+    for (identity, patch) in [(LAST, UNTITLED), (TWO, BOB), (ONE, ADA)] {
+        assert_eq!(log.receive(7, identity, patch), Ok(Arrival::Stored));
+    }
+    log
+}
+
+#[test]
+fn a_patch_log_shows_what_conflicts_with_no_other() {
+    let mut log = log_of_three();
+    for (epoch, arrival) in [(7, Arrival::Repeat), (6, Arrival::Late), (u64::MAX, Arrival::Early)] {
+        assert_eq!(log.receive(epoch, ONE, UNTITLED), Ok(arrival));
+    }
+    assert_eq!(log.document(), replay(START, [UNTITLED]));
+    let pair = r#"[{"first":[1,1],"second":[2,1],"places":["/author"]}]"#;
+    assert_eq!(log.conflicts().as_deref(), Ok(pair));
+}
+
+#[test]
+fn a_decision_begins_the_next_start() {
+    let mut log = log_of_three();
+    assert_eq!(log.decide(&[LAST, TWO, LAST]), Ok(()));
+    assert_eq!(log.document(), replay(START, [BOB, UNTITLED]));
+    assert_eq!(log.conflicts().as_deref(), Ok("[]"));
+    assert_eq!(log.receive(7, ONE, ADA), Ok(Arrival::Late));
+    assert_eq!(log.receive(8, ONE, ADA), Ok(Arrival::Stored));
+    assert_eq!(log.decide(&[]), Ok(()));
+    assert_eq!(log.document(), replay(START, [BOB, UNTITLED]));
+}
+
+#[test]
+fn each_error_of_a_patch_log_is_reported() {
+    let cause = DocumentCause::NotWhole;
+    let place = Some("/a".to_owned());
+    let unread = Error::Document { cause, place: place.clone() };
+    assert_eq!(PatchLog::new(7, r#"{"a":1.5}"#).err(), Some(unread));
+    let mut log = log_of_three();
+    for epoch in [6, 7, 8] {
+        assert!(is_not_json(log.receive(epoch, ONE, "[")));
+        let unread = Error::Patch { number: 0, cause, place: place.clone() };
+        assert_eq!(log.receive(epoch, ONE, r#"{"a":1.5}"#), Err(unread));
+    }
+    let none = Identity { sender: 1, number: 2 };
+    let missing = DecideError::NotReceived(none);
+    assert_eq!(log.decide(&[ONE, TWO, none]), Err(missing.clone()));
+    assert_eq!(missing.to_string(), "1:2 has not arrived");
+    let conflict = DecideError::Conflict {
+        first: ONE,
+        second: TWO,
+        places: vec!["/author".to_owned()],
+        total: 1,
+    };
+    for chosen in [[ONE, LAST, TWO], [TWO, TWO, ONE]] {
+        assert_eq!(log.decide(&chosen), Err(conflict.clone()));
+    }
+    let shown = r#"conflict: 1:1 and 2:1 at "/author""#;
+    assert_eq!(conflict.to_string(), shown);
+    assert_eq!(log.document(), replay(START, [UNTITLED]), "it is as it was");
+
+    let mut last = PatchLog::new(u64::MAX, START).unwrap();
+    assert_eq!(last.decide(&[ONE]), Err(DecideError::LastEpoch));
+    assert_eq!(DecideError::LastEpoch.to_string(), "no number is left for a start");
+    assert_eq!(last.document().as_deref(), Ok(START));
+}
+
+#[test]
+fn texts_of_a_patch_log_are_longer_than_a_first_buffer() {
+    let (one, other) = (members(1), members(2));
+    let mut log = PatchLog::new(0, "{}").unwrap();
+    log.receive(0, ONE, &one).unwrap();
+    assert_eq!(log.document().as_ref(), Ok(&one));
+    log.receive(0, TWO, other).unwrap();
+    assert!(log.conflicts().unwrap().ends_with(r#","/498","/499"]}]"#));
+    let places = |answer| match answer {
+        Err(DecideError::Conflict { places, total, .. }) => (places.len(), total),
+        answer => panic!("{answer:?}"),
+    };
+    assert_eq!(places(log.decide(&[ONE, TWO])), (500, 500));
+    log.set_limit(r#"["/000","/001"]"#.len());
+    assert_eq!(places(log.decide(&[ONE, TWO])), (2, 500));
+    let shown = log.decide(&[ONE, TWO]).unwrap_err().to_string();
+    assert_eq!(shown, r#"conflict: 1:1 and 2:1 at "/000", "/001" and 498 more"#);
+    assert_eq!(log.conflicts(), Err(Error::TooLarge));
+    log.set_limit(1);
+    assert_eq!(log.document(), Err(Error::TooLarge));
+    assert_eq!(log.receive(0, LAST, "{}"), Ok(Arrival::Stored), "a limit is of what is read");
 }
 
 #[test]
@@ -186,12 +306,15 @@ fn threads_take_them_along() {
     let mut patches = Patches::new();
     replica.receive(ADA).unwrap();
     patches.add(ADA).unwrap();
+    let mut log = log_of_three();
     let other = std::thread::spawn(move || {
         replica.receive(UNTITLED).unwrap();
         patches.add(UNTITLED).unwrap();
-        (replica, patches)
+        log.decide(&[ONE]).unwrap();
+        (replica, patches, log)
     });
-    let (mut replica, mut patches) = other.join().unwrap();
+    let (mut replica, mut patches, mut log) = other.join().unwrap();
+    assert_eq!(log.document(), replay(START, [ADA]));
     assert_eq!(replica.document(), replay(START, [ADA, UNTITLED]));
     assert_eq!(patches.text(), join([ADA, UNTITLED]));
 }
@@ -203,4 +326,5 @@ fn what_is_held_is_not_shown() {
         "Replica { .. }"
     );
     assert_eq!(format!("{:?}", Patches::new()), "Patches { .. }");
+    assert_eq!(format!("{:?}", log_of_three()), "PatchLog { .. }");
 }

@@ -72,6 +72,7 @@ fn a_conflict_has_all_its_places() {
     let wanted = Error::Conflict {
         patches: Some((0, 2)),
         places: places.map(text).to_vec(),
+        total: 6,
     };
     let given = [with(1), text(r#"{"other":1}"#), with(2)];
     let shown = r#"conflict: patches 0 and 2 at "/\b\f\n\r\t\u0001\u001f", "/\",", "/\\", "/a~1b", "/é", "/😀""#;
@@ -85,19 +86,47 @@ fn each_error_is_reported() {
     let none: [&str; 0] = [];
     assert_eq!(join(none), Err(Error::NoPatches));
     assert_eq!(get("1", "/a"), Err(Error::Missing));
-    let cause = DocumentCause::NotWhole;
-    assert_eq!(merge("1.5", ["["]), Err(Error::Document(cause)));
-    let (number, cause) = (1, DocumentCause::NotJson);
-    assert_eq!(merge("1", ["1", ""]), Err(Error::Patch { number, cause }));
+    let (cause, place) = (DocumentCause::NotWhole, Some("/a~1b/1".to_owned()));
+    let unread = Error::Document { cause, place };
+    assert_eq!(unread.to_string(), r#"document: number not whole at "/a~1b/1""#);
+    assert_eq!(merge(r#"{"a/b":[1,1.5]}"#, ["["]), Err(unread));
+    let (number, cause, place) = (1, DocumentCause::NotJson, None);
+    let unread = Error::Patch { number, cause, place };
+    assert_eq!(merge("1", ["1", ""]), Err(unread.clone()));
     let not_utf8: [&[u8]; 2] = [b"1", b"\"\xff\""];
-    assert_eq!(merge("1", not_utf8), Err(Error::Patch { number, cause }));
+    assert_eq!(merge("1", not_utf8), Err(unread));
+    let (cause, place) = (DocumentCause::NotWhole, Some(String::new()));
+    assert_eq!(merge("1", ["1", "0.5"]), Err(Error::Patch { number, cause, place }));
     let (offset, cause) = (1, PointerCause::BadTilde);
     assert_eq!(get("1", "/~2"), Err(Error::Pointer { offset, cause }));
     let (offset, cause) = (0, PointerCause::NoSlash);
     assert_eq!(get("1", "a"), Err(Error::Pointer { offset, cause }));
     let deep = "[".repeat(127) + &"]".repeat(127);
-    let cause = DocumentCause::TooDeep;
-    assert_eq!(rewrite(deep, "1"), Err(Error::Document(cause)));
+    let (cause, place) = (DocumentCause::TooDeep, Some("/0".repeat(126)));
+    assert_eq!(rewrite(deep, "1"), Err(Error::Document { cause, place }));
+}
+
+#[test]
+fn a_limit_bounds_what_is_made() {
+    // A document that is copied into itself, over and over: each copy doubles it.
+    let copy = r#"{"op":"copy","from":"","path":"/a/-"}"#;
+    for document in [r#"{"a":["0123456789"]}"#, r#"{"a":[{"":{"":0}}]}"#] {
+        let copies = format!("[{}]", vec![copy; 60].join(","));
+        assert_eq!(within(64_000_000).patch(document, copies), Err(Error::TooLarge));
+    }
+    // Patches that conflict at more places than the limit allows.
+    let with = |value: u8| {
+        let names: Vec<String> = (0..1000).map(|name| format!(r#""n{name}":{value}"#)).collect();
+        format!("{{{}}}", names.join(","))
+    };
+    match within(1000).join([with(1), with(2)]) {
+        Err(Error::Conflict { places, total, .. }) => {
+            assert_eq!(total, 1000);
+            assert_eq!(places, ["/n0", "/n1", "/n10", "/n100", "/n101", "/n102", "/n103"]);
+        }
+        answer => panic!("{answer:?}"),
+    }
+    assert_eq!(within(300).rewrite(r#"{"a":1}"#, r#"{"a":null}"#), Err(Error::TooLarge));
 }
 
 /// Why the second of two operations is refused.
@@ -199,29 +228,36 @@ fn a_long_answer_is_asked_for_again() {
 
 #[test]
 fn a_limit_is_of_the_result() {
-    let (document, merged) = (r#"{"a":1}"#, r#"{"a":1,"b":2}"#);
-    let (add, edits) = (r#"{"b":2}"#, r#"[{"op":"add","path":"/b","value":2}]"#);
+    let (document, add, merged) = (r#"{"a":1}"#, r#"{"b":2}"#, r#"{"a":1,"b":2}"#);
     let call = |limit| {
         let within = within(limit);
         [
             within.join([document, add]),
             within.replay(document, [add]),
             within.merge(document, [add]),
-            within.patch(document, edits),
             within.get(merged, ""),
-            within.rewrite(document, add),
         ]
     };
-    let [five @ .., rewritten] = call(merged.len());
-    assert_eq!(five, [(); 5].map(|()| Ok(text(merged))));
-    assert_eq!(rewritten, Err(Error::TooLarge));
-    assert_eq!(call(edits.len())[5].as_deref(), Ok(edits));
+    assert_eq!(call(merged.len()), [(); 4].map(|()| Ok(text(merged))));
     assert_eq!(
         call(merged.len() - 1),
-        [(); 6].map(|()| Err(Error::TooLarge))
+        [(); 4].map(|()| Err(Error::TooLarge))
     );
     assert_eq!(within(0).get(document, "/b"), Err(Error::Missing));
     assert!(within(0).join([document, "1"]).is_err());
+}
+
+#[test]
+fn a_limit_is_of_what_operations_make_and_take() {
+    let (document, add, merged) = (r#"{"a":1}"#, r#"{"b":2}"#, r#"{"a":1,"b":2}"#);
+    let edits = r#"[{"op":"add","path":"/b","value":2}]"#;
+    // An object weighs 1000 bytes, a name of one byte 129, a number 40, and the pointer of such a name 138.
+    let patched = |limit| within(limit).patch(document, edits);
+    assert_eq!(patched(1338).as_deref(), Ok(merged));
+    assert_eq!(patched(1337), Err(Error::TooLarge));
+    let rewritten = |limit| within(limit).rewrite(document, add);
+    assert_eq!(rewritten(178).as_deref(), Ok(edits));
+    assert_eq!(rewritten(177), Err(Error::TooLarge));
 }
 
 #[test]

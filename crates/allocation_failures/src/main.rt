@@ -1,10 +1,12 @@
 //! Watches one public call, whose name is the program's one word, and prints what was seen of it. With no word it
-//! prints the names. `checks/allocation-failures` runs it under a heap that refuses, once for each request that is made:
+//! prints the names. `tests/allocation` runs it under a heap that refuses, once for each request that is made:
 //! it makes none of its own.
 #![tactic(auto)]
 
 mod documents;
+mod limits;
 mod live;
+mod logs;
 mod merges;
 mod patches;
 mod pointers;
@@ -57,7 +59,9 @@ fn watch(alloc: Global, name: &str) -> Option<Option<Seen>> {
     let (module, call) = name.split_once("::")?;
     match module {
         "documents" => documents::watch(alloc, call),
+        "limits" => limits::watch(alloc, call),
         "live" => live::watch(alloc, call),
+        "logs" => logs::watch(alloc, call),
         "merges" => merges::watch(alloc, call),
         "patches" => patches::watch(alloc, call),
         "seeded" => seeded::watch(alloc, call),
@@ -74,7 +78,9 @@ fn watch(alloc: Global, name: &str) -> Option<Option<Seen>> {
 fn list(rt: &impl Print) -> u8 {
     for (module, calls) in [
         ("documents", documents::CALLS),
+        ("limits", limits::CALLS),
         ("live", live::CALLS),
+        ("logs", logs::CALLS),
         ("merges", merges::CALLS),
         ("patches", patches::CALLS),
         ("seeded", seeded::CALLS),

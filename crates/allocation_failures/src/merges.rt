@@ -162,7 +162,7 @@ fn watch_join_into_again(alloc: Global) -> Option<Seen> {
 }
 
 /// The two patches of `CLASHING`, twice.
-fn clashing_lists(alloc: Global) -> Option<(Vec<Doc>, Vec<Doc>)> {
+pub fn clashing_lists(alloc: Global) -> Option<(Vec<Doc>, Vec<Doc>)> {
     Some((docs_of(alloc, CLASHING)?, docs_of(alloc, CLASHING)?))
 }
 

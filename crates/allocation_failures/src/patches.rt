@@ -12,12 +12,12 @@ pub const FORM: &str = r#"[{"op":"move","path":"/b","from":"/a"}]"#;
 const VALUED_FORM: &str = r#"[{"op":"add","path":"/a","value":[5]}]"#;
 
 /// A patch in which each operation has something to do.
-const LONG_FORM: &str =
+pub const LONG_FORM: &str =
     r#"[{"op":"add","path":"/l/-","value":{"x":[3]}},{"op":"test","path":"/n","value":"t"},{"op":"copy","from":"/n","path":"/l/0"},{"op":"replace","path":"/n","value":[null]},{"op":"move","from":"/l/1","path":"/m"},{"op":"remove","path":"/l/1"}]"#;
 
-const DOC: &str = r#"{"l":[1,2],"n":"t"}"#;
+pub const DOC: &str = r#"{"l":[1,2],"n":"t"}"#;
 
-const END: &str = r#"{"l":["t",{"x":[3]}],"m":1,"n":[null]}"#;
+pub const END: &str = r#"{"l":["t",{"x":[3]}],"m":1,"n":[null]}"#;
 
 /// The names that `watch` takes.
 pub const CALLS: &[&str] = &[
@@ -179,7 +179,7 @@ fn watch_write_patch(alloc: Global) -> Option<Seen> {
     Some(Seen::of_text(mp_patch::write_patch(alloc, &patch), text.as_str()))
 }
 
-fn long_patch(alloc: Global) -> Option<JsonPatch> {
+pub fn long_patch(alloc: Global) -> Option<JsonPatch> {
     let form = doc_of(alloc, LONG_FORM)?;
     patch_of(alloc, &form)
 }

@@ -1,4 +1,4 @@
-//! Mutants, which `checks/allocation-failures` has to refuse.
+//! Mutants, which `tests/allocation` has to notice.
 use crate::preparing::{doc_of, two_docs_of};
 use crate::seen::Seen;
 use mp_tree::Doc;

@@ -1,4 +1,5 @@
 //! What was seen of a call, and the line of it.
+use mp_merge::Conflicts;
 use mp_pointer::Pointer;
 use mp_tree::Doc;
 use std::alloc::AllocError;
@@ -84,6 +85,11 @@ pub fn are_pointers(pointers: &[Pointer], wanted: &[&[&str]]) -> bool {
         }
     }
     true
+}
+
+/// Whether these are the conflicts that are reported, and so many there are. It takes no memory.
+pub fn are_conflicts(conflicts: &Conflicts, wanted: &[&[&str]], total: usize) -> bool {
+    conflicts.total == total && are_pointers(conflicts.places.as_slice(), wanted)
 }
 
 /// Whether the documents are equal, one by one. It takes no memory.

@@ -1,7 +1,7 @@
 //! The calls of mp_texts, which all take memory.
 use crate::preparing::two_pointers_of;
-use crate::seen::{Seen, are_pointers};
-use mp_merge::ListFault;
+use crate::seen::{Seen, are_conflicts};
+use mp_merge::ListWithinFault;
 use mp_texts::TextsFault;
 use mp_tree::ReadFault;
 use std::alloc::Global;
@@ -118,13 +118,15 @@ fn seen_clash(given: Result<String, TextsFault>, pair: (usize, usize), wanted: &
     match given {
         Err(
             TextsFault::List(
-                ListFault::ConflictOf {
+                ListWithinFault::ConflictOf {
                     first,
                     second,
-                    places,
+                    conflicts,
                 },
             ),
-        ) => Seen::answer_if((first, second) == pair && are_pointers(places.as_slice(), wanted)),
+        ) => Seen::answer_if(
+            (first, second) == pair && are_conflicts(&conflicts, wanted, wanted.len()),
+        ),
         Err(TextsFault::OutOfMemory) => Seen::NoMemory,
         _ => Seen::Wrong,
     }
@@ -132,12 +134,16 @@ fn seen_clash(given: Result<String, TextsFault>, pair: (usize, usize), wanted: &
 
 fn watch_join_texts(alloc: Global) -> Option<Seen> {
     let patches = [X.as_bytes(), Y.as_bytes(), K.as_bytes(), X.as_bytes()];
-    Some(seen_text(mp_texts::join_texts(alloc, &patches), JOIN))
+    Some(seen_text(mp_texts::join_texts(alloc, &patches, usize::MAX), JOIN))
 }
 
 fn watch_join_texts_of_clashing(alloc: Global) -> Option<Seen> {
     let patches = [ONE.as_bytes(), OTHER.as_bytes()];
-    Some(seen_clash(mp_texts::join_texts(alloc, &patches), (0, 1), PLACES))
+    Some(seen_clash(
+        mp_texts::join_texts(alloc, &patches, usize::MAX),
+        (0, 1),
+        PLACES,
+    ))
 }
 
 /// The texts four times over.
@@ -151,19 +157,22 @@ fn often(alloc: Global, texts: &'static [&'static [u8]]) -> Option<Vec<&'static 
 
 fn watch_join_texts_of_many(alloc: Global) -> Option<Seen> {
     let many = often(alloc, MANY)?;
-    Some(seen_text(mp_texts::join_texts(alloc, many.as_slice()), MANY_JOIN))
+    Some(seen_text(
+        mp_texts::join_texts(alloc, many.as_slice(), usize::MAX),
+        MANY_JOIN,
+    ))
 }
 
 /// The first pair of several that conflict.
 fn watch_join_texts_of_many_clashing(alloc: Global) -> Option<Seen> {
     let many = often(alloc, MANY_CLASHING)?;
-    let given = mp_texts::join_texts(alloc, many.as_slice());
+    let given = mp_texts::join_texts(alloc, many.as_slice(), usize::MAX);
     Some(seen_clash(given, (2, 6), MANY_PLACES))
 }
 
 fn watch_join_texts_of_an_unread(alloc: Global) -> Option<Seen> {
     let patches = [X.as_bytes(), b"1,2".as_slice(), Y.as_bytes()];
-    Some(match mp_texts::join_texts(alloc, &patches) {
+    Some(match mp_texts::join_texts(alloc, &patches, usize::MAX) {
         Err(TextsFault::Patch { number, fault }) => {
             Seen::answer_if(number == 1 && fault == ReadFault::NotJson)
         }
@@ -174,34 +183,34 @@ fn watch_join_texts_of_an_unread(alloc: Global) -> Option<Seen> {
 
 fn watch_replay_texts(alloc: Global) -> Option<Seen> {
     let patches = [K.as_bytes(), Y.as_bytes(), X.as_bytes()];
-    let given = mp_texts::replay_texts(alloc, START.as_bytes(), &patches);
+    let given = mp_texts::replay_texts(alloc, START.as_bytes(), &patches, usize::MAX);
     Some(seen_text(given, OUTCOME))
 }
 
 fn watch_replay_texts_of_many(alloc: Global) -> Option<Seen> {
     let many = often(alloc, MANY)?;
-    let given = mp_texts::replay_texts(alloc, START.as_bytes(), many.as_slice());
+    let given = mp_texts::replay_texts(alloc, START.as_bytes(), many.as_slice(), usize::MAX);
     Some(seen_text(given, MANY_OUTCOME))
 }
 
 fn watch_merge_texts(alloc: Global) -> Option<Seen> {
     let patches = [K.as_bytes(), X.as_bytes(), Y.as_bytes()];
-    let given = mp_texts::merge_texts(alloc, START.as_bytes(), &patches);
+    let given = mp_texts::merge_texts(alloc, START.as_bytes(), &patches, usize::MAX);
     Some(seen_text(given, OUTCOME))
 }
 
 fn watch_rewrite_text(alloc: Global) -> Option<Seen> {
-    let given = mp_texts::rewrite_text(alloc, START.as_bytes(), JOIN.as_bytes());
+    let given = mp_texts::rewrite_text(alloc, START.as_bytes(), JOIN.as_bytes(), usize::MAX);
     Some(seen_text(given, EDITS))
 }
 
 fn watch_patch_text(alloc: Global) -> Option<Seen> {
-    let given = mp_texts::patch_text(alloc, START.as_bytes(), EDITS.as_bytes());
+    let given = mp_texts::patch_text(alloc, START.as_bytes(), EDITS.as_bytes(), usize::MAX);
     Some(seen_text(given, OUTCOME))
 }
 
 fn watch_part_text(alloc: Global) -> Option<Seen> {
-    let given = mp_texts::part_text(alloc, ONE.as_bytes(), "/a/y");
+    let given = mp_texts::part_text(alloc, ONE.as_bytes(), "/a/y", usize::MAX);
     Some(seen_text(given, "[1]"))
 }
 

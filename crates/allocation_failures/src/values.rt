@@ -67,7 +67,7 @@ fn two_values_of(alloc: Global, texts: [&str; 2]) -> Option<[Value; 2]> {
 }
 
 /// Whether the values are equal, one by one. It takes no memory.
-fn are_same_values(values: &[Value], others: &[Value]) -> bool {
+pub fn are_same_values(values: &[Value], others: &[Value]) -> bool {
     if values.len() != others.len() {
         return false;
     }

@@ -40,12 +40,19 @@ pub const CALLS: &[&str] = &[
     "empty",
     "fault_line",
     "fits",
+    "front_part_in",
     "get",
     "get_mut",
     "get_value",
     "index_of",
+    "is_whole",
     "items_mut",
     "join_into",
+    "left_of",
+    "left_of_name",
+    "left_of_op",
+    "left_of_place",
+    "left_of_value",
     "live_patches",
     "live_replica",
     "members_mut",
@@ -74,10 +81,12 @@ pub fn watch(alloc: Global, name: &str) -> Option<Option<Seen>> {
         "empty" => Some(watch_empty(alloc)),
         "fault_line" => Some(watch_fault_line()),
         "fits" => watch_fits(alloc),
+        "front_part_in" => watch_front_part_in(alloc),
         "get" => watch_get(alloc),
         "get_mut" => watch_get_mut(alloc),
         "get_value" => watch_get_value(alloc),
         "index_of" => Some(watch_index_of()),
+        "is_whole" => watch_is_whole(alloc),
         "items_mut" => watch_items_mut(alloc),
         "join_into" => watch_join_into(alloc),
         "live_patches" => watch_patches_without_memory(alloc),
@@ -95,6 +104,18 @@ pub fn watch(alloc: Global, name: &str) -> Option<Option<Seen>> {
         "value_items_mut" => watch_value_items_mut(alloc),
         "value_members_mut" => watch_value_members_mut(alloc),
         "whole" => Some(watch_whole()),
+        _ => return watch_weight(alloc, name),
+    })
+}
+
+/// Watches the call of this name, if it weighs something.
+fn watch_weight(alloc: Global, name: &str) -> Option<Option<Seen>> {
+    Some(match name {
+        "left_of" => watch_left_of(alloc),
+        "left_of_name" => Some(watch_left_of_name()),
+        "left_of_op" => watch_left_of_op(alloc),
+        "left_of_place" => watch_left_of_place(alloc),
+        "left_of_value" => watch_left_of_value(alloc),
         _ => return None,
     })
 }
@@ -121,6 +142,63 @@ fn watch_same(alloc: Global) -> Option<Seen> {
 fn watch_fits(alloc: Global) -> Option<Seen> {
     let doc = doc_of(alloc, r#"{"b":1,"a":null}"#)?;
     Some(Seen::answer_if(doc.fits(1) && !doc.fits(0)))
+}
+
+/// A document, and what it weighs.
+const WEIGHED: &str = r#"{"a":[null,"text"],"b":{"c":-1}}"#;
+
+const WEIGHT: usize = 2_631;
+
+/// Whether the weight is all that is taken, and one byte less is too little.
+fn takes(left: Option<usize>, less: Option<usize>) -> Seen {
+    Seen::answer_if(left == Some(3) && less.is_none())
+}
+
+fn watch_left_of(alloc: Global) -> Option<Seen> {
+    let doc = doc_of(alloc, WEIGHED)?;
+    Some(takes(doc.left_of(WEIGHT + 3), doc.left_of(WEIGHT - 1)))
+}
+
+fn watch_left_of_value(alloc: Global) -> Option<Seen> {
+    let value = value_of(alloc, WEIGHED)?;
+    Some(takes(
+        mp_tree::left_of(&value, WEIGHT + 3),
+        mp_tree::left_of(&value, WEIGHT - 1),
+    ))
+}
+
+fn watch_left_of_name() -> Seen {
+    takes(
+        mp_tree::left_of_name("name", 135),
+        mp_tree::left_of_name("name", 131),
+    )
+}
+
+fn watch_left_of_place(alloc: Global) -> Option<Seen> {
+    let place = pointer_of(alloc, "/a~1b/c")?;
+    Some(takes(place.left_of(154), place.left_of(150)))
+}
+
+/// Of the operation of `FORM`.
+fn watch_left_of_op(alloc: Global) -> Option<Seen> {
+    let form = doc_of(alloc, FORM)?;
+    let patch = patch_of(alloc, &form)?;
+    let op = patch.ops().first()?;
+    Some(takes(op.left_of(279), op.left_of(275)))
+}
+
+/// Whether the number is whole, if the value is one.
+fn is_whole_number(value: &Value) -> bool {
+    match value {
+        Value::Number(number) => mp_tree::is_whole(number),
+        _ => false,
+    }
+}
+
+fn watch_is_whole(alloc: Global) -> Option<Seen> {
+    let whole = mp_tree::read_any(alloc, b"-7").ok()?;
+    let other = mp_tree::read_any(alloc, b"2.5").ok()?;
+    Some(Seen::answer_if(is_whole_number(&whole) && !is_whole_number(&other)))
 }
 
 /// Turns the array round, and returns whether it is one.
@@ -240,6 +318,18 @@ fn watch_get(alloc: Global) -> Option<Seen> {
         None => false,
     };
     Some(Seen::answer_if(found && mp_pointer::get(doc, past).is_none()))
+}
+
+fn watch_front_part_in(alloc: Global) -> Option<Seen> {
+    let docs = two_docs_of(alloc, [r#"{"a":[1,2]}"#, "[1,2]"])?;
+    let [doc, wanted] = &docs;
+    let pointers = two_pointers_of(alloc, ["/a", "/a/2"])?;
+    let [within, past] = &pointers;
+    let found = match mp_pointer::front_part_in(doc, within, within.len()) {
+        Some(part) => part.same(wanted),
+        None => false,
+    };
+    Some(Seen::answer_if(found && mp_pointer::front_part_in(doc, past, past.len()).is_none()))
 }
 
 fn watch_get_mut(alloc: Global) -> Option<Seen> {

@@ -1,9 +1,7 @@
-//! Why a replica has nothing to show, or begins no new start.
+//! Why a replica has nothing to show.
 ghost use Rattle.std.specs.Prelude.{◌≡◌};
 
-use crate::patch_log::Identity;
 use mp_merge::ListFault;
-use mp_pointer::Pointer;
 use mp_tree::{DocsFault, ReadFault};
 use std::alloc::AllocError;
 use thiserror::Error;
@@ -71,39 +69,5 @@ impl From<AllocError> for ShowFault {
 
     fn from(_refused: AllocError) -> ShowFault {
         ShowFault::OutOfMemory
-    }
-}
-
-/// Why a replica does not begin the new start that was decided.
-#[derive(Debug, Drop, Error)]
-pub enum DecideFault {
-    /// The chosen patch with this identity has not arrived yet: the decision waits for it.
-    #[error("{0:?} has not arrived")]
-    NotReceived(Identity),
-    /// Two of the chosen patches conflict; the pointers lead to all their conflicts, in the order of paths.
-    #[error("conflict: {first:?} and {second:?}")]
-    Conflict {
-        /// The identity of the chosen patch that was received earlier.
-        first: Identity,
-        /// The identity of the one that was received later.
-        second: Identity,
-        /// The paths at which the two disagree, in the order of paths.
-        places: Vec<Pointer>,
-    },
-    /// There is no number after that of this start.
-    #[error("no number is left for a start")]
-    LastEpoch,
-    /// Memory ran out.
-    #[error("out of memory")]
-    OutOfMemory,
-}
-
-impl From<AllocError> for DecideFault {
-    ghost use Rattle.library_example.specs.declared.fault.DecideFault.TheVariants.{OutOfMemory};
-
-    ghost from_gives = { λ _ fault. fault ≡ OutOfMemory };
-
-    fn from(_refused: AllocError) -> DecideFault {
-        DecideFault::OutOfMemory
     }
 }

@@ -12,7 +12,7 @@ use Rattle.mp_c.specs.Replies.{HandleReplies, IsReply}
 use Rattle.mp_c.specs.Report.{report_of_handle}
 use Rattle.mp_c.specs.declared.replying.Reply.{Reply}
 use Rattle.mp_c.specs.declared.stopping.Stop.{Stop}
-use Rattle.mp_c.specs.declared.stopping.Stop.TheVariants.{Conflict, Fault, NotStarted, NotUtf8}
+use Rattle.mp_c.specs.declared.stopping.Stop.TheVariants.{Conflict, Fault, NotStarted, NotUtf8, Unread}
 
 -- ---- what is kept
 
@@ -28,10 +28,10 @@ still_follows before after keeps start texts has = record {
 
 -- ---- conflicts of a replica
 
-pub all_places : (r : HeldReplica) (patch : List ℕ) (change : Document) (places : List Path) (stop : Stop) → document_in patch ≡ Ok change
-    → ((start : Document) (received : List Document) → Follows start received r → AreClashesWith received change places) → IsConflictAt places stop
-    → IsAllPlacesOf r patch stop
-all_places r patch change places (Conflict total array) read clashes at = λ start texts follows. record {
+pub all_places : (limit : ℕ) (r : HeldReplica) (patch : List ℕ) (change : Document) (places : List Path) (stop : Stop) → document_in patch ≡ Ok change
+    → ((start : Document) (received : List Document) → Follows start received r → AreClashesWith received change places) → IsConflictAt limit places stop
+    → IsAllPlacesOf limit r patch stop
+all_places limit r patch change places (Conflict total array) read clashes at = λ start texts follows. record {
   documents = follows.documents;
   read = follows.read;
   change = change;
@@ -41,16 +41,18 @@ all_places r patch change places (Conflict total array) read clashes at = λ sta
   counted = at.0;
   text = at.1;
 }
-all_places r patch change places (Fault why) read clashes at = at
-all_places r patch change places (NotUtf8 offset) read clashes at = at
-all_places r patch change places NotStarted read clashes at = at
+all_places limit r patch change places (Unread total said) read clashes at = at
+all_places limit r patch change places (Fault why) read clashes at = at
+all_places limit r patch change places (NotUtf8 offset) read clashes at = at
+all_places limit r patch change places NotStarted read clashes at = at
 
-pub refuses : (patch : List ℕ) (before after : HeldReplica) (stop : Stop) → Receives received.Conflict patch before after → IsAllPlacesOf after patch stop
-    → HasReceived patch before (stop_answer stop) after
-refuses patch before after (Conflict total array) receives places = (receives, λ start texts follows. places start texts (receives start texts follows).0)
-refuses patch before after (Fault why) receives places = absurd places
-refuses patch before after (NotUtf8 offset) receives places = absurd places
-refuses patch before after NotStarted receives places = absurd places
+pub refuses : (limit : ℕ) (patch : List ℕ) (before after : HeldReplica) (stop : Stop) → Receives received.Conflict patch before after → IsAllPlacesOf limit after patch stop
+    → HasReceived limit patch before (stop_answer stop) after
+refuses limit patch before after (Conflict total array) receives places = (receives, λ start texts follows. places start texts (receives start texts follows).0)
+refuses limit patch before after (Unread total said) receives places = absurd places
+refuses limit patch before after (Fault why) receives places = absurd places
+refuses limit patch before after (NotUtf8 offset) receives places = absurd places
+refuses limit patch before after NotStarted receives places = absurd places
 
 -- ---- a call on what a handle owns
 

@@ -1,57 +1,110 @@
--- What each export answers: the text or the error of the call over texts of its name, and of a pointer that is not a
--- text where it stops being one.
-use Rattle.std.specs.Prelude.{◌≡◌, ℕ, List, Err, ⊤}
+-- What each export answers: the text or the error of the call over texts of its name; where a text has the value for which it is
+-- no document; and of a pointer that is not a text where it stops being one.
+use Rattle.std.specs.Prelude.{◌≡◌, ◌++◌, ◌∷◌, [], ℕ, List, Option, None, Some, Err, codes, length, slice_get, ⊤}
 use Rattle.std.specs.Str.{IsUtf8, IsValidUpTo}
 use Rattle.mp_tree.specs.Text.{document_in}
-use Rattle.mp_texts.specs.Answers.{IsJoinText, IsMergeText, IsPartText, IsPatchText, IsReplayText, IsRewriteText}
-use Rattle.mp_texts.specs.Faults.{IsJoinTextFault, IsMergeTextFault, IsPartTextFault, IsPatchTextFault, IsRead}
-use Rattle.mp_texts.specs.Faults.{IsReplayTextFault, IsRewriteTextFault}
+use Rattle.mp_tree.specs.declared.fault.ReadFault.{ReadFault}
+use Rattle.mp_tree.specs.declared.fault.ReadFault.TheVariants as read
+use Rattle.mp_pointer.specs.Spelling.{Tokens, spell}
+use Rattle.mp_merge.specs.declared.fault.ListWithinFault.TheVariants.{ConflictOf}
+use Rattle.mp_texts.specs.Calls.{Call, MayConflict, MayFail, MayReturn, join_texts, merge_texts, part_text, patch_text}
+use Rattle.mp_texts.specs.Calls.{replay_texts, rewrite_text}
+use Rattle.mp_texts.specs.FaultPlaces.{HasNoFaultPlace, IsFaultPlace}
+use Rattle.mp_texts.specs.Faults.{IsRead}
+use Rattle.mp_texts.specs.PlacesTexts.{IsPlacesText}
 use Rattle.mp_texts.specs.declared.fault.TextsFault.{TextsFault}
-use Rattle.mp_texts.specs.declared.fault.TextsFault.TheVariants.{Document as NoDocument, OutOfMemory}
+use Rattle.mp_texts.specs.declared.fault.TextsFault.TheVariants.{Document as NoDocument, Patch, List as OfList, OutOfMemory}
 
 pub data ExportAnswer : Type 0 where
   answer_text : List ℕ → ExportAnswer
+  -- two patches conflict: their numbers, at how many places, and the text of the array of those that the limit allows
+  answer_conflict : ℕ → ℕ → ℕ → List ℕ → ExportAnswer
+  -- the document is none, and where it has the value for which it is none, if it has one
+  answer_document : ReadFault → Option Tokens → ExportAnswer
+  -- nor is the patch of that number
+  answer_patch : ℕ → ReadFault → Option Tokens → ExportAnswer
+  -- another error
   answer_fault : TextsFault → ExportAnswer
   -- the offset of the first byte of the pointer that is not UTF-8
   not_utf8 : ℕ → ExportAnswer
 
--- ---- lists of merge patches
+-- ---- the texts of a call
 
-abbrev pub IsJoined : List (List ℕ) → ExportAnswer → Type 0
-IsJoined patches (answer_text joined) = IsJoinText patches joined
-IsJoined patches (answer_fault why) = IsJoinTextFault why patches
-IsJoined patches (not_utf8 offset) = ⊥
+abbrev pub call_document : Call → List ℕ
+call_document (join_texts patches) = []
+call_document (replay_texts start patches) = start
+call_document (merge_texts document patches) = document
+call_document (rewrite_text document patch) = document
+call_document (patch_text document json_patch) = document
+call_document (part_text document pointer) = document
 
-abbrev pub IsReplayed : List ℕ → List (List ℕ) → ExportAnswer → Type 0
-IsReplayed start patches (answer_text outcome) = IsReplayText start patches outcome
-IsReplayed start patches (answer_fault why) = IsReplayTextFault why start patches
-IsReplayed start patches (not_utf8 offset) = ⊥
+abbrev pub call_patches : Call → List (List ℕ)
+call_patches (join_texts patches) = patches
+call_patches (replay_texts start patches) = patches
+call_patches (merge_texts document patches) = patches
+call_patches (rewrite_text document patch) = patch ∷ []
+call_patches (patch_text document json_patch) = json_patch ∷ []
+call_patches (part_text document pointer) = []
 
-abbrev pub IsMerged : List ℕ → List (List ℕ) → ExportAnswer → Type 0
-IsMerged document patches (answer_text merged) = IsMergeText document patches merged
-IsMerged document patches (answer_fault why) = IsMergeTextFault why document patches
-IsMerged document patches (not_utf8 offset) = ⊥
+-- ---- where a text has the value for which it is no document
 
--- ---- one document
+abbrev pub IsPlaceIn : ReadFault → List ℕ → Option Tokens → Type 0
+IsPlaceIn why text None = HasNoFaultPlace why text
+IsPlaceIn why text (Some place) = IsFaultPlace why text place
 
-abbrev pub IsRewritten : List ℕ → List ℕ → ExportAnswer → Type 0
-IsRewritten document patch (answer_text edits) = IsRewriteText document patch edits
-IsRewritten document patch (answer_fault why) = IsRewriteTextFault why document patch
-IsRewritten document patch (not_utf8 offset) = ⊥
+-- the text of that number has it there
+abbrev pub IsPlaceAt : ReadFault → List (List ℕ) → ℕ → Option Tokens → Type 0
+IsPlaceAt why texts number place = (text : List ℕ) → slice_get texts number ≡ Some text → IsPlaceIn why text place
 
-abbrev pub IsPatched : List ℕ → List ℕ → ExportAnswer → Type 0
-IsPatched document patch (answer_text patched) = IsPatchText document patch patched
-IsPatched document patch (answer_fault why) = IsPatchTextFault why document patch
-IsPatched document patch (not_utf8 offset) = ⊥
+-- in words, why a text is no document
+abbrev pub read_text : ReadFault → List ℕ
+read_text read.NotJson = codes "not JSON"
+read_text read.NotWhole = codes "number not whole"
+read_text read.TooDeep = codes "too deep"
+read_text read.OutOfMemory = []
+
+-- the words, and after them the place if there is one
+abbrev pub said_with : List ℕ → Option Tokens → List ℕ
+said_with words None = words
+said_with words (Some place) = words ++ codes " at " ++ spell place
+
+-- how many bytes the words have, if a place follows them
+abbrev pub words_before : List ℕ → Option Tokens → ℕ
+words_before words None = 0
+words_before words (Some place) = length words
+
+-- what is said of such a text, and how many bytes of it are the words
+abbrev pub SaysWhy : ReadFault → List ℕ → ℕ → List ℕ → Type 0
+SaysWhy why text total said =
+    (place : Option Tokens) × IsPlaceIn why text place
+    × (total ≡ words_before (read_text why) place) × (said ≡ said_with (read_text why) place)
+
+-- ---- what an export may answer
+
+-- an error that has an answer of its own above
+abbrev pub IsOther : TextsFault → Type 0
+IsOther (NoDocument why) = ⊥
+IsOther (Patch number why) = ⊥
+IsOther (OfList (ConflictOf first second conflicts)) = ⊥
+IsOther other = ⊤
+
+-- as the call over texts does
+abbrev pub OfCall : ℕ → Call → ExportAnswer → Type 0
+OfCall limit call (answer_text text) = MayReturn limit call text
+OfCall limit call (answer_conflict first second total array) =
+    (places : List Tokens) × MayConflict limit call first second places total × IsPlacesText limit places array
+OfCall limit call (answer_document why place) =
+    MayFail limit call (NoDocument why) × IsPlaceIn why (call_document call) place
+OfCall limit call (answer_patch number why place) =
+    MayFail limit call (Patch number why) × IsPlaceAt why (call_patches call) number place
+OfCall limit call (answer_fault why) = IsOther why × MayFail limit call why
+OfCall limit call (not_utf8 offset) = ⊥
 
 -- a document that is not one is reported before a pointer that is not a text, and that before what is wrong with its
 -- spelling
-abbrev pub IsPartFault : TextsFault → List ℕ → List ℕ → Type 0
-IsPartFault (NoDocument why) document pointer = document_in document ≡ Err why
-IsPartFault OutOfMemory document pointer = ⊤
-IsPartFault other document pointer = IsUtf8 pointer × IsPartTextFault other document pointer
-
-abbrev pub IsPart : List ℕ → List ℕ → ExportAnswer → Type 0
-IsPart document pointer (answer_text value) = IsUtf8 pointer × IsPartText document pointer value
-IsPart document pointer (answer_fault why) = IsPartFault why document pointer
-IsPart document pointer (not_utf8 offset) = IsRead document × IsValidUpTo pointer offset
+abbrev pub IsPart : ℕ → List ℕ → List ℕ → ExportAnswer → Type 0
+IsPart limit document pointer (answer_document why place) =
+    (document_in document ≡ Err why) × IsPlaceIn why document place
+IsPart limit document pointer (not_utf8 offset) = IsRead document × IsValidUpTo pointer offset
+IsPart limit document pointer (answer_fault OutOfMemory) = ⊤
+IsPart limit document pointer answer = IsUtf8 pointer × OfCall limit (part_text document pointer) answer

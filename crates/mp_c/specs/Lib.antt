@@ -1,6 +1,7 @@
 pub mod Answered
 pub mod Laws
 pub mod OnHandles
+pub mod OnLogs
 pub mod Owned
 pub mod Private
 pub mod Replies

@@ -5,48 +5,57 @@ use Rattle.mp_tree.specs.Document.{Document}
 use Rattle.mp_tree.specs.Look.{Path}
 use Rattle.mp_tree.specs.Text.{document_in, text as compact}
 use Rattle.mp_tree.specs.View.{document}
-use Rattle.mp_texts.specs.Answers.{IsJoinText, IsReplayText, places_list}
+use Rattle.mp_tree.specs.declared.fault.ReadFault.{ReadFault}
+use Rattle.mp_texts.specs.Answers.{IsJoinText, IsReplayText}
+use Rattle.mp_texts.specs.PlacesTexts.{IsPlacesText}
 use Rattle.mp_texts.specs.Texts.{AreCompatible, AreRead}
-use Rattle.mp_replica.specs.Faults.{IsNoPart, IsNotJoined, IsUnread, IsUnshown}
+use Rattle.mp_replica.specs.Faults.{IsNoPart, IsNotJoined, IsUnshown}
 use Rattle.mp_replica.specs.Held.{AreClashesWith, HeldPatches, HeldReplica}
 use Rattle.mp_replica.specs.Kept.{IsHeldBy, IsKept, IsNoKept, IsNotKeptYet}
 use Rattle.mp_replica.specs.Taking.{TakesAll, TakesOne}
 use Rattle.mp_replica.specs.Texts.{FollowsTexts, FollowsTextsOn, HasTakenTexts, IsPartOf}
 use Rattle.mp_replica.specs.declared.fault.LiveFault.{LiveFault}
-use Rattle.mp_replica.specs.declared.fault.LiveFault.TheVariants.{Document as NoDocument, NoPatches, Pending, OutOfMemory}
+use Rattle.mp_replica.specs.declared.fault.LiveFault.TheVariants.{NoPatches, Pending, OutOfMemory}
 use Rattle.mp_replica.specs.declared.patches.Added.{Added}
 use Rattle.mp_replica.specs.declared.patches.Added.TheVariants as added
 use Rattle.mp_replica.specs.declared.replica.Received.{Received}
 use Rattle.mp_replica.specs.declared.replica.Received.TheVariants as received
+use Rattle.mp_c.specs.Answered.{SaysWhy}
 
 pub data HandleAnswer : Type 0 where
   handle_text : List ℕ → HandleAnswer
-  -- patches conflict at so many places, of whose array this is the text
+  -- patches conflict at so many places; the text of the array of those that the limit allows
   handle_conflict : ℕ → List ℕ → HandleAnswer
+  -- the text is no document: what is said of it, and before that how many bytes of it are words if a place follows them
+  handle_unread : ℕ → List ℕ → HandleAnswer
   handle_fault : LiveFault → HandleAnswer
   -- the offset of the first byte of the pointer that is not UTF-8
   handle_not_utf8 : ℕ → HandleAnswer
-  -- no replica is held
+  -- no replica, or no patch log, is held
   handle_not_started : HandleAnswer
 
--- ---- replicas
-
--- a call on a replica that was started; without one it does nothing and says so
-abbrev pub OfStarted : (HeldReplica → HandleAnswer → HeldReplica → Type 0) → Option HeldReplica → HandleAnswer
-    → Option HeldReplica → Type 0
+-- a call on a replica, or on a patch log, that was started; without one it does nothing and says so
+abbrev pub OfStarted : {A : Type 0} → (A → HandleAnswer → A → Type 0) → Option A → HandleAnswer → Option A → Type 0
 OfStarted Does None handle_not_started None = ⊤
 OfStarted Does (Some before) answer (Some after) = Does before answer after
 OfStarted Does before answer after = ⊥
+
+-- ---- replicas
 
 -- whatever texts it followed, it still does
 abbrev pub StillFollows : HeldReplica → HeldReplica → Type 0
 StillFollows before after = (start : List ℕ) (texts : List (List ℕ)) → FollowsTexts start texts before
     → FollowsTexts start texts after
 
+-- the text is no document, and that is said
+abbrev pub SaysUnread : List ℕ → ℕ → List ℕ → Type 0
+SaysUnread text total said = (why : ReadFault) × (document_in text ≡ Err why) × SaysWhy why text total said
+
 -- it is made of the text of a start, or is as it was
 abbrev pub IsStarted : List ℕ → Option HeldReplica → HandleAnswer → Option HeldReplica → Type 0
 IsStarted start before (handle_text said) (Some r) = (said ≡ []) × FollowsTexts start [] r × (r.pending ≡ None)
-IsStarted start before (handle_fault why) after = IsUnread why start × (after ≡ before)
+IsStarted start before (handle_unread total said) after = SaysUnread start total said × (after ≡ before)
+IsStarted start before (handle_fault OutOfMemory) after = after ≡ before
 IsStarted start before answer after = ⊥
 
 -- what becomes of a patch, whatever texts were received
@@ -54,8 +63,9 @@ abbrev pub Receives : Received → List ℕ → HeldReplica → HeldReplica → 
 Receives what patch before after = (start : List ℕ) (texts : List (List ℕ)) → FollowsTexts start texts before
     → FollowsTextsOn what start texts patch after
 
--- all places at which a patch clashes with the patches of these texts: how many they are, and the text of their array
-pub record AreAllPlaces (texts : List (List ℕ)) (patch : List ℕ) (total : ℕ) (array : List ℕ) : Type 0 where
+-- all places at which a patch clashes with the patches of these texts: how many they are, and the text of the array of as many
+-- as the limit allows
+pub record AreAllPlaces (limit : ℕ) (texts : List (List ℕ)) (patch : List ℕ) (total : ℕ) (array : List ℕ) : Type 0 where
   pub documents : List Document
   pub read : AreRead texts documents
   pub change : Document
@@ -63,22 +73,22 @@ pub record AreAllPlaces (texts : List (List ℕ)) (patch : List ℕ) (total : �
   pub places : List Path
   pub clashes : AreClashesWith documents change places
   pub counted : total ≡ length places
-  pub text : array ≡ compact (places_list places)
+  pub text : IsPlacesText limit places array
 
--- a patch is not shown: its text is not read and nothing is changed, or it is pending, or it is not received
+-- a patch is not shown: it is pending, or it is not received
 abbrev pub IsUnshownPatch : LiveFault → List ℕ → HeldReplica → HeldReplica → Type 0
-IsUnshownPatch (NoDocument why) patch before after = (document_in patch ≡ Err why) × (after ≡ before)
 IsUnshownPatch Pending patch before after = Receives received.Pending patch before after
 IsUnshownPatch OutOfMemory patch before after = StillFollows before after
 IsUnshownPatch other patch before after = ⊥
 
-abbrev pub HasReceived : List ℕ → HeldReplica → HandleAnswer → HeldReplica → Type 0
-HasReceived patch before (handle_text said) after = (said ≡ []) × Receives received.Taken patch before after
-HasReceived patch before (handle_conflict total array) after =
+abbrev pub HasReceived : ℕ → List ℕ → HeldReplica → HandleAnswer → HeldReplica → Type 0
+HasReceived limit patch before (handle_text said) after = (said ≡ []) × Receives received.Taken patch before after
+HasReceived limit patch before (handle_conflict total array) after =
     Receives received.Conflict patch before after
-    × ((start : List ℕ) (texts : List (List ℕ)) → FollowsTexts start texts before → AreAllPlaces texts patch total array)
-HasReceived patch before (handle_fault why) after = IsUnshownPatch why patch before after
-HasReceived patch before answer after = ⊥
+    × ((start : List ℕ) (texts : List (List ℕ)) → FollowsTexts start texts before → AreAllPlaces limit texts patch total array)
+HasReceived limit patch before (handle_unread total said) after = SaysUnread patch total said × (after ≡ before)
+HasReceived limit patch before (handle_fault why) after = IsUnshownPatch why patch before after
+HasReceived limit patch before answer after = ⊥
 
 -- the text of the document, which is that of a replay of whatever texts were received
 abbrev pub ShowsDocument : HeldReplica → HandleAnswer → HeldReplica → Type 0
@@ -106,6 +116,7 @@ ShowsPart pointer before (handle_fault why) after =
 ShowsPart pointer before (handle_not_utf8 offset) after = (after ≡ before) × IsValidUpTo pointer offset
 ShowsPart pointer before handle_not_started after = ⊥
 ShowsPart pointer before (handle_conflict total array) after = ⊥
+ShowsPart pointer before (handle_unread total said) after = ⊥
 
 -- ---- patches without a start
 
@@ -123,30 +134,30 @@ OfPatches Does before answer after = Does (patches_in before) answer (patches_in
 abbrev pub StillTaken : HeldPatches → HeldPatches → Type 0
 StillTaken before after = (texts : List (List ℕ)) → HasTakenTexts before texts → HasTakenTexts after texts
 
--- the places of the conflict that it holds: how many they are, and the text of their array
-abbrev pub HoldsPlaces : ℕ → List ℕ → HeldPatches → Type 0
-HoldsPlaces total array r =
-    MatchOption r.places ⊥ (λ places. (total ≡ length places) × (array ≡ compact (places_list places)))
+-- the places of the conflict that it holds: how many they are, and the text of the array of as many as the limit allows
+abbrev pub HoldsPlaces : ℕ → ℕ → List ℕ → HeldPatches → Type 0
+HoldsPlaces limit total array r =
+    MatchOption r.places ⊥ (λ places. (total ≡ length places) × IsPlacesText limit places array)
 
 -- what becomes of a patch, whatever texts were taken
 abbrev pub TakesPatch : Added → List ℕ → HeldPatches → HeldPatches → Type 0
 TakesPatch what patch before after = (texts : List (List ℕ)) → HasTakenTexts before texts
     → TakesOne HasTakenTexts what texts patch after
 
--- a patch is not joined: its text is not read and nothing is changed, or it is taken and cannot be shown, or it is not taken
+-- a patch is not joined: it is taken and cannot be shown, or it is not taken
 abbrev pub IsNotAdded : LiveFault → List ℕ → HeldPatches → HeldPatches → Type 0
-IsNotAdded (NoDocument why) patch before after = (document_in patch ≡ Err why) × (after ≡ before)
 IsNotAdded Pending patch before after =
     TakesPatch added.Pending patch before after ⊎ TakesPatch added.Conflict patch before after
 IsNotAdded OutOfMemory patch before after = StillTaken before after
 IsNotAdded other patch before after = ⊥
 
-abbrev pub HasAdded : List ℕ → HeldPatches → HandleAnswer → HeldPatches → Type 0
-HasAdded patch before (handle_text said) after = (said ≡ []) × TakesPatch added.Joined patch before after
-HasAdded patch before (handle_conflict total array) after =
-    TakesPatch added.Conflict patch before after × HoldsPlaces total array after
-HasAdded patch before (handle_fault why) after = IsNotAdded why patch before after
-HasAdded patch before answer after = ⊥
+abbrev pub HasAdded : ℕ → List ℕ → HeldPatches → HandleAnswer → HeldPatches → Type 0
+HasAdded limit patch before (handle_text said) after = (said ≡ []) × TakesPatch added.Joined patch before after
+HasAdded limit patch before (handle_conflict total array) after =
+    TakesPatch added.Conflict patch before after × HoldsPlaces limit total array after
+HasAdded limit patch before (handle_unread total said) after = SaysUnread patch total said × (after ≡ before)
+HasAdded limit patch before (handle_fault why) after = IsNotAdded why patch before after
+HasAdded limit patch before answer after = ⊥
 
 -- what becomes of two, whatever texts they have taken
 abbrev pub Combines : Added → HeldPatches → HeldPatches → HeldPatches → HeldPatches → Type 0
@@ -165,13 +176,13 @@ IsNotCombined Pending before other after left =
 IsNotCombined OutOfMemory before other after left = StillBoth before other after left
 IsNotCombined why before other after left = ⊥
 
-abbrev pub HasCombined : HeldPatches → HeldPatches → HandleAnswer → HeldPatches → HeldPatches → Type 0
-HasCombined before other (handle_text said) after left =
+abbrev pub HasCombined : ℕ → HeldPatches → HeldPatches → HandleAnswer → HeldPatches → HeldPatches → Type 0
+HasCombined limit before other (handle_text said) after left =
     (said ≡ []) × Combines added.Joined before other after left
-HasCombined before other (handle_conflict total array) after left =
-    Combines added.Conflict before other after left × HoldsPlaces total array after
-HasCombined before other (handle_fault why) after left = IsNotCombined why before other after left
-HasCombined before other answer after left = ⊥
+HasCombined limit before other (handle_conflict total array) after left =
+    Combines added.Conflict before other after left × HoldsPlaces limit total array after
+HasCombined limit before other (handle_fault why) after left = IsNotCombined why before other after left
+HasCombined limit before other answer after left = ⊥
 
 -- there is no join, though no two conflict; or memory ran out
 abbrev pub HasNoJoin : LiveFault → HeldPatches → HeldPatches → Type 0
@@ -181,16 +192,16 @@ HasNoJoin OutOfMemory before after = ⊤
 HasNoJoin other before after = ⊥
 
 -- the text of the join of whatever texts were taken, or that two of them conflict
-abbrev pub GivesJoin : HeldPatches → HandleAnswer → HeldPatches → Type 0
-GivesJoin before (handle_text joined) after =
+abbrev pub GivesJoin : ℕ → HeldPatches → HandleAnswer → HeldPatches → Type 0
+GivesJoin limit before (handle_text joined) after =
     StillTaken before after × (after.places ≡ None) × (after.pending ≡ None)
     × MatchOption after.joined ⊥ (λ j. joined ≡ compact (document j))
     × ((texts : List (List ℕ)) → HasTakenTexts before texts → IsJoinText texts joined)
-GivesJoin before (handle_conflict total array) after =
-    StillTaken before after × HoldsPlaces total array after
+GivesJoin limit before (handle_conflict total array) after =
+    StillTaken before after × HoldsPlaces limit total array after
     × ((texts : List (List ℕ)) → HasTakenTexts before texts → ¬ AreCompatible texts)
-GivesJoin before (handle_fault why) after = StillTaken before after × HasNoJoin why before after
-GivesJoin before answer after = ⊥
+GivesJoin limit before (handle_fault why) after = StillTaken before after × HasNoJoin why before after
+GivesJoin limit before answer after = ⊥
 
 -- the kept form
 abbrev pub GivesKept : HeldPatches → HandleAnswer → HeldPatches → Type 0
@@ -206,8 +217,8 @@ HoldsKept kept r =
     × ((from : HeldPatches) (texts : List (List ℕ)) → IsKept from kept → HasTakenTexts from texts → HasTakenTexts r texts)
 
 -- it is made of a kept form, or is as it was
-abbrev pub IsMadeOfKept : List ℕ → HeldPatches → HandleAnswer → HeldPatches → Type 0
-IsMadeOfKept kept before (handle_text said) after = (said ≡ []) × HoldsKept kept after × (after.places ≡ None)
-IsMadeOfKept kept before (handle_conflict total array) after = HoldsKept kept after × HoldsPlaces total array after
-IsMadeOfKept kept before (handle_fault why) after = IsNoKept why kept × (after ≡ before)
-IsMadeOfKept kept before answer after = ⊥
+abbrev pub IsMadeOfKept : ℕ → List ℕ → HeldPatches → HandleAnswer → HeldPatches → Type 0
+IsMadeOfKept limit kept before (handle_text said) after = (said ≡ []) × HoldsKept kept after × (after.places ≡ None)
+IsMadeOfKept limit kept before (handle_conflict total array) after = HoldsKept kept after × HoldsPlaces limit total array after
+IsMadeOfKept limit kept before (handle_fault why) after = IsNoKept why kept × (after ≡ before)
+IsMadeOfKept limit kept before answer after = ⊥

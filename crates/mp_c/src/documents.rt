@@ -1,9 +1,10 @@
 //! Exports over one document: rewritings against it, JSON Patches of it, and its parts.
-ghost use Rattle.mp_c.specs.Answered.{IsPart, IsPatched, IsRewritten};
+ghost use Rattle.mp_texts.specs.Calls.{patch_text, rewrite_text};
+ghost use Rattle.mp_c.specs.Answered.{IsPart, OfCall};
 ghost use Rattle.mp_c.specs.Replies.{Replies};
 
-use crate::replying::{Reply, report, report_not_utf8};
-use mp_texts::{TextsFault, part_text, patch_text, rewrite_text};
+use crate::replying::{DOCUMENT, Reply, report, report_not_utf8, report_unread};
+use mp_texts::part_text;
 use mp_tree::read_doc;
 use std::alloc::Global;
 
@@ -21,9 +22,10 @@ pub extern "C" fn mergejoin_rewrite(
     out: &mut [u8],
     limit: usize,
 ) -> Reply
-    ensures { Replies limit (IsRewritten document.now patch.now) result out.old out.new }
+    ensures { Replies (OfCall limit (rewrite_text document.now patch.now)) result out.old out.new }
 {
-    report(alloc, rewrite_text(alloc, document, patch), out, limit)
+    let rewritten = mp_texts::rewrite_text(alloc, document, patch, limit);
+    report(alloc, rewritten, document, &[patch], out, limit)
 }
 
 /// The text of the document after a JSON Patch (RFC 6902), as `mp_texts::patch_text` gives it.
@@ -39,9 +41,10 @@ pub extern "C" fn mergejoin_patch(
     out: &mut [u8],
     limit: usize,
 ) -> Reply
-    ensures { Replies limit (IsPatched document.now patch.now) result out.old out.new }
+    ensures { Replies (OfCall limit (patch_text document.now patch.now)) result out.old out.new }
 {
-    report(alloc, patch_text(alloc, document, patch), out, limit)
+    let patched = mp_texts::patch_text(alloc, document, patch, limit);
+    report(alloc, patched, document, &[patch], out, limit)
 }
 
 /// The text of the part of the document that the pointer names (RFC 6901), as `mp_texts::part_text` gives it. A pointer
@@ -58,13 +61,16 @@ pub extern "C" fn mergejoin_get(
     out: &mut [u8],
     limit: usize,
 ) -> Reply
-    ensures { Replies limit (IsPart document.now pointer.now) result out.old out.new }
+    ensures { Replies (IsPart limit document.now pointer.now) result out.old out.new }
 {
     match str::from_utf8(pointer) {
-        Ok(pointer) => report(alloc, part_text(alloc, document, pointer), out, limit),
+        Ok(pointer) => {
+            let part = part_text(alloc, document, pointer, limit);
+            report(alloc, part, document, &[], out, limit)
+        }
         Err(fault) => match read_doc(alloc, document) {
             Ok(_) => report_not_utf8(fault.valid_up_to(), out),
-            Err(why) => report(alloc, Err(TextsFault::Document(why)), out, limit),
+            Err(why) => report_unread(alloc, DOCUMENT, 0, why, document, out),
         },
     }
 }

@@ -1,7 +1,9 @@
 //! Laws over replies: each function runs nothing, and its contract is the law.
-ghost use Rattle.mp_c.specs.Laws.{EachBeginsTheLarger, EachHasOneReply, EachHasReport, ReplaysAgreeInTheirBuffers};
-ghost use Rattle.mp_c.specs.Private.LawsOfTexts.{LawsOfTexts};
+ghost use Rattle.mp_c.specs.Laws.{EachBeginsTheLarger, EachHasOneReply, EachHasReport, LogsAgreeInTheirBuffers, ReplaysAgreeInTheirBuffers};
+ghost use Rattle.mp_c.specs.OnLogs.{GivesConflicts, GivesLogDocument};
+ghost use Rattle.mp_c.specs.Private.LawsOfTexts.{LawsOfTexts, PlaceLaws};
 
+use mp_replica::laws as live;
 use mp_texts::laws as texts;
 use mp_tree::laws as tree;
 
@@ -13,6 +15,15 @@ pub fn replays_agree_in_their_buffers()
     texts::replays_agree();
 }
 
+/// Patch logs agree: two logs of one start that store the same patches under the same identities, in whatever order they
+/// arrived, show the same bytes and report the same bytes, if each call has a result and a buffer as long as it.
+pub fn logs_agree_in_their_buffers()
+    ensures document { LogsAgreeInTheirBuffers GivesLogDocument }
+    ensures conflicts { LogsAgreeInTheirBuffers GivesConflicts }
+{
+    live::alike_logs_agree();
+}
+
 /// One reply: of each of the six exports, two calls with the same arguments have the same status, numbers, length and
 /// text, unless memory runs out in one of them. What a buffer has afterwards depends on nothing but that text, on its
 /// capacity and on what it had before: each has the text's first bytes, as many as fit. So a caller whose buffer was
@@ -21,7 +32,7 @@ pub fn one_reply()
     ensures one { EachHasOneReply }
     ensures again { EachBeginsTheLarger }
 {
-    texts::one_answer();
+    laws_of_texts();
 }
 
 /// A reply exists: each of the six exports, whatever bytes its arguments are, may report something other than out of
@@ -38,4 +49,12 @@ fn laws_of_texts()
     tree::bytes_have_faults();
     texts::answer_exists();
     texts::one_answer();
+    place_laws();
+}
+
+fn place_laws()
+    ensures { PlaceLaws }
+{
+    texts::fault_places();
+    texts::places_texts();
 }

@@ -9,16 +9,24 @@ mod box_at;
 mod documents;
 pub mod laws;
 mod lists;
+mod patch_log;
+mod patch_log_handle;
 mod patches;
 mod patches_handle;
 mod replica;
 mod replica_handle;
 mod replying;
 mod stopping;
+mod undecided;
 mod version;
 
 pub use documents::{mergejoin_get, mergejoin_patch, mergejoin_rewrite};
 pub use lists::{mergejoin_join, mergejoin_merge, mergejoin_replay};
+pub use patch_log::{
+    mergejoin_patch_log_conflicts, mergejoin_patch_log_decide, mergejoin_patch_log_document,
+    mergejoin_patch_log_free, mergejoin_patch_log_receive, mergejoin_patch_log_start,
+};
+pub use patch_log_handle::PatchLogHandle;
 pub use patches::{
     mergejoin_patches_add, mergejoin_patches_combine, mergejoin_patches_free,
     mergejoin_patches_from_kept, mergejoin_patches_kept, mergejoin_patches_text,

@@ -1,10 +1,10 @@
 //! Exports over lists of merge patches: their join, and what they make of a document.
 ghost use Rattle.mp_texts.specs.Texts.{given};
-ghost use Rattle.mp_c.specs.Answered.{IsJoined, IsMerged, IsReplayed};
+ghost use Rattle.mp_texts.specs.Calls.{join_texts, merge_texts, replay_texts};
+ghost use Rattle.mp_c.specs.Answered.{OfCall};
 ghost use Rattle.mp_c.specs.Replies.{Replies};
 
 use crate::replying::{Reply, report};
-use mp_texts::{join_texts, merge_texts, replay_texts};
 use std::alloc::Global;
 
 /// The text of the join of merge patches, as `mp_texts::join_texts` gives it.
@@ -19,9 +19,10 @@ pub extern "C" fn mergejoin_join(
     out: &mut [u8],
     limit: usize,
 ) -> Reply
-    ensures { Replies limit (IsJoined (given patches.now)) result out.old out.new }
+    ensures { Replies (OfCall limit (join_texts (given patches.now))) result out.old out.new }
 {
-    report(alloc, join_texts(alloc, patches), out, limit)
+    let joined = mp_texts::join_texts(alloc, patches, limit);
+    report(alloc, joined, &[], patches, out, limit)
 }
 
 /// The text of the document that merge patches, no two of which conflict, make of the start's, as `mp_texts::replay_texts`
@@ -38,9 +39,11 @@ pub extern "C" fn mergejoin_replay(
     out: &mut [u8],
     limit: usize,
 ) -> Reply
-    ensures { Replies limit (IsReplayed start.now (given patches.now)) result out.old out.new }
+    ensures { Replies (OfCall limit (replay_texts start.now (given patches.now))) result
+        out.old out.new }
 {
-    report(alloc, replay_texts(alloc, start, patches), out, limit)
+    let outcome = mp_texts::replay_texts(alloc, start, patches, limit);
+    report(alloc, outcome, start, patches, out, limit)
 }
 
 /// The text of the document after the merge patches, each applied to what those before it left, as `mp_texts::merge_texts`
@@ -57,7 +60,9 @@ pub extern "C" fn mergejoin_merge(
     out: &mut [u8],
     limit: usize,
 ) -> Reply
-    ensures { Replies limit (IsMerged document.now (given patches.now)) result out.old out.new }
+    ensures { Replies (OfCall limit (merge_texts document.now (given patches.now))) result
+        out.old out.new }
 {
-    report(alloc, merge_texts(alloc, document, patches), out, limit)
+    let merged = mp_texts::merge_texts(alloc, document, patches, limit);
+    report(alloc, merged, document, patches, out, limit)
 }

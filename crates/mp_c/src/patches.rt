@@ -7,7 +7,7 @@ ghost use Rattle.mp_c.specs.Report.{status_document, status_patch};
 
 use crate::patches_handle::PatchesHandle;
 use crate::replying::{DOCUMENT, PATCH, Reply};
-use crate::stopping::{Stop, conflict_at, report_live};
+use crate::stopping::{Stop, conflict_at, report_live, stop_of};
 use mp_replica::{Added, LiveFault, Patches, laws as live};
 use mp_tree::laws as tree;
 use std::alloc::{AllocError, AllocFailed, Global};
@@ -36,49 +36,56 @@ pub extern "C" fn mergejoin_patches_add(
     limit: usize,
 ) -> Reply
     ensures { HandleReplies limit status_patch
-        (λ answer. OfPatches (HasAdded patch.now) patches.old.value answer patches.new.value)
+        (λ answer. OfPatches (HasAdded limit patch.now) patches.old.value answer patches.new.value)
         result out.old out.new }
 {
-    report_live(add_to(alloc, patches, patch), PATCH, out, limit)
+    report_live(add_to(alloc, patches, patch, limit), PATCH, out, limit)
 }
 
-fn add_to(alloc: Global, patches: &mut PatchesHandle, patch: &[u8]) -> Result<String, Stop>
-    ensures { OfPatches (HasAdded patch.now) patches.old.value (handle_answer result)
+fn add_to(
+    alloc: Global,
+    patches: &mut PatchesHandle,
+    patch: &[u8],
+    limit: usize,
+) -> Result<String, Stop>
+    ensures { OfPatches (HasAdded limit patch.now) patches.old.value (handle_answer result)
         patches.new.value }
 {
     let mut held = held_or_none(alloc, patches)?;
-    let answer = add(alloc, &mut held, patch);
+    let answer = add(alloc, &mut held, patch, limit);
     patches.put(alloc, held);
     answer
 }
 
-fn add(alloc: Global, patches: &mut Patches, patch: &[u8]) -> Result<String, Stop>
-    ensures { HasAdded patch.now patches.old (handle_answer result) patches.new }
+fn add(alloc: Global, patches: &mut Patches, patch: &[u8], limit: usize) -> Result<String, Stop>
+    ensures { HasAdded limit patch.now patches.old (handle_answer result) patches.new }
 {
-    let added = patches.add_text(alloc, patch)?;
-    said_of(alloc, added, patches)
+    match patches.add_text(alloc, patch) {
+        Ok(added) => said_of(alloc, added, patches, limit),
+        Err(fault) => Err(stop_of(alloc, fault, patch)),
+    }
 }
 
 // What is said of patches that were to be taken. If there is no memory to say where they conflict, that is pending.
-fn said_of(alloc: Global, added: Added, patches: &Patches) -> Result<String, Stop>
-    ensures { IsSaid added patches.now (handle_answer result) }
+fn said_of(alloc: Global, added: Added, patches: &Patches, limit: usize) -> Result<String, Stop>
+    ensures { IsSaid limit added patches.now (handle_answer result) }
 {
     match added {
         Added::Joined => Ok(String::new(alloc)),
-        Added::Conflict => Err(conflict_or(alloc, LiveFault::Pending, patches)),
+        Added::Conflict => Err(conflict_or(alloc, LiveFault::Pending, patches, limit)),
         Added::Pending => Err(Stop::Fault(LiveFault::Pending)),
         Added::Refused => Err(Stop::Fault(LiveFault::OutOfMemory)),
     }
 }
 
 // Where patches conflict; another fault if that cannot be said.
-fn conflict_or(alloc: Global, otherwise: LiveFault, patches: &Patches) -> Stop
-    ensures { IsConflictOr otherwise patches.now (stop_answer result) }
+fn conflict_or(alloc: Global, otherwise: LiveFault, patches: &Patches, limit: usize) -> Stop
+    ensures { IsConflictOr limit otherwise patches.now (stop_answer result) }
 {
     let Some(places) = patches.places() else {
         return Stop::Fault(otherwise);
     };
-    match conflict_at(alloc, places.as_slice()) {
+    match conflict_at(alloc, places.as_slice(), limit) {
         Ok(stop) => stop,
         Err(_) => Stop::Fault(otherwise),
     }
@@ -94,23 +101,29 @@ pub extern "C" fn mergejoin_patches_combine(
     limit: usize,
 ) -> Reply
     ensures { HandleReplies limit status_document
-        (λ answer. HasCombined (patches_in patches.old.value) (patches_in other.old.value)
+        (λ answer. HasCombined limit (patches_in patches.old.value) (patches_in other.old.value)
         answer (patches_in patches.new.value) (patches_in other.new.value))
         result out.old out.new }
 {
-    report_live(combine_with(alloc, patches, other), DOCUMENT, out, limit)
+    report_live(
+        combine_with(alloc, patches, other, limit),
+        DOCUMENT,
+        out,
+        limit,
+    )
 }
 
 fn combine_with(
     alloc: Global,
     patches: &mut PatchesHandle,
     other: &mut PatchesHandle,
+    limit: usize,
 ) -> Result<String, Stop>
-    ensures { HasCombined (patches_in patches.old.value) (patches_in other.old.value)
+    ensures { HasCombined limit (patches_in patches.old.value) (patches_in other.old.value)
         (handle_answer result) (patches_in patches.new.value) (patches_in other.new.value) }
 {
     let mut held = held_or_none(alloc, patches)?;
-    let answer = combine_into(alloc, &mut held, other);
+    let answer = combine_into(alloc, &mut held, other, limit);
     patches.put(alloc, held);
     answer
 }
@@ -119,14 +132,15 @@ fn combine_into(
     alloc: Global,
     patches: &mut Patches,
     other: &mut PatchesHandle,
+    limit: usize,
 ) -> Result<String, Stop>
-    ensures { HasCombined patches.old (patches_in other.old.value) (handle_answer result)
+    ensures { HasCombined limit patches.old (patches_in other.old.value) (handle_answer result)
         patches.new (patches_in other.new.value) }
 {
     let mut held = held_or_none(alloc, other)?;
     let added = patches.combine(alloc, &mut held);
     other.put(alloc, held);
-    said_of(alloc, added, patches)
+    said_of(alloc, added, patches, limit)
 }
 
 /// The text of the join of all that was taken, as `mp_replica::Patches::text` gives it.
@@ -138,19 +152,20 @@ pub extern "C" fn mergejoin_patches_text(
     limit: usize,
 ) -> Reply
     ensures { HandleReplies limit status_document
-        (λ answer. OfPatches GivesJoin patches.old.value answer patches.new.value)
+        (λ answer. OfPatches (GivesJoin limit) patches.old.value answer patches.new.value)
         result out.old out.new }
 {
-    report_live(text_of(alloc, patches), DOCUMENT, out, limit)
+    report_live(text_of(alloc, patches, limit), DOCUMENT, out, limit)
 }
 
-fn text_of(alloc: Global, patches: &mut PatchesHandle) -> Result<String, Stop>
-    ensures { OfPatches GivesJoin patches.old.value (handle_answer result) patches.new.value }
+fn text_of(alloc: Global, patches: &mut PatchesHandle, limit: usize) -> Result<String, Stop>
+    ensures { OfPatches (GivesJoin limit) patches.old.value (handle_answer result)
+        patches.new.value }
 {
     live::holds_join();
     match patches.take(alloc) {
         Some(mut held) => {
-            let answer = text(alloc, &mut held);
+            let answer = text(alloc, &mut held, limit);
             patches.put(alloc, held);
             answer
         }
@@ -158,13 +173,13 @@ fn text_of(alloc: Global, patches: &mut PatchesHandle) -> Result<String, Stop>
     }
 }
 
-fn text(alloc: Global, patches: &mut Patches) -> Result<String, Stop>
-    ensures { GivesJoin patches.old (handle_answer result) patches.new }
+fn text(alloc: Global, patches: &mut Patches, limit: usize) -> Result<String, Stop>
+    ensures { GivesJoin limit patches.old (handle_answer result) patches.new }
 {
     let _settled = patches.settle(alloc);
     match patches.text(alloc) {
         Ok(joined) => Ok(joined),
-        Err(LiveFault::Conflict) => Err(conflict_or(alloc, LiveFault::OutOfMemory, patches)),
+        Err(LiveFault::Conflict) => Err(conflict_or(alloc, LiveFault::OutOfMemory, patches, limit)),
         Err(LiveFault::Pending) => Err(Stop::Fault(LiveFault::Pending)),
         Err(LiveFault::NoPatches) => Err(Stop::Fault(LiveFault::NoPatches)),
         Err(_) => Err(Stop::Fault(LiveFault::OutOfMemory)),
@@ -215,29 +230,39 @@ pub extern "C" fn mergejoin_patches_from_kept(
     limit: usize,
 ) -> Reply
     ensures { HandleReplies limit status_document
-        (λ answer. OfPatches (IsMadeOfKept kept.now) patches.old.value answer patches.new.value)
+        (λ answer. OfPatches (IsMadeOfKept limit kept.now) patches.old.value answer
+        patches.new.value)
         result out.old out.new }
 {
-    report_live(hold_kept(alloc, patches, kept), DOCUMENT, out, limit)
+    report_live(hold_kept(alloc, patches, kept, limit), DOCUMENT, out, limit)
 }
 
-fn hold_kept(alloc: Global, patches: &mut PatchesHandle, kept: &[u8]) -> Result<String, Stop>
-    ensures { OfPatches (IsMadeOfKept kept.now) patches.old.value (handle_answer result)
+fn hold_kept(
+    alloc: Global,
+    patches: &mut PatchesHandle,
+    kept: &[u8],
+    limit: usize,
+) -> Result<String, Stop>
+    ensures { OfPatches (IsMadeOfKept limit kept.now) patches.old.value (handle_answer result)
         patches.new.value }
 {
     let held = Patches::from_kept(alloc, kept)?;
-    let answer = kept_answer(alloc, &held)?;
+    let answer = kept_answer(alloc, &held, limit)?;
     let held = Box::new(alloc, held)?;
     patches.put(alloc, held);
     answer
 }
 
 // What is said of patches that were kept: nothing, or where two of them conflict.
-fn kept_answer(alloc: Global, patches: &Patches) -> Result<Result<String, Stop>, AllocError>
-    ensures { IfOk result (λ said. IsSaidOfKept patches.now (handle_answer said)) }
+fn kept_answer(
+    alloc: Global,
+    patches: &Patches,
+    limit: usize,
+) -> Result<Result<String, Stop>, AllocError>
+    ensures { IfOk result (λ said. IsSaidOfKept limit patches.now (handle_answer said)) }
 {
     match patches.places() {
-        Some(places) => Ok(Err(conflict_at(alloc, places.as_slice())?)),
+        Some(places) => Ok(Err(conflict_at(alloc, places.as_slice(), limit)?)),
         None => Ok(Ok(String::new(alloc))),
     }
 }

@@ -9,7 +9,7 @@ ghost use Rattle.mp_c.specs.Report.{status_document, status_patch};
 
 use crate::replica_handle::ReplicaHandle;
 use crate::replying::{DOCUMENT, PATCH, Reply};
-use crate::stopping::{Stop, conflict_at, report_live};
+use crate::stopping::{Stop, conflict_at, report_live, stop_of};
 use mp_replica::{LiveFault, Received, Replica};
 use mp_tree::read_doc;
 use std::alloc::{AllocError, Global};
@@ -33,7 +33,10 @@ pub extern "C" fn mergejoin_replica_start(
 fn start_replica(alloc: Global, replica: &mut ReplicaHandle, start: &[u8]) -> Result<String, Stop>
     ensures { IsStarted start.now replica.old.value (handle_answer result) replica.new.value }
 {
-    let started = Replica::from_text(alloc, start)?;
+    let started = match Replica::from_text(alloc, start) {
+        Ok(started) => started,
+        Err(fault) => return Err(stop_of(alloc, fault, start)),
+    };
     let held = Box::new(alloc, started)?;
     replica.put(alloc, held);
     Ok(String::new(alloc))
@@ -49,37 +52,47 @@ pub extern "C" fn mergejoin_replica_receive(
     limit: usize,
 ) -> Reply
     ensures { HandleReplies limit status_patch
-        (λ answer. OfStarted (HasReceived patch.now) replica.old.value answer replica.new.value)
+        (λ answer. OfStarted (HasReceived limit patch.now) replica.old.value answer
+        replica.new.value)
         result out.old out.new }
 {
     let Some(mut held) = replica.take(alloc) else {
         return report_live(Err(Stop::NotStarted), PATCH, out, limit);
     };
-    let answer = receive(alloc, &mut held, patch);
+    let answer = receive(alloc, &mut held, patch, limit);
     replica.put(alloc, held);
     report_live(answer, PATCH, out, limit)
 }
 
-fn receive(alloc: Global, replica: &mut Replica, patch: &[u8]) -> Result<String, Stop>
-    ensures { HasReceived patch.now replica.old (handle_answer result) replica.new }
+fn receive(alloc: Global, replica: &mut Replica, patch: &[u8], limit: usize) -> Result<String, Stop>
+    ensures { HasReceived limit patch.now replica.old (handle_answer result) replica.new }
 {
-    match replica.receive_text(alloc, patch)? {
+    let received = match replica.receive_text(alloc, patch) {
+        Ok(received) => received,
+        Err(fault) => return Err(stop_of(alloc, fault, patch)),
+    };
+    match received {
         Received::Taken => Ok(String::new(alloc)),
-        Received::Conflict => Err(conflict_with(alloc, replica, patch)?),
+        Received::Conflict => Err(conflict_with(alloc, replica, patch, limit)?),
         Received::Pending => Err(Stop::Fault(LiveFault::Pending)),
         Received::Refused => Err(Stop::Fault(LiveFault::OutOfMemory)),
     }
 }
 
 // Where the patch of a text, which was read before, conflicts with what was received.
-fn conflict_with(alloc: Global, replica: &Replica, patch: &[u8]) -> Result<Stop, AllocError>
-    ensures { IfOk result (IsAllPlacesOf replica.now patch.now) }
+fn conflict_with(
+    alloc: Global,
+    replica: &Replica,
+    patch: &[u8],
+    limit: usize,
+) -> Result<Stop, AllocError>
+    ensures { IfOk result (IsAllPlacesOf limit replica.now patch.now) }
 {
     let Ok(patch) = read_doc(alloc, patch) else {
         return Err(AllocError);
     };
     let places = replica.conflicts(alloc, &patch)?;
-    conflict_at(alloc, places.as_slice())
+    conflict_at(alloc, places.as_slice(), limit)
 }
 
 /// The text of what a replica shows.

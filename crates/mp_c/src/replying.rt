@@ -1,15 +1,17 @@
 //! What a call leaves: the reply, and the text in the caller's buffer.
-ghost use Rattle.mp_c.specs.Private.Reporting.{Reports, answered_by};
+ghost use Rattle.std.specs.Prelude.{◌≡◌, string_bytes, IfOk, Some};
+ghost use Rattle.mp_c.specs.Answered.{IsPlaceAt, IsPlaceIn, not_utf8, read_text, said_with};
+ghost use Rattle.mp_c.specs.Private.Reporting.{Reports, ReportsCall, ReportsFault, ReportsList, ReportsUnread};
 ghost use Rattle.mp_c.specs.Replies.{IsReply};
-ghost use Rattle.mp_c.specs.Report.{no_memory, numbered, unnumbered, report_of, report_of_fault, report_of_form, report_of_list, report_of_pointer, report_of_apply, report_of_text, report_of_unread};
-ghost use Rattle.mp_c.specs.Answered.{not_utf8};
+ghost use Rattle.mp_c.specs.Report.{no_memory, numbered, report_of, report_of_apply, report_of_form, report_of_pointer, report_of_text, report_of_unread, report_of_words, status_patch};
+ghost use Rattle.mp_texts.specs.Texts.{given};
 
-use mp_merge::ListFault;
+use mp_merge::ListWithinFault;
 use mp_patch::{ApplyFault, FormFault};
-use mp_pointer::PointerFault;
-use mp_texts::{TextsFault, write_places};
+use mp_pointer::{Pointer, PointerFault};
+use mp_texts::{TextsFault, fault_place, write_places_within};
 use mp_tree::ReadFault;
-use std::alloc::Global;
+use std::alloc::{AllocError, Global};
 
 /// What a call returns in addition to the text in the buffer.
 #[repr(C)]
@@ -21,7 +23,8 @@ pub struct Reply {
     pub first: usize,
     /// The number of the second of two patches that conflict; else 0.
     pub second: usize,
-    /// How many places two patches conflict at; else 0.
+    /// How many places two patches conflict at; of a text that is no document, how many bytes its words have if a place follows
+    /// them; else 0.
     pub total: usize,
     /// 0.
     pub spare: usize,
@@ -34,16 +37,17 @@ pub struct Reply {
 /// There is a result.
 pub(crate) const RESULT: u32 = 0;
 
-/// Two merge patches conflict: `first` and `second` are their numbers, and the text is a JSON array of all places.
+/// Two merge patches conflict: `first` and `second` are their numbers, `total` is at how many places, and the text is a JSON array of
+/// the first of them, as many as the limit allows.
 pub(crate) const CONFLICT: u32 = 1;
 
 /// There is no patch to join.
 pub(crate) const NO_PATCHES: u32 = 2;
 
-/// The operation of number `first` is refused.
-const REFUSED: u32 = 3;
+/// The operation of number `first` is refused, or a new start is.
+pub(crate) const REFUSED: u32 = 3;
 
-/// The document has no part there.
+/// The document has no part there, or under the identity of number `first` no patch is stored.
 pub(crate) const MISSING: u32 = 4;
 
 /// The document, or the start, is not a document.
@@ -64,28 +68,32 @@ pub(crate) const NO_MEMORY: u32 = 9;
 /// A patch is received, or taken, and memory ran out before it can be shown.
 pub(crate) const PENDING: u32 = 10;
 
-/// The text of the result is longer than the caller allows.
+/// The result, or something on the way to it, is larger than the caller allows: `first` is the number of the operation whose result
+/// weighs more, or how many operations of a rewriting fit, or 0 if the text is longer.
 pub(crate) const TOO_LARGE: u32 = 11;
 
-/// There is no replica yet.
+/// There is no replica, or no patch log, yet.
 pub(crate) const NOT_STARTED: u32 = 12;
 
-// The answer of a call over texts.
+// The answer of a call over these texts, within a limit.
 pub(crate) fn report(
     alloc: Global,
     answer: Result<String, TextsFault>,
+    document: &[u8],
+    patches: &[&[u8]],
     out: &mut [u8],
     limit: usize,
 ) -> Reply
-    ensures { Reports (report_of limit (answered_by answer)) result out.old out.new }
+    ensures { ReportsCall limit document.now (given patches.now) answer result
+        out.old out.new }
 {
     match answer {
-        Ok(text) => write_result(text.as_str(), out, limit),
-        Err(fault) => report_fault(alloc, fault, out),
+        Ok(text) => write(RESULT, 0, text.as_str(), out),
+        Err(fault) => report_fault(alloc, fault, document, patches, out, limit),
     }
 }
 
-// The text of a result, unless it is longer than the caller allows.
+// The text of a result on a handle, unless it is longer than the caller allows.
 pub(crate) fn write_result(text: &str, out: &mut [u8], limit: usize) -> Reply
     ensures { IsReply (report_of_text limit text.now) result out.old out.new }
 {
@@ -98,55 +106,149 @@ pub(crate) fn write_result(text: &str, out: &mut [u8], limit: usize) -> Reply
 
 // The bytes of a pointer that are no text from the offset on.
 pub(crate) fn report_not_utf8(offset: usize, out: &mut [u8]) -> Reply
-    ensures { IsReply (report_of 0 (not_utf8 offset)) result out.old out.new }
+    ensures { IsReply (report_of (not_utf8 offset)) result out.old out.new }
 {
     write(POINTER, offset, "not UTF-8", out)
 }
 
-fn report_fault(alloc: Global, fault: TextsFault, out: &mut [u8]) -> Reply
-    ensures { Reports (report_of_fault fault) result out.old out.new }
+fn report_fault(
+    alloc: Global,
+    fault: TextsFault,
+    document: &[u8],
+    patches: &[&[u8]],
+    out: &mut [u8],
+    limit: usize,
+) -> Reply
+    ensures { ReportsFault limit document.now (given patches.now) fault result out.old out.new }
 {
     match fault {
-        TextsFault::Document(fault) => report_unread(DOCUMENT, 0, fault, out),
-        TextsFault::Patch { number, fault } => report_unread(PATCH, number, fault, out),
-        TextsFault::List(fault) => report_list_fault(alloc, fault, out),
+        TextsFault::Document(why) => report_unread(alloc, DOCUMENT, 0, why, document, out),
+        TextsFault::Patch { number, fault: why } => {
+            report_unread_patch(alloc, number, why, patches, out)
+        }
+        TextsFault::List(fault) => report_list_fault(alloc, fault, out, limit),
         TextsFault::Form(fault) => report_form_fault(fault, out),
         TextsFault::Refused(fault) => report_run_fault(fault, out),
         TextsFault::Pointer(fault) => report_pointer_fault(fault, out),
         TextsFault::Missing => write(MISSING, 0, "missing", out),
+        TextsFault::TooLarge { number } => write(TOO_LARGE, number, "", out),
         TextsFault::OutOfMemory => report_no_memory(out),
     }
 }
 
-pub(crate) fn report_unread(status: u32, number: usize, fault: ReadFault, out: &mut [u8]) -> Reply
-    ensures { IsReply (report_of_unread status number fault) result out.old out.new }
+// The patch of that number is no document.
+fn report_unread_patch(
+    alloc: Global,
+    number: usize,
+    why: ReadFault,
+    patches: &[&[u8]],
+    out: &mut [u8],
+) -> Reply
+    ensures { ReportsUnread status_patch number why (IsPlaceAt why (given patches.now) number)
+        result out.old out.new }
 {
-    match fault {
-        ReadFault::NotJson => write(status, number, "not JSON", out),
-        ReadFault::NotWhole => write(status, number, "number not whole", out),
-        ReadFault::TooDeep => write(status, number, "too deep", out),
-        ReadFault::OutOfMemory => report_no_memory(out),
+    match patches.get(number) {
+        Some(text) => report_unread(alloc, PATCH, number, why, text, out),
+        None => write_unread(alloc, PATCH, number, why, None, out),
     }
 }
 
-fn report_list_fault(alloc: Global, fault: ListFault, out: &mut [u8]) -> Reply
-    ensures { Reports (report_of_list fault) result out.old out.new }
+// A text is no document: why, and where it has the value for which it is none.
+pub(crate) fn report_unread(
+    alloc: Global,
+    status: u32,
+    number: usize,
+    why: ReadFault,
+    text: &[u8],
+    out: &mut [u8],
+) -> Reply
+    ensures { ReportsUnread status number why (IsPlaceIn why text.now) result out.old out.new }
+{
+    match fault_place(alloc, text, why) {
+        Ok(place) => write_unread(alloc, status, number, why, place, out),
+        Err(_) => report_no_memory(out),
+    }
+}
+
+pub(crate) fn write_unread(
+    alloc: Global,
+    status: u32,
+    number: usize,
+    why: ReadFault,
+    place: Option<Pointer>,
+    out: &mut [u8],
+) -> Reply
+    ensures { Reports (report_of_unread status number why place) result out.old out.new }
+{
+    match why {
+        ReadFault::OutOfMemory => report_no_memory(out),
+        why => write_words(alloc, status, number, words_of(why), place, out),
+    }
+}
+
+// Why a text is no document, in words.
+pub(crate) fn words_of(why: ReadFault) -> &'static str
+    ensures { result.now ≡ read_text why }
+{
+    match why {
+        ReadFault::NotJson => "not JSON",
+        ReadFault::NotWhole => "number not whole",
+        ReadFault::TooDeep => "too deep",
+        ReadFault::OutOfMemory => "",
+    }
+}
+
+// The words, and after them the place if there is one.
+fn write_words(
+    alloc: Global,
+    status: u32,
+    number: usize,
+    words: &str,
+    place: Option<Pointer>,
+    out: &mut [u8],
+) -> Reply
+    ensures { Reports (report_of_words status number words.now place) result out.old out.new }
+{
+    let Some(place) = place else {
+        return write(status, number, words, out);
+    };
+    match with_place(alloc, words, &place) {
+        Ok(text) => Reply {
+            total: words.len(),
+            ..write(status, number, text.as_str(), out)
+        },
+        Err(_) => report_no_memory(out),
+    }
+}
+
+pub(crate) fn with_place(alloc: Global, words: &str, place: &Pointer) -> Result<String, AllocError>
+    ensures { IfOk result (λ text.
+        string_bytes text ≡ said_with words.now (Some place.now)) }
+{
+    let mut text = String::from_str(alloc, words)?;
+    text.push_str(" at ")?;
+    text.push_str(place.print(alloc)?.as_str())?;
+    Ok(text)
+}
+
+fn report_list_fault(alloc: Global, fault: ListWithinFault, out: &mut [u8], limit: usize) -> Reply
+    ensures { ReportsList limit fault result out.old out.new }
 {
     match fault {
-        ListFault::NoPatches => write(NO_PATCHES, 0, "no patches", out),
-        ListFault::ConflictOf {
+        ListWithinFault::NoPatches => write(NO_PATCHES, 0, "no patches", out),
+        ListWithinFault::ConflictOf {
             first,
             second,
-            places,
-        } => match write_places(alloc, places.as_slice()) {
+            conflicts,
+        } => match write_places_within(alloc, conflicts.places.as_slice(), limit) {
             Ok(text) => Reply {
                 second,
-                total: places.len(),
+                total: conflicts.total,
                 ..write(CONFLICT, first, text.as_str(), out)
             },
             Err(_) => report_no_memory(out),
         },
-        ListFault::OutOfMemory => report_no_memory(out),
+        ListWithinFault::OutOfMemory => report_no_memory(out),
     }
 }
 

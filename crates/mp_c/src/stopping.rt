@@ -1,28 +1,32 @@
 //! What a call on a handle leaves: its reply, and the text in the caller's buffer.
-ghost use Rattle.std.specs.Prelude.{IfOk, length, map};
-ghost use Rattle.mp_c.specs.Private.Stopping.{IsConflictAt, handle_answer, report_of_stop};
+ghost use Rattle.std.specs.Prelude.{IfOk, length, map, string_bytes};
+ghost use Rattle.mp_c.specs.Answered.{IsPlaceIn, SaysWhy, said_with, words_before};
+ghost use Rattle.mp_c.specs.Private.Stopping.{IsConflictAt, IsStopOf, handle_answer, report_of_stop};
 ghost use Rattle.mp_c.specs.Replies.{IsReply};
 ghost use Rattle.mp_c.specs.Report.{report_of_handle, report_of_live_fault};
 
 use crate::replying::{
     CONFLICT, MISSING, NO_PATCHES, NOT_STARTED, PENDING, Reply, report_no_memory, report_not_utf8,
-    report_pointer_fault, report_unread, write, write_result,
+    report_pointer_fault, with_place, words_of, write, write_result,
 };
 use mp_pointer::Pointer;
 use mp_replica::LiveFault;
-use mp_texts::write_places;
+use mp_texts::{fault_place, write_places_within};
+use mp_tree::ReadFault;
 use std::alloc::{AllocError, AllocFailed, Global};
 
 /// Why a call on a handle has no result.
 #[derive(Drop)]
 pub(crate) enum Stop {
-    /// Patches conflict at so many places, of whose array this is the text.
+    /// Patches conflict at so many places; the text of the array of those that the limit allows.
     Conflict { total: usize, places: String },
+    /// The text is no document: what is said of it, and how many bytes of that are words if a place follows them.
+    Unread { total: usize, said: String },
     /// As the call on what is held says.
     Fault(LiveFault),
     /// The pointer is no text from this offset on.
     NotUtf8(usize),
-    /// No replica is held.
+    /// No replica, or no patch log, is held.
     NotStarted,
 }
 
@@ -61,13 +65,40 @@ impl<T: Drop> From<AllocFailed<T>> for Stop {
     }
 }
 
-// That patches conflict at these places.
-pub(crate) fn conflict_at(alloc: Global, places: &[Pointer]) -> Result<Stop, AllocError>
-    ensures { IfOk result (IsConflictAt places.now) }
+// That patches conflict at these places, of which as many are reported as the limit allows.
+pub(crate) fn conflict_at(
+    alloc: Global,
+    places: &[Pointer],
+    limit: usize,
+) -> Result<Stop, AllocError>
+    ensures { IfOk result (IsConflictAt limit places.now) }
 {
     let total = places.len();
-    let places = write_places(alloc, places)?;
+    let places = write_places_within(alloc, places, limit)?;
     Ok(Stop::Conflict { total, places })
+}
+
+// Why a call on this text has no result: of a text that is no document, where it has the value for which it is none.
+pub(crate) fn stop_of(alloc: Global, fault: LiveFault, text: &[u8]) -> Stop
+    ensures { IsStopOf text.now fault result }
+{
+    match fault {
+        LiveFault::Document(why) => match said_of(alloc, why, text) {
+            Ok((total, said)) => Stop::Unread { total, said },
+            Err(_) => Stop::Fault(LiveFault::OutOfMemory),
+        },
+        other => Stop::Fault(other),
+    }
+}
+
+fn said_of(alloc: Global, why: ReadFault, text: &[u8]) -> Result<(usize, String), AllocError>
+    ensures { IfOk result (λ said. SaysWhy why text.now said.0 (string_bytes said.1)) }
+{
+    let words = words_of(why);
+    match fault_place(alloc, text, why)? {
+        Some(place) => Ok((words.len(), with_place(alloc, words, &place)?)),
+        None => Ok((0, String::from_str(alloc, words)?)),
+    }
 }
 
 // The answer of a call on a handle; `unread` is the status of a text that is no document.
@@ -94,6 +125,10 @@ fn report_stop(stop: Stop, unread: u32, out: &mut [u8]) -> Reply
             total,
             ..write(CONFLICT, 0, places.as_str(), out)
         },
+        Stop::Unread { total, said } => Reply {
+            total,
+            ..write(unread, 0, said.as_str(), out)
+        },
         Stop::Fault(fault) => report_live_fault(fault, unread, out),
         Stop::NotUtf8(offset) => report_not_utf8(offset, out),
         Stop::NotStarted => write(NOT_STARTED, 0, "not started", out),
@@ -104,7 +139,8 @@ fn report_live_fault(fault: LiveFault, unread: u32, out: &mut [u8]) -> Reply
     ensures { IsReply (report_of_live_fault unread fault) result out.old out.new }
 {
     match fault {
-        LiveFault::Document(fault) => report_unread(unread, 0, fault, out),
+        LiveFault::Document(ReadFault::OutOfMemory) => report_no_memory(out),
+        LiveFault::Document(why) => write(unread, 0, words_of(why), out),
         LiveFault::Pointer(fault) => report_pointer_fault(fault, out),
         LiveFault::Missing => write(MISSING, 0, "missing", out),
         LiveFault::NoPatches => write(NO_PATCHES, 0, "no patches", out),

@@ -1,4 +1,5 @@
 pub mod Application
+pub mod Budgets
 pub mod Clashes
 pub mod Collections
 pub mod Convergence

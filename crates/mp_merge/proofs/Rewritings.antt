@@ -8,3 +8,4 @@ pub mod SomeRewriting
 pub mod Steps
 pub mod Unique
 pub mod Walk
+pub mod Within

@@ -19,6 +19,8 @@ use Rattle.mp_merge.specs.Lists.{PairwiseCompatible, AreWithin, IsReportedPair, 
 use Rattle.mp_merge.specs.Outcome.{IsOutcome, HasOutcome}
 use Rattle.mp_merge.specs.Resumption.{AreTries, last_of}
 use Rattle.mp_merge.specs.Rewriting.{IsRewriting, ListsEdits}
+use Rattle.mp_merge.specs.Within.{places_weight, AreFirstConflicts, IsReportedPairWithin, IsTooLargeRewriting}
+use Rattle.mp_patch.specs.Weight.{operations_weight}
 
 -- ---- application (RFC 7396 section 2)
 
@@ -119,6 +121,22 @@ HaveOneList = (p q : Document) (places others : List Path) → AreAllClashes p q
 abbrev pub EmptyIfCompatible : Type 0
 EmptyIfCompatible = (p q : Document) (places : List Path) → AreAllClashes p q places → (places ≡ []) ↔ Compatible p q
 
+-- within a limit two patches have conflicts that come first
+abbrev pub FirstConflictsExist : Type 0
+FirstConflictsExist = (limit : ℕ) (p q : Document) → IsDocument p
+    → (places : List Path) × (total : ℕ) × AreFirstConflicts limit p q places total
+
+-- and these alone
+abbrev pub HaveOneFront : Type 0
+HaveOneFront = (limit : ℕ) (p q : Document) (places others : List Path) (total other_total : ℕ)
+    → AreFirstConflicts limit p q places total → AreFirstConflicts limit p q others other_total
+    → (places ≡ others) × (total ≡ other_total)
+
+-- they are all conflicts exactly if all weigh at most the limit together
+abbrev pub AllIfWithin : Type 0
+AllIfWithin = (limit : ℕ) (p q : Document) (all places : List Path) (total : ℕ) → AreAllClashes p q all
+    → AreFirstConflicts limit p q places total → (places ≡ all) ↔ (places_weight all ≤ limit)
+
 -- a list of patches is pairwise compatible, or there is the pair that is reported of it
 abbrev pub CompatibleOrReported : Type 0
 CompatibleOrReported =
@@ -137,6 +155,21 @@ HasOneReportedPair =
     (patches : List Document) (first second other_first other_second : ℕ) (places other_places : List Path)
     → IsReportedPair patches first second places → IsReportedPair patches other_first other_second other_places
     → (first ≡ other_first) × (second ≡ other_second) × (places ≡ other_places)
+
+-- a limit changes neither the pair nor that there is one
+abbrev pub ReportedWithin : Type 0
+ReportedWithin = (limit : ℕ) (patches : List Document) (first second : ℕ) (all : List Path)
+    → IsReportedPair patches first second all
+    → (places : List Path) × (total : ℕ) × IsReportedPairWithin limit patches first second places total
+
+-- and what is reported within it is one alone
+abbrev pub HasOneReportWithin : Type 0
+HasOneReportWithin =
+    (limit : ℕ) (patches : List Document) (first second other_first other_second : ℕ)
+    (places other_places : List Path) (total other_total : ℕ)
+    → IsReportedPairWithin limit patches first second places total
+    → IsReportedPairWithin limit patches other_first other_second other_places other_total
+    → (first ≡ other_first) × (second ≡ other_second) × (places ≡ other_places) × (total ≡ other_total)
 
 -- a patch clashes with a join exactly if it clashes with one of the patches that were joined
 abbrev pub ClashesWithAMember : List Document → Document → Path → Type 0
@@ -263,6 +296,21 @@ RewritingExists = (d p : Document) → IsDocument p → (operations : List Opera
 abbrev pub HasOneRewriting : Type 0
 HasOneRewriting = (d p : Document) (operations others : List Operation) → IsRewriting d p operations
     → IsRewriting d p others → operations ≡ others
+
+-- it is within a limit, or is too large for it
+abbrev pub RewritingIsWithinOrNot : Type 0
+RewritingIsWithinOrNot = (limit : ℕ) (d p : Document) (operations : List Operation) → IsRewriting d p operations
+    → (operations_weight operations ≤ limit) ⊎ ((fitting : ℕ) × IsTooLargeRewriting limit fitting d p)
+
+-- and not both
+abbrev pub WithinIsNotTooLarge : Type 0
+WithinIsNotTooLarge = (limit fitting : ℕ) (d p : Document) (operations : List Operation) → IsRewriting d p operations
+    → operations_weight operations ≤ limit → ¬ IsTooLargeRewriting limit fitting d p
+
+-- as many operations fit, and no other number
+abbrev pub HasOneFitting : Type 0
+HasOneFitting = (limit fitting other : ℕ) (d p : Document) → IsTooLargeRewriting limit fitting d p → IsTooLargeRewriting limit other d p
+    → fitting ≡ other
 
 -- the values of its operations are documents
 abbrev pub RewritingHasDocuments : Type 0

@@ -12,3 +12,4 @@ pub mod Private
 pub mod Replicas
 pub mod Resumption
 pub mod Rewriting
+pub mod Within

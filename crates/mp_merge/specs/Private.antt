@@ -1,6 +1,8 @@
 -- What private clauses alone cite: who trusts the public contracts need not read it.
+pub mod Budgets
 pub mod Clashes
 pub mod Edits
 pub mod Growth
 pub mod Merging
+pub mod Reports
 pub mod Unions

@@ -4,9 +4,10 @@ ghost use Rattle.mp_tree.specs.Document.{object, IsDocument};
 ghost use Rattle.mp_tree.specs.Values.{value_document};
 ghost use Rattle.mp_tree.specs.View.{document, members_by};
 ghost use Rattle.mp_merge.specs.Clash.{Compatible, AreAllClashes};
-ghost use Rattle.mp_merge.specs.Private.Clashes.{IsOneClash, WalksClashes, WalksMembers};
-ghost use Rattle.mp_merge.specs.Private.Growth.{Grew};
+ghost use Rattle.mp_merge.specs.Private.Clashes.{AreReportedConflicts, IsOneClash, Passed, WalksClashes, WalksMembers, report, reported_of};
+ghost use Rattle.mp_merge.specs.Within.{AreFirstConflicts};
 
+use crate::budget::Budget;
 use mp_pointer::Pointer;
 use mp_tree::{Doc, Node};
 use serde_json::Value;
@@ -96,14 +97,92 @@ pub fn conflict_values(alloc: Global, p: &Value, q: &Value) -> Result<Vec<Pointe
     all_clashes(alloc, p, q)
 }
 
+/// The conflicts of two patches that come first, and how many there are.
+#[derive(Debug, Drop)]
+pub struct Conflicts {
+    /// The places that come first, in the order of paths: as many as weigh at most the limit together.
+    pub places: Vec<Pointer>,
+    /// How many conflicts there are in all; 2^64 - 1 if there are more.
+    pub total: usize,
+}
+
+/// As `conflict`, within a limit in bytes: the places that come first, as many as weigh at most `limit` together, and the
+/// number of all. A place weighs 128 bytes, 8 for each token, and the bytes of its spelling.
+///
+/// Besides these places it takes the memory of one path. `AllocError` if memory ran out.
+///
+/// ```text
+/// conflict_within(alloc, &p, &q, 150)  // /a/z, of 2, for {"a":{"z":1},"b":1} and {"a":{"z":2},"b":2}
+/// ```
+pub fn conflict_within(
+    alloc: Global,
+    p: &Doc,
+    q: &Doc,
+    limit: usize,
+) -> Result<Conflicts, AllocError>
+    ensures { IfOk result (λ c.
+        AreFirstConflicts limit (document p.now) (document q.now) c.places.items c.total) }
+{
+    reported_conflicts(alloc, p, q, Budget::Left(limit))
+}
+
+/// As `conflict_within`, of patches that are values. `AllocError` if memory ran out.
+///
+/// ```text
+/// conflict_values_within(alloc, &p, &q, 150)  // /a/z, of 2, for {"a":{"z":1},"b":1} and {"a":{"z":2},"b":2}
+/// ```
+pub fn conflict_values_within(
+    alloc: Global,
+    p: &Value,
+    q: &Value,
+    limit: usize,
+) -> Result<Conflicts, AllocError>
+    ensures { IfOk result (λ c.
+        AreFirstConflicts limit (value_document p.now) (value_document q.now)
+        c.places.items c.total) }
+{
+    reported_conflicts::<Value>(alloc, p, q, Budget::Left(limit))
+}
+
 pub(crate) fn all_clashes<T: Node>(alloc: Global, p: &T, q: &T) -> Result<Vec<Pointer>, AllocError>
     requires { IsDocument (T.means p.now) }
     ensures { IfOk result (λ places. AreAllClashes (T.means p.now) (T.means q.now) places.items) }
 {
-    let mut places = Vec::new(alloc);
-    let mut path = Pointer::empty(alloc);
-    push_clashes(p, q, &mut path, &mut places, alloc)?;
+    let Conflicts { places, total: _ } = reported_conflicts(alloc, p, q, Budget::Unlimited)?;
     Ok(places)
+}
+
+pub(crate) fn reported_conflicts<T: Node>(
+    alloc: Global,
+    p: &T,
+    q: &T,
+    budget: Budget,
+) -> Result<Conflicts, AllocError>
+    requires { IsDocument (T.means p.now) }
+    ensures { IfOk result (λ c.
+        AreReportedConflicts budget (T.means p.now) (T.means q.now) c.places.items c.total) }
+{
+    let mut found = Found {
+        places: Vec::new(alloc),
+        budget,
+        total: 0,
+    };
+    let mut path = Pointer::empty(alloc);
+    push_clashes(p, q, &mut path, &mut found, alloc)?;
+    let Found {
+        places,
+        budget: _,
+        total,
+    } = found;
+    Ok(Conflicts { places, total })
+}
+
+// The places that the budget took, what is left of it, and how many places the walk has passed.
+#[derive(Drop)]
+struct Found {
+    places: Vec<Pointer>,
+    budget: Budget,
+    total: usize,
 }
 
 // Each function adds to the places at their end, in the order of paths. The patches come first: the recursion goes down
@@ -113,16 +192,16 @@ fn push_clashes<T: Node>(
     p: &T,
     q: &T,
     path: &mut Pointer,
-    places: &mut Vec<Pointer>,
+    found: &mut Found,
     alloc: Global,
 ) -> Result<(), AllocError>
     ensures path { OnOk result (path.new ≡ path.old) }
-    ensures places { OnOk result (Grew places.old.items places.new.items
+    ensures found { OnOk result (Passed found.old found.new
         (WalksClashes path.old (T.means p.now) (Some (T.means q.now)))) }
 {
     match (p.members(), q.members()) {
-        (Some(changes), Some(others)) => push_member_clashes(changes, others, path, places, alloc),
-        _ => push_clash(p, q, path, places, alloc),
+        (Some(changes), Some(others)) => push_member_clashes(changes, others, path, found, alloc),
+        _ => push_clash(p, q, path, found, alloc),
     }
 }
 
@@ -131,19 +210,19 @@ fn push_member_clashes<T: Node>(
     changes: &BTreeMap<String, T>,
     others: &BTreeMap<String, T>,
     path: &mut Pointer,
-    places: &mut Vec<Pointer>,
+    found: &mut Found,
     alloc: Global,
 ) -> Result<(), AllocError>
     requires documents { (d : T) → IsDocument (T.means d) }
     ensures path { OnOk result (path.new ≡ path.old) }
-    ensures places { OnOk result (Grew places.old.items places.new.items
+    ensures found { OnOk result (Passed found.old found.new
         (WalksMembers path.old (members_by T.means changes.now.entries)
         (members_by T.means others.now.entries))) }
 {
     for (name, change) in changes.iter() {
         if let Some(other) = others.get(name.as_str()) {
             path.push(name.as_str())?;
-            push_clashes(change, other, path, places, alloc)?;
+            push_clashes(change, other, path, found, alloc)?;
             path.pop();
         }
     }
@@ -155,15 +234,26 @@ fn push_clash<T: Node>(
     p: &T,
     q: &T,
     path: &Pointer,
-    places: &mut Vec<Pointer>,
+    found: &mut Found,
     alloc: Global,
 ) -> Result<(), AllocError>
-    ensures { OnOk result (Grew places.old.items places.new.items
+    ensures { OnOk result (Passed found.old found.new
         (IsOneClash path.now (T.means p.now) (T.means q.now))) }
 {
     if p.equals(q) {
         return Ok(());
     }
-    places.push(path.copy(alloc)?)?;
+    push_place(path, found, alloc)
+}
+
+fn push_place(path: &Pointer, found: &mut Found, alloc: Global) -> Result<(), AllocError>
+    ensures { OnOk result (reported_of found.new ≡ report (reported_of found.old) path.now) }
+{
+    found.total = found.total.saturating_add(1);
+    found.budget = found.budget.after_place(path);
+    if found.budget.is_over() {
+        return Ok(());
+    }
+    found.places.push(path.copy(alloc)?)?;
     Ok(())
 }

@@ -1,6 +1,7 @@
 //! What a join of two patches, or of a list, can be refused for.
 ghost use Rattle.std.specs.Prelude.{◌≡◌};
 
+use crate::comparing::Conflicts;
 use mp_patch::{ApplyFault, Cause};
 use mp_pointer::Pointer;
 use std::alloc::AllocError;
@@ -56,6 +57,63 @@ impl From<AllocError> for ListFault {
 
     fn from(_refused: AllocError) -> ListFault {
         ListFault::OutOfMemory
+    }
+}
+
+/// Why the patches of a list have no join within a limit, or can't be replayed. Patches are numbered from 0.
+#[derive(Debug, Drop, Error)]
+pub enum ListWithinFault {
+    /// The list is empty: no patch leaves every document as it is, so there is no join of none.
+    #[error("no patches")]
+    NoPatches,
+    /// `second` is the least number of a patch that conflicts with an earlier one, `first` the least number of a patch
+    /// that conflicts with it, and `conflicts` are those of the two that the limit allows, and how many they have.
+    #[error("conflict: patches {first} and {second}")]
+    ConflictOf {
+        /// The number of the earlier patch.
+        first: usize,
+        /// The number of the later patch.
+        second: usize,
+        /// The first paths at which the two disagree, and how many there are.
+        conflicts: Conflicts,
+    },
+    /// Memory ran out.
+    #[error("out of memory")]
+    OutOfMemory,
+}
+
+impl From<AllocError> for ListWithinFault {
+    ghost use Rattle.mp_merge.specs.declared.fault.ListWithinFault.TheVariants.{OutOfMemory};
+
+    ghost from_gives = { λ _ fault. fault ≡ OutOfMemory };
+
+    fn from(_refused: AllocError) -> ListWithinFault {
+        ListWithinFault::OutOfMemory
+    }
+}
+
+/// Why a merge patch was not rewritten as a JSON Patch within a limit.
+#[derive(Debug, Drop, Error)]
+pub enum RewriteFault {
+    /// The operations together weigh more than the limit.
+    #[error("too large")]
+    TooLarge {
+        /// How many operations fit: the tests and the edits of the places that come first, as many places as weigh at
+        /// most the limit with them.
+        fitting: usize,
+    },
+    /// Memory ran out.
+    #[error("out of memory")]
+    OutOfMemory,
+}
+
+impl From<AllocError> for RewriteFault {
+    ghost use Rattle.mp_merge.specs.declared.fault.RewriteFault.TheVariants.{OutOfMemory};
+
+    ghost from_gives = { λ _ fault. fault ≡ OutOfMemory };
+
+    fn from(_refused: AllocError) -> RewriteFault {
+        RewriteFault::OutOfMemory
     }
 }
 

@@ -1,6 +1,6 @@
 //! Laws over documents and merge patches alone: each function runs nothing, and its contract is the law.
 ghost use Rattle.mp_merge.specs.Convergence.{ReplicasConverge};
-ghost use Rattle.mp_merge.specs.Laws.{JoinIsReadable, MergedIsDocument, MergedIsReadable, RewritingIsNoDeeper, RewritingIsWritable, AppliesAtEachName, OthersReplace, MergesIntoNull, AppliedOnce, TriesResume, ApplicationIsOutcome, HasOneOutcome, AppliedInTurn, OutcomeExists, ReplicasAgree, Exchange, ClashesExist, HaveOneList, EmptyIfCompatible, CompatibleOrReported, CompatibleHaveNone, HasOneReportedPair, ClashWithAJoin, CompatibleByNames, CompatibleIfEqual, JoinByNames, JoinOfEqual, JoinIsIdempotent, JoinIsCommutative, JoinIsAssociative, JoinGrows, JoinInParts, JoinOfSame, JoinOfOne, JoinAbsorbs, JoinTriesResume, OutcomeGrows, OutcomeOfNone, OutcomeOfSame, HasOneJoin, EmptyHasNoJoin, JoinExists, PairHasJoin, JoinIsNoDeeper, JoinGivesOutcome, RewritingExists, HasOneRewriting, RewritingHasDocuments, GuardedList, RefusedGuardShows, EmptyRewriting, EditsInAnyOrder, RewritingRuns};
+ghost use Rattle.mp_merge.specs.Laws.{JoinIsReadable, MergedIsDocument, MergedIsReadable, RewritingIsNoDeeper, RewritingIsWritable, AppliesAtEachName, OthersReplace, MergesIntoNull, AppliedOnce, TriesResume, ApplicationIsOutcome, HasOneOutcome, AppliedInTurn, OutcomeExists, ReplicasAgree, Exchange, ClashesExist, HaveOneList, EmptyIfCompatible, CompatibleOrReported, CompatibleHaveNone, HasOneReportedPair, ClashWithAJoin, CompatibleByNames, CompatibleIfEqual, JoinByNames, JoinOfEqual, JoinIsIdempotent, JoinIsCommutative, JoinIsAssociative, JoinGrows, JoinInParts, JoinOfSame, JoinOfOne, JoinAbsorbs, JoinTriesResume, OutcomeGrows, OutcomeOfNone, OutcomeOfSame, HasOneJoin, EmptyHasNoJoin, JoinExists, PairHasJoin, JoinIsNoDeeper, JoinGivesOutcome, RewritingExists, HasOneRewriting, RewritingHasDocuments, GuardedList, RefusedGuardShows, EmptyRewriting, EditsInAnyOrder, RewritingRuns, FirstConflictsExist, HaveOneFront, AllIfWithin, ReportedWithin, HasOneReportWithin, RewritingIsWithinOrNot, WithinIsNotTooLarge, HasOneFitting};
 
 /// Application in the words of RFC 7396 section 2: a patch that is not an object is the result. An object makes an
 /// object of every target, in which a name that the patch does not carry stays as it was, a null removes it, and any
@@ -79,6 +79,17 @@ pub fn reported_pair()
     ensures exists { CompatibleOrReported }
     ensures none { CompatibleHaveNone }
     ensures one { HasOneReportedPair }
+{}
+
+/// Whatever the limit, two patches have conflicts that come first within it, and these alone; they are all conflicts exactly if
+/// all weigh at most the limit together. Of a list of patches the same pair is reported within a limit as without one, with
+/// one list of conflicts and one number of all.
+pub fn first_conflicts()
+    ensures exist { FirstConflictsExist }
+    ensures one { HaveOneFront }
+    ensures all { AllIfWithin }
+    ensures reported { ReportedWithin }
+    ensures one_report { HasOneReportWithin }
 {}
 
 /// A patch conflicts with a join exactly if it conflicts with one of the patches that were joined: so a replica that
@@ -185,6 +196,14 @@ pub fn rewriting_exists()
 /// A document and a patch have at most one rewriting, so replicas that rewrite the same send the same JSON Patch.
 pub fn one_rewriting()
     ensures { HasOneRewriting }
+{}
+
+/// A rewriting is within a limit, or it is too large for it, and not both; and if it is too large, one number of its operations
+/// fits. So a limit changes nothing of a rewriting that is within it.
+pub fn rewritings_within()
+    ensures one_of_both { RewritingIsWithinOrNot }
+    ensures not_both { WithinIsNotTooLarge }
+    ensures one_fitting { HasOneFitting }
 {}
 
 /// The values of a rewriting are documents, so what is a law of such JSON Patches is a law of it.

@@ -2,6 +2,7 @@
 //! rest on.
 #![tactic(auto)]
 
+mod budget;
 mod comparing;
 mod converging;
 mod fault;
@@ -12,11 +13,17 @@ mod lists;
 mod merging;
 mod rewriting;
 
-pub use comparing::{compatible, compatible_values, conflict, conflict_values};
+pub use comparing::{
+    Conflicts, compatible, compatible_values, conflict, conflict_values, conflict_values_within,
+    conflict_within,
+};
 pub use converging::{Converged, converge};
-pub use fault::{ConvergeFault, JoinFault, ListFault};
+pub use fault::{ConvergeFault, JoinFault, ListFault, ListWithinFault, RewriteFault};
 pub use in_place::merge_into;
 pub use joining::{join, join_into};
-pub use lists::{join_all, join_all_values, replay, replay_owned, replay_values};
+pub use lists::{
+    join_all, join_all_values, join_all_values_within, join_all_within, replay, replay_owned,
+    replay_values, replay_values_within, replay_within,
+};
 pub use merging::{merge, merge_owned, merge_value};
-pub use rewriting::{rewrite, rewrite_value};
+pub use rewriting::{rewrite, rewrite_value, rewrite_values_within, rewrite_within};

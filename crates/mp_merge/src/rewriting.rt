@@ -1,5 +1,5 @@
 //! Merge patches rewritten as JSON Patches.
-ghost use Rattle.std.specs.Prelude.{◌≡◌, ◌≤◌, ◌++◌, ◌∷◌, [], None, Some, IfOk, OnOk, option_map};
+ghost use Rattle.std.specs.Prelude.{◌≡◌, ◌≤◌, ◌++◌, ◌∷◌, [], None, Some, IfOk, OnOk, MatchResult, option_map};
 ghost use Rattle.mp_patch.specs.Operation.{test};
 ghost use Rattle.mp_tree.specs.Document.{depth, depth_limit, no_members, IsDocument};
 ghost use Rattle.mp_tree.specs.Private.Entries.{members};
@@ -8,9 +8,13 @@ ghost use Rattle.mp_tree.specs.View.{document, members_by};
 ghost use Rattle.mp_patch.specs.Run.{Runs};
 ghost use Rattle.mp_patch.specs.View.{operation_of, operations_of};
 ghost use Rattle.mp_merge.specs.Application.{merge_patch, merge_patch_members};
-ghost use Rattle.mp_merge.specs.Private.Edits.{IsOneEdit, NotBothMaps, AreEdits, AreMemberEdits, Gathered, lists_of, followed_by};
+ghost use Rattle.mp_merge.specs.Private.Edits.{IsOneEdit, NotBothMaps, AreEdits, AreMemberEdits, Gathered, GatheredFrom, admit_edit, admitted_of};
 ghost use Rattle.mp_merge.specs.Rewriting.{IsRewriting};
+ghost use Rattle.mp_merge.specs.Within.{IsRewriteFault};
+ghost use Rattle.mp_patch.specs.Weight.{operations_weight};
 
+use crate::budget::Budget;
+use crate::fault::RewriteFault;
 use crate::laws;
 use mp_patch::{JsonPatch, Op};
 use mp_pointer::Pointer;
@@ -64,6 +68,60 @@ pub fn rewrite_value(alloc: Global, doc: &Value, patch: &Value) -> Result<JsonPa
     rewritten(alloc, doc, patch)
 }
 
+/// As `rewrite`, within a limit in bytes: the rewriting exactly if its operations weigh at most `limit` together. An operation
+/// weighs what its place and its value do: 128 bytes, 8 for each token and the bytes of the spelling, and what `mp_tree::left_of`
+/// takes from a budget.
+///
+/// `TooLarge` exactly if they weigh more, with the number of those that fit; `OutOfMemory` may come at any point. It never
+/// holds more than `limit` and one value of the patch besides: what the document has is weighed before it is copied, and after
+/// the first place that does not fit nothing more is made.
+///
+/// ```text
+/// rewrite_within(alloc, &doc, &patch, 1_000)  // as rewrite, if doc is {"a":1,"b":{"c":2}} and patch {"b":{"c":null}}
+/// rewrite_within(alloc, &doc, &patch, 300)    // TooLarge, and 0 operations fit
+/// ```
+pub fn rewrite_within(
+    alloc: Global,
+    doc: &Doc,
+    patch: &Doc,
+    limit: usize,
+) -> Result<JsonPatch, RewriteFault>
+    ensures rewriting { IfOk result (λ ops.
+        IsRewriting (document doc.now) (document patch.now) (operations_of ops)) }
+    ensures runs { IfOk result (λ ops. depth (document patch.now) ≤ depth_limit
+        → Runs (document doc.now) (operations_of ops)
+        (merge_patch (Some (document doc.now)) (document patch.now))) }
+    ensures within { MatchResult result (λ ops. operations_weight (operations_of ops) ≤ limit)
+        (λ fault. IsRewriteFault limit fault (document doc.now) (document patch.now)) }
+{
+    rewritten_within(alloc, doc, patch, limit)
+}
+
+/// As `rewrite_within`, of a document and a patch that are values. `TooLarge` and `OutOfMemory` come when `rewrite_within` answers
+/// them.
+///
+/// ```text
+/// // TooLarge, and 0 operations fit, if doc is {"a":1,"b":{"c":2}} and patch {"b":{"c":null}}
+/// rewrite_values_within(alloc, &doc, &patch, 300)
+/// ```
+pub fn rewrite_values_within(
+    alloc: Global,
+    doc: &Value,
+    patch: &Value,
+    limit: usize,
+) -> Result<JsonPatch, RewriteFault>
+    ensures rewriting { IfOk result (λ ops.
+        IsRewriting (value_document doc.now) (value_document patch.now) (operations_of ops)) }
+    ensures runs { IfOk result (λ ops. depth (value_document patch.now) ≤ depth_limit
+        → Runs (value_document doc.now) (operations_of ops)
+        (merge_patch (Some (value_document doc.now)) (value_document patch.now))) }
+    ensures within { MatchResult result (λ ops. operations_weight (operations_of ops) ≤ limit)
+        (λ fault. IsRewriteFault limit fault (value_document doc.now)
+        (value_document patch.now)) }
+{
+    rewritten_within::<Value>(alloc, doc, patch, limit)
+}
+
 fn rewritten<T: Node>(alloc: Global, doc: &T, patch: &T) -> Result<JsonPatch, AllocError>
     requires documents { (d : T) → IsDocument (T.means d) }
     ensures rewriting { IfOk result (λ ops.
@@ -73,22 +131,67 @@ fn rewritten<T: Node>(alloc: Global, doc: &T, patch: &T) -> Result<JsonPatch, Al
         (merge_patch (Some (T.means doc.now)) (T.means patch.now))) }
 {
     laws::rewriting_runs();
-    let mut found = Edits {
-        guards: JsonPatch::new(alloc),
-        edits: Vec::new(alloc),
-    };
-    push_all(patch, doc, &mut found, alloc)?;
-    let Edits { mut guards, edits } = found;
-    push_ops(edits, &mut guards)?;
-    Ok(guards)
+    let found = gathered(alloc, doc, patch, Budget::Unlimited)?;
+    tests_then_edits(found)
+}
+
+fn rewritten_within<T: Node>(
+    alloc: Global,
+    doc: &T,
+    patch: &T,
+    limit: usize,
+) -> Result<JsonPatch, RewriteFault>
+    requires documents { (d : T) → IsDocument (T.means d) }
+    ensures rewriting { IfOk result (λ ops.
+        IsRewriting (T.means doc.now) (T.means patch.now) (operations_of ops)) }
+    ensures runs { IfOk result (λ ops. depth (T.means patch.now) ≤ depth_limit
+        → Runs (T.means doc.now) (operations_of ops)
+        (merge_patch (Some (T.means doc.now)) (T.means patch.now))) }
+    ensures within { MatchResult result (λ ops. operations_weight (operations_of ops) ≤ limit)
+        (λ fault. IsRewriteFault limit fault (T.means doc.now) (T.means patch.now)) }
+{
+    laws::rewriting_runs();
+    let found = gathered(alloc, doc, patch, Budget::Left(limit))?;
+    if found.budget.is_over() {
+        let fitting = found.guards.ops().len() + found.edits.len();
+        return Err(RewriteFault::TooLarge { fitting });
+    }
+    Ok(tests_then_edits(found)?)
 }
 
 // The tests of the places that were passed, and their edits: both in the order of paths. No place is kept with its test,
-// so that a rewriting is these two lists and no third one.
+// so that a rewriting is these two lists and no third one. Once a place did not fit in the budget, both stay as they are.
 #[derive(Drop)]
 struct Edits {
     guards: JsonPatch,
     edits: Vec<Op>,
+    budget: Budget,
+}
+
+fn gathered<T: Node>(alloc: Global, doc: &T, patch: &T, budget: Budget) -> Result<Edits, AllocError>
+    ensures { IfOk result (λ found. GatheredFrom budget found
+        (AreEdits [] (T.means patch.now) (Some (T.means doc.now)))) }
+{
+    let mut found = Edits {
+        guards: JsonPatch::new(alloc),
+        edits: Vec::new(alloc),
+        budget,
+    };
+    push_all(patch, doc, &mut found, alloc)?;
+    Ok(found)
+}
+
+fn tests_then_edits(found: Edits) -> Result<JsonPatch, AllocError>
+    ensures { IfOk result (λ ops.
+        operations_of ops ≡ operations_of found.guards ++ operations_of found.edits.items) }
+{
+    let Edits {
+        mut guards,
+        edits,
+        budget: _,
+    } = found;
+    push_ops(edits, &mut guards)?;
+    Ok(guards)
 }
 
 fn push_ops(ops: Vec<Op>, patch: &mut JsonPatch) -> Result<(), AllocError>
@@ -169,6 +272,9 @@ fn push_edits<T: Node>(
         (AreEdits (path.old ++ name.now ∷ []) (T.means change.now)
         (option_map (λ v. T.means v.now) value.entry))) }
 {
+    if found.budget.is_over() {
+        return Ok(());
+    }
     if let Some(there) = value {
         if let (Some(changes), Some(entries)) = (change.members(), there.members()) {
             path.push(name)?;
@@ -214,13 +320,12 @@ fn push_edit<T: Node>(
             }
             let place = path.child(alloc, name)?;
             let op = Op::Add(place, left_by(change, alloc)?);
-            found.edits.push(op)?;
-            Ok(())
+            push_unguarded(op, found)
         }
     }
 }
 
-// The edit, and the test of what is there.
+// The edit, and the test of what is there, if the budget takes both.
 fn push_guarded<T: Node>(
     place: Pointer,
     there: &T,
@@ -228,10 +333,28 @@ fn push_guarded<T: Node>(
     found: &mut Edits,
     alloc: Global,
 ) -> Result<(), AllocError>
-    ensures { OnOk result (lists_of found.new ≡ followed_by (lists_of found.old)
-        ((test place (T.means there.now) ∷ [], operation_of op) ∷ [])) }
+    ensures { OnOk result (admitted_of found.new ≡ admit_edit (admitted_of found.old)
+        (test place (T.means there.now) ∷ [], operation_of op)) }
 {
+    let tested = found.budget.after_place(&place).after_node(there);
+    found.budget = tested.after_op(&op);
+    if found.budget.is_over() {
+        return Ok(());
+    }
     found.guards.push(Op::Test(place, there.to_doc(alloc)?))?;
+    found.edits.push(op)?;
+    Ok(())
+}
+
+// The edit alone, if the budget takes it.
+fn push_unguarded(op: Op, found: &mut Edits) -> Result<(), AllocError>
+    ensures { OnOk result (admitted_of found.new ≡ admit_edit (admitted_of found.old)
+        ([], operation_of op)) }
+{
+    found.budget = found.budget.after_op(&op);
+    if found.budget.is_over() {
+        return Ok(());
+    }
     found.edits.push(op)?;
     Ok(())
 }

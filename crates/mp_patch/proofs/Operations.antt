@@ -7,3 +7,4 @@ pub mod Moves
 pub mod SingleSteps
 pub mod SomeStep
 pub mod Taken
+pub mod Weights

@@ -3,3 +3,5 @@ pub mod Growth
 pub mod Laws
 pub mod Readable
 pub mod SomeRun
+pub mod Stops
+pub mod Within

@@ -1,7 +1,8 @@
 -- Laws of patches alone. Each is the contract of a function of the module `laws` that runs nothing.
-use Rattle.std.specs.Prelude.{◌≡◌, ◌≢◌, ◌≤◌, ◌+◌, ◌⊎◌, ℕ, List, [], length, Some}
+use Rattle.std.specs.Prelude.{◌≡◌, ◌≢◌, ◌≤◌, ◌+◌, ◌⊎◌, ◌<◌, ℕ, suc, List, [], length, take, Some}
 use Rattle.std.specs.List.{All}
 use Rattle.mp_tree.specs.Document.{Document, IsDocument, IsReadable, depth, depth_limit}
+use Rattle.mp_tree.specs.Weight.{weight}
 use Rattle.mp_pointer.specs.Part.{part}
 use Rattle.mp_pointer.specs.Spelling.{Tokens, IsProperPrefix}
 use Rattle.mp_patch.specs.Writable.{IsWritable}
@@ -10,6 +11,9 @@ use Rattle.mp_patch.specs.Operation.{Operation, add, remove, replace, move, copy
 use Rattle.mp_patch.specs.Refusal.{HasNoPlace, LeavesNoPlace}
 use Rattle.mp_patch.specs.Run.{Runs, IsRefused, RefusedAt}
 use Rattle.mp_patch.specs.View.{operations_of}
+use Rattle.mp_patch.specs.Within.{RunsWithin, IsApplyWithinFault}
+use Rattle.mp_patch.specs.declared.fault.ApplyWithinFault.{ApplyWithinFault}
+use Rattle.mp_patch.specs.declared.fault.ApplyWithinFault.TheVariants as within_fault
 use Rattle.mp_patch.specs.declared.fault.Cause.{Cause}
 use Rattle.mp_patch.specs.declared.fault.FormFault.{FormFault}
 use Rattle.mp_patch.specs.declared.fault.FormFault.TheVariants.{OutOfMemory}
@@ -107,3 +111,39 @@ FormsAreWritable = (form : Document) (operations : List Operation)
 abbrev pub RunsAreReadable : Type 0
 RunsAreReadable = (d e : Document) (operations : List Operation)
     → IsReadable d → All IsWritable operations → Runs d operations e → IsReadable e
+
+-- each result on the way weighs at most the limit, whatever the first document weighs
+abbrev pub StaysWithin : ℕ → Document → List Operation → Type 0
+StaysWithin limit d operations = (k : ℕ) (m : Document)
+    → k < length operations → Runs d (take (suc k) operations) m → weight m ≤ limit
+
+-- a limit changes nothing but that a patch ends at the first result over it
+pub record LimitsChangeNothing (limit : ℕ) (d : Document) (operations : List Operation) : Type 0 where
+  pub runs : (e : Document) → Runs d operations e → StaysWithin limit d operations → RunsWithin limit d operations e
+  pub is_run : (e : Document) → RunsWithin limit d operations e → Runs d operations e
+  pub is_refused : (k : ℕ) (cause : Cause)
+      → IsApplyWithinFault limit (within_fault.Refused k cause) d operations → RefusedAt d operations k cause
+
+-- and so it is for every patch
+abbrev pub LimitsChangeNoAnswer : Type 0
+LimitsChangeNoAnswer = (limit : ℕ) (d : Document) (operations : List Operation) → LimitsChangeNothing limit d operations
+
+-- a patch that runs within a limit is stopped only if memory runs out
+abbrev pub RunsAreNotStopped : Type 0
+RunsAreNotStopped = (limit : ℕ) (d e : Document) (operations : List Operation) (fault : ApplyWithinFault)
+    → IsDocument d → HaveDocuments operations → RunsWithin limit d operations e
+    → IsApplyWithinFault limit fault d operations → fault ≡ within_fault.OutOfMemory
+
+-- it is stopped at one operation alone, and for one reason
+abbrev pub HasOneStopWithin : Type 0
+HasOneStopWithin = (limit : ℕ) (d : Document) (operations : List Operation) (fault other : ApplyWithinFault)
+    → IsDocument d → HaveDocuments operations
+    → fault ≢ within_fault.OutOfMemory → other ≢ within_fault.OutOfMemory
+    → IsApplyWithinFault limit fault d operations → IsApplyWithinFault limit other d operations → fault ≡ other
+
+-- and a patch that does not run within it is stopped
+abbrev pub RunsWithinOrStops : Type 0
+RunsWithinOrStops = (limit : ℕ) (d : Document) (operations : List Operation) → IsDocument d → HaveDocuments operations
+    → ((e : Document) × IsDocument e × RunsWithin limit d operations e)
+    ⊎ ((fault : ApplyWithinFault) × (fault ≢ within_fault.OutOfMemory)
+    × IsApplyWithinFault limit fault d operations)

@@ -7,4 +7,6 @@ pub mod Refusal
 pub mod Run
 pub mod Texts
 pub mod View
+pub mod Weight
+pub mod Within
 pub mod Writable

@@ -84,7 +84,7 @@ fn set_member<T: Node>(
 }
 
 // The place for a new element that the token names in an array of that length.
-fn index_in(len: usize, token: &str) -> Option<usize>
+pub(crate) fn index_in(len: usize, token: &str) -> Option<usize>
     ensures { MatchOption result
         ((token.now ≢ dash) × ((i : ℕ) → token.now ≡ numeral i → len < i))
         (λ i. (i ≤ len)

@@ -1,7 +1,7 @@
 //! Why a patch is refused.
 ghost use Rattle.std.specs.Prelude.{◌≡◌};
 ghost use Rattle.mp_patch.specs.Texts.{cause_text, form_text};
-ghost use Rattle.mp_patch.specs.Private.Faults.{fault_of_element, fault_of_operation};
+ghost use Rattle.mp_patch.specs.Private.Faults.{fault_of_element, fault_of_operation, within_fault_of};
 
 use std::alloc::{AllocError, AllocFailed};
 use thiserror::Error;
@@ -64,6 +64,38 @@ impl From<AllocError> for ApplyFault {
 
     fn from(_refused: AllocError) -> ApplyFault {
         ApplyFault::OutOfMemory
+    }
+}
+
+/// Why a patch has no result within a limit on the weight of each result.
+#[derive(Clone, Copy, Debug, Drop, PartialEq, Eq, Error)]
+pub enum ApplyWithinFault {
+    /// The first operation that is refused, counted from 0. Each result before it is within the limit.
+    #[error("operation {op}: {cause}")]
+    Refused {
+        /// The number of the operation, from 0.
+        op: usize,
+        /// Why it is refused.
+        cause: Cause,
+    },
+    /// The first operation whose result weighs more than the limit, counted from 0. It is not refused, and none before it is.
+    #[error("operation {op}: too large")]
+    TooLarge {
+        /// The number of the operation, from 0.
+        op: usize,
+    },
+    /// Memory ran out.
+    #[error("out of memory")]
+    OutOfMemory,
+}
+
+impl From<AllocError> for ApplyWithinFault {
+    ghost use Rattle.mp_patch.specs.declared.fault.ApplyWithinFault.TheVariants.{OutOfMemory};
+
+    ghost from_gives = { λ _ fault. fault ≡ OutOfMemory };
+
+    fn from(_refused: AllocError) -> ApplyWithinFault {
+        ApplyWithinFault::OutOfMemory
     }
 }
 
@@ -159,6 +191,16 @@ impl Refusal<Cause> {
         match self {
             Refusal::By(cause) => ApplyFault::Refused { op: number, cause },
             Refusal::OutOfMemory => ApplyFault::OutOfMemory,
+        }
+    }
+
+    // As the error of the operation with that number, within a limit.
+    pub(crate) fn of_operation_within(self, number: usize) -> ApplyWithinFault
+        ensures { result ≡ within_fault_of number self }
+    {
+        match self {
+            Refusal::By(cause) => ApplyWithinFault::Refused { op: number, cause },
+            Refusal::OutOfMemory => ApplyWithinFault::OutOfMemory,
         }
     }
 }

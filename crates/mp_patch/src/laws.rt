@@ -1,5 +1,5 @@
 //! Laws of patches alone: each function runs nothing, and its contract is the law.
-ghost use Rattle.mp_patch.specs.Laws.{FormsAreWritable, FormsHaveDocuments, FormsHaveNoFault, HasOneEnd, HasOneFormFault, HasOneReading, HasOneRefusal, IsFormOrFaulty, OperationsAreTaken, PatchesHaveDocuments, RunsAreReadable, RunsOrIsRefused, RunsUnrefused, ShapesAreForms, ShapesAreReadable, StaysShallow};
+ghost use Rattle.mp_patch.specs.Laws.{FormsAreWritable, FormsHaveDocuments, FormsHaveNoFault, HasOneEnd, HasOneFormFault, HasOneReading, HasOneRefusal, IsFormOrFaulty, LimitsChangeNoAnswer, OperationsAreTaken, PatchesHaveDocuments, RunsAreReadable, RunsOrIsRefused, RunsUnrefused, ShapesAreForms, ShapesAreReadable, StaysShallow, HasOneStopWithin, RunsAreNotStopped, RunsWithinOrStops};
 
 /// The values of a patch are documents: so the other laws speak of every `JsonPatch`.
 pub fn patches_have_documents()
@@ -87,4 +87,19 @@ pub fn forms_are_writable()
 /// read, and so is read back from its text.
 pub fn runs_are_readable()
     ensures { RunsAreReadable }
+{}
+
+/// A limit on the weight of each result changes no answer below it: if each result on the way weighs at most the limit, a patch that
+/// leads to an end leads there within the limit; what it leads to within the limit it leads to without one; and an operation that is
+/// refused within the limit is refused without one, by the same cause.
+pub fn limits_change_nothing()
+    ensures { LimitsChangeNoAnswer }
+{}
+
+/// Within a limit each patch runs to an end or is stopped, by a refusal or by a result that weighs more, and not both; and it is
+/// stopped at one operation alone, for one reason. So a call within a limit has one answer, unless memory runs out.
+pub fn one_answer_within()
+    ensures some { RunsWithinOrStops }
+    ensures unstopped { RunsAreNotStopped }
+    ensures one_stop { HasOneStopWithin }
 {}

@@ -2,6 +2,7 @@
 #![tactic(auto)]
 
 mod applying;
+mod applying_within;
 mod bound;
 mod containers;
 mod fault;
@@ -15,10 +16,16 @@ mod reading;
 mod serializing;
 mod shape;
 mod steps;
+mod steps_within;
+mod view;
+mod weighing;
 mod writing;
 
 pub use applying::{apply, apply_once, apply_owned, apply_to_value};
-pub use fault::{ApplyFault, Cause, FormCause, FormFault};
+pub use applying_within::{
+    apply_once_within, apply_owned_within, apply_to_value_within, apply_within,
+};
+pub use fault::{ApplyFault, ApplyWithinFault, Cause, FormCause, FormFault};
 pub use op::{Op, ValueOp};
 pub use patch::JsonPatch;
 pub use reading::ops_of_value;

@@ -1,6 +1,7 @@
 //! The operations of a JSON Patch (RFC 6902 section 4).
-ghost use Rattle.std.specs.Prelude.{◌≡◌, ◌↔◌, IfOk, IsTrue};
+ghost use Rattle.std.specs.Prelude.{◌≡◌, ◌<◌, ◌+◌, ◌↔◌, IfOk, IsTrue, MatchOption};
 ghost use Rattle.mp_patch.specs.View.{operation_of};
+ghost use Rattle.mp_patch.specs.Weight.{operation_weight};
 
 use mp_pointer::Pointer;
 use mp_tree::Doc;
@@ -128,6 +129,29 @@ impl Op {
                 are_equal(path, other_path) && value.same(other_value)
             }
             _ => false,
+        }
+    }
+
+    /// What remains of a budget in bytes once the weight of this operation is taken from it: that of its places, as
+    /// `Pointer::left_of` has it, and that of its value, as `Doc::left_of` has it. None exactly if that is more than the budget.
+    ///
+    /// It takes no memory, looks at each part once at most, and stops at the first part that is too heavy.
+    ///
+    /// ```text
+    /// op.left_of(200)  // Some(62), where `op` is Op::Remove of `/a`
+    /// ```
+    pub fn left_of(&self, budget: usize) -> Option<usize>
+        ensures left { MatchOption result (budget < operation_weight (operation_of self.now))
+            (λ left. left + operation_weight (operation_of self.now) ≡ budget) }
+    {
+        match self {
+            Op::Add(path, value) | Op::Replace(path, value) | Op::Test(path, value) => {
+                value.left_of(path.left_of(budget)?)
+            }
+            Op::Remove(path) => path.left_of(budget),
+            Op::Move { origin, path } | Op::Copy { origin, path } => {
+                path.left_of(origin.left_of(budget)?)
+            }
         }
     }
 }

@@ -1,5 +1,5 @@
 // One operation at a time (RFC 6902 section 4), on a document that is owned.
-ghost use Rattle.std.specs.Prelude.{◌≡◌, ◌≢◌, ◌+◌, ◌≤◌, ◌↔◌, ◌++◌, ◌∷◌, [], length, take, IsTrue, Some, MatchOption, MatchResult, OnOk, Err};
+ghost use Rattle.std.specs.Prelude.{◌≡◌, ◌≢◌, ◌+◌, ◌≤◌, ◌↔◌, ◌++◌, ◌∷◌, [], length, take, IsTrue, Some, MatchOption, MatchResult, IfOk, IfSome, OnOk, Err};
 ghost use Rattle.mp_tree.specs.Document.{IsDocument, depth, depth_limit};
 ghost use Rattle.mp_tree.specs.Values.{value_document};
 ghost use Rattle.mp_tree.specs.View.{document};
@@ -9,12 +9,14 @@ ghost use Rattle.mp_patch.specs.Refusal.{RefusedBy};
 ghost use Rattle.mp_patch.specs.Run.{IsRefused};
 ghost use Rattle.mp_patch.specs.Private.Bounds.{Bounds};
 ghost use Rattle.mp_patch.specs.Private.Steps.{Answers};
+ghost use Rattle.mp_patch.specs.Private.Within.{TakesToMove, viewed};
 ghost use Rattle.mp_patch.specs.View.{operation_of, value_operation_of};
 
 use crate::bound::DepthBound;
 use crate::containers::{insert, set, take};
 use crate::fault::{Cause, Refusal};
 use crate::op::{Op, ValueOp};
+use crate::view::{Change, View};
 use mp_pointer::{Pointer, edit_part_in, part_in};
 use mp_tree::{Doc, Node};
 use serde_json::Value;
@@ -44,9 +46,13 @@ pub(crate) fn step(
     }
 }
 
-// An operation that is owned: its value is moved into the node that it is taken on.
+// An operation that is taken on a node. If it is owned, its value is moved into the node.
 pub(crate) trait StepOwned<T: Node>: Drop {
     ghost means: { Self → Operation };
+
+    // How it is looked at before it is taken.
+    fn view(&self) -> View<'_, T>
+        ensures { viewed T.means result ≡ means self.now };
 
     fn step_owned(
         self,
@@ -62,6 +68,17 @@ pub(crate) trait StepOwned<T: Node>: Drop {
 impl StepOwned<Doc> for Op {
     ghost means = { operation_of };
 
+    fn view(&self) -> View<'_, Doc> {
+        match self {
+            Op::Add(path, value) => View::Change(Change::Add(path, value)),
+            Op::Remove(path) => View::Change(Change::Remove(path)),
+            Op::Replace(path, value) => View::Change(Change::Replace(path, value)),
+            Op::Move { origin, path } => View::Move(origin, path),
+            Op::Copy { origin, path } => View::Change(Change::Copy(origin, path)),
+            Op::Test(path, value) => View::Change(Change::Test(path, value)),
+        }
+    }
+
     fn step_owned(
         self,
         doc: &mut Doc,
@@ -76,8 +93,37 @@ impl StepOwned<Doc> for Op {
     }
 }
 
+// If it is borrowed, its value is copied.
+impl StepOwned<Doc> for &Op {
+    ghost means = { λ op. operation_of op.now };
+
+    fn view(&self) -> View<'_, Doc> {
+        (*self).view()
+    }
+
+    fn step_owned(
+        self,
+        doc: &mut Doc,
+        bound: &mut DepthBound,
+        alloc: Global,
+    ) -> Result<(), Refusal<Cause>> {
+        step(self, doc, bound, alloc)
+    }
+}
+
 impl StepOwned<Value> for ValueOp {
     ghost means = { value_operation_of };
+
+    fn view(&self) -> View<'_, Value> {
+        match self {
+            ValueOp::Add(path, value) => View::Change(Change::Add(path, value)),
+            ValueOp::Remove(path) => View::Change(Change::Remove(path)),
+            ValueOp::Replace(path, value) => View::Change(Change::Replace(path, value)),
+            ValueOp::Move { origin, path } => View::Move(origin, path),
+            ValueOp::Copy { origin, path } => View::Change(Change::Copy(origin, path)),
+            ValueOp::Test(path, value) => View::Change(Change::Test(path, value)),
+        }
+    }
 
     fn step_owned(
         self,
@@ -117,7 +163,7 @@ fn add<T: Node>(
 }
 
 // Adds a value of which is known whether it fits.
-fn put<T: Node>(
+pub(crate) fn put<T: Node>(
     doc: &mut T,
     path: &Pointer,
     value: T,
@@ -195,18 +241,39 @@ fn move_part<T: Node>(
         (T.means doc.new) }
     ensures bounds { OnOk result (Bounds bound.new.most 0 (T.means doc.new)) }
 {
+    match take_to_move(doc, origin, path, bound)? {
+        Some((part, fits)) => put(doc, path, part, fits, alloc),
+        None => Ok(()),
+    }
+}
+
+// Takes out the part that moves, and says whether it fits at its new place. None if it stays where it is.
+pub(crate) fn take_to_move<T: Node>(
+    doc: &mut T,
+    origin: &Pointer,
+    path: &Pointer,
+    bound: &mut DepthBound,
+) -> Result<Option<(T, bool)>, Refusal<Cause>>
+    requires documents { (d : T) → IsDocument (T.means d) }
+    requires bounds { Bounds bound.old.most 0 (T.means doc.old) }
+    ensures taken { TakesToMove T.means result (T.means doc.old) origin.now path.now
+        (T.means doc.new) }
+    ensures bounds { OnOk result (Bounds bound.new.most 0 (T.means doc.new)) }
+    ensures fits { IfOk result (λ taken. IfSome taken (λ x. IsTrue x.1
+        → Bounds bound.new.most (length path.now) (T.means x.0))) }
+{
     if origin.is_proper_prefix_of(path) {
         return Err(Refusal::By(Cause::IntoItself));
     }
     if origin == path {
         return match part_in(doc, origin) {
-            Some(_) => Ok(()),
+            Some(_) => Ok(None),
             None => Err(Refusal::By(Cause::Missing)),
         };
     }
     let part = remove(doc, origin)?;
     let fits = bound.admit_part(&part, origin.len(), doc, path.len());
-    put(doc, path, part, fits, alloc)
+    Ok(Some((part, fits)))
 }
 
 fn copy_part<T: Node>(
@@ -245,7 +312,7 @@ fn check<T: Node>(doc: &T, path: &Pointer, value: &T) -> Result<(), Refusal<Caus
 }
 
 // The last token, with its number: the tokens before it lead to the object or the array that it names a part of.
-fn last_token(path: &Pointer) -> Option<(usize, &str)>
+pub(crate) fn last_token(path: &Pointer) -> Option<(usize, &str)>
     ensures { MatchOption result (path.now ≡ [])
         (λ last. path.now ≡ take last.0 path.now ++ last.1.now ∷ []) }
 {

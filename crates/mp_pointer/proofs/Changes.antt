@@ -3,4 +3,5 @@ pub mod Child
 pub mod Edited
 pub mod FollowedBorrows
 pub mod SomeChange
+pub mod Weights
 pub mod Written

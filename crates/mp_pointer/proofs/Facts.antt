@@ -1,6 +1,7 @@
--- What the proofs of the crates above may cite: facts about indices, parts, kinds, one child that changes, documents that differ at one place alone, about lists of tokens and their spellings, and about what a `?` hands on.
+-- What the proofs of the crates above may cite: facts about indices, parts, kinds, one child that changes, documents that differ at one place alone, their weights, about lists of tokens and their spellings, and about what a `?` hands on.
 pub use Rattle.mp_pointer.proofs.Changes.Child.{names_of-put}
 pub use Rattle.mp_pointer.proofs.Changes.SomeChange.{rewrite_part}
+pub use Rattle.mp_pointer.proofs.Changes.Weights.{part-weight, weighs_by_part}
 pub use Rattle.mp_pointer.proofs.Parts.Along.{child-object, part-push, DifferOnlyAt-sym, DifferOnlyAt-trans, DifferOnlyAt-root, DifferOnlyAt-child}
 pub use Rattle.mp_pointer.proofs.Parts.Children.{no_index_here-by, past_end-by}
 pub use Rattle.mp_pointer.proofs.Parts.Depths.{depth-changed, part-depth}

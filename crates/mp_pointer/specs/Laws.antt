@@ -3,6 +3,7 @@ use Rattle.std.specs.Prelude.{◌≡◌, ◌≢◌, ◌<◌, ◌≤◌, ◌+◌,
 use Rattle.std.specs.Fmt.{decimal}
 use Rattle.std.specs.List.{All}
 use Rattle.mp_tree.specs.Document.{Document, IsDocument, IsReadable, Items, list, depth}
+use Rattle.mp_tree.specs.Weight.{weight}
 use Rattle.mp_pointer.specs.Difference.{DifferOnlyAt}
 use Rattle.mp_pointer.specs.Part.{numeral, child, part}
 use Rattle.mp_tree.specs.Elements.{count_of, nth}
@@ -74,3 +75,8 @@ SpellingsAreTexts = (t : Tokens) → All IsUtf8 t → IsUtf8 (spell t)
 -- and tokens that are spelled in UTF-8 are UTF-8
 abbrev pub TokensAreTexts : Type 0
 TokensAreTexts = (t : Tokens) → IsUtf8 (spell t) → All IsUtf8 t
+
+-- if two documents differ at one place alone, the difference of their weights is that of their parts there
+abbrev pub WeighsByPart : Type 0
+WeighsByPart = (t : Tokens) (d e x y : Document) → IsDocument d → IsDocument e → DifferOnlyAt t d e
+    → part d t ≡ Some x → part e t ≡ Some y → weight e + weight x ≡ weight d + weight y

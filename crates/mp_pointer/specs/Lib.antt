@@ -6,3 +6,4 @@ pub mod Borrowing
 pub mod Part
 pub mod Private
 pub mod Spelling
+pub mod Weight

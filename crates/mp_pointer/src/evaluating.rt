@@ -1,5 +1,5 @@
 //! The part of a document that a pointer names (RFC 6901 section 4), read or borrowed for writing.
-ghost use Rattle.std.specs.Prelude.{◌≡◌, ◌≢◌, ◌^◌, ◌≤◌, ◌↔◌, ℕ, IsTrue, slice_index, option_map, MatchOption, string_bytes};
+ghost use Rattle.std.specs.Prelude.{◌≡◌, ◌≢◌, ◌^◌, ◌≤◌, ◌↔◌, ℕ, length, take, IsTrue, slice_index, option_map, MatchOption, string_bytes};
 ghost use Rattle.std.specs.Borrow.{sem};
 ghost use Rattle.mp_tree.specs.Values.{value_document};
 ghost use Rattle.mp_tree.specs.View.{document};
@@ -76,8 +76,22 @@ pub fn get_value<'a>(value: &'a Value, pointer: &Pointer) -> Option<&'a Value>
 pub fn part_in<'a, T: Node>(node: &'a T, pointer: &Pointer) -> Option<&'a T>
     ensures { option_map (λ n. T.means n.now) result ≡ part (T.means node.now) pointer.now }
 {
+    front_part_in(node, pointer, pointer.len())
+}
+
+/// As `part_in`, of the first `count` tokens of the pointer: the part that holds the one that it names. `count` is at
+/// most `len()`. It looks up one name or one index for each of these tokens, and takes no memory.
+///
+/// ```text
+/// front_part_in(&node, &pointer, 1)  // for /foo/1 in {"foo":["bar","baz"]}: ["bar","baz"]
+/// ```
+pub fn front_part_in<'a, T: Node>(node: &'a T, pointer: &Pointer, count: usize) -> Option<&'a T>
+    requires { count ≤ length pointer.now }
+    ensures { option_map (λ n. T.means n.now) result
+        ≡ part (T.means node.now) (take count pointer.now) }
+{
     let mut target = node;
-    for number in 0..pointer.len() {
+    for number in 0..count {
         target = child_of(target, pointer.token(number).unwrap())?;
     }
     Some(target)

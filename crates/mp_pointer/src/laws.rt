@@ -1,5 +1,5 @@
 //! Laws of pointers alone: each function runs nothing, and its contract is the law.
-ghost use Rattle.mp_pointer.specs.Laws.{ComparesTokens, EqualsByPart, HasOnePointerFault, HasOneSpelling, NamesElements, NamesNothingElse, NumeralsArePrinted, PartsAreDocuments, PartsAreReadable, PartsAreShallower, SpellingsAreTexts, SpellingsHaveNoFault, SpellsOneIndex, SpellsOrIsFaulty, TokensAreTexts};
+ghost use Rattle.mp_pointer.specs.Laws.{ComparesTokens, EqualsByPart, HasOnePointerFault, HasOneSpelling, NamesElements, NamesNothingElse, NumeralsArePrinted, PartsAreDocuments, PartsAreReadable, PartsAreShallower, SpellingsAreTexts, SpellingsHaveNoFault, SpellsOneIndex, SpellsOrIsFaulty, TokensAreTexts, WeighsByPart};
 
 /// `==` of pointers is equality of their tokens.
 pub fn equal_tokens()
@@ -75,4 +75,9 @@ pub fn spellings_are_texts()
 /// Tokens that are spelled in UTF-8 are UTF-8: so those of a pointer in a JSON text can be names.
 pub fn tokens_are_texts()
     ensures { TokensAreTexts }
+{}
+
+/// If two documents differ only at one place, the difference of their weights is that of their parts there.
+pub fn weights_by_part()
+    ensures { WeighsByPart }
 {}

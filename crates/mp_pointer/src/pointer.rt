@@ -1,13 +1,18 @@
 //! Pointers: lists of tokens, and their spelling (RFC 6901 section 3).
-ghost use Rattle.std.specs.Prelude.{◌≡◌, ◌≤◌, ◌-◌, ◌↔◌, ◌++◌, ◌∷◌, [], length, take, get_or, slice_get, IsTrue, IfOk, IfErr, IfSome, OnOk, OnErr, string_bytes};
+ghost use Rattle.std.specs.Prelude.{◌≡◌, ◌≤◌, ◌<◌, ◌+◌, ◌-◌, ◌↔◌, ◌++◌, ◌∷◌, [], length, take, get_or, slice_get, IsTrue, IfOk, IfErr, IfSome, MatchOption, OnOk, OnErr, string_bytes};
 ghost use Rattle.std.specs.Option.{option_copied};
 ghost use Rattle.mp_pointer.specs.Bytes.{slash};
 ghost use Rattle.mp_pointer.specs.Spelling.{BeginsWith, spell, IsPointerFault, IsProperPrefix};
+ghost use Rattle.mp_pointer.specs.Weight.{place_weight};
 
 use crate::fault::PointerFault;
-use crate::spelling::{bad_tilde, is_plain, pointer_after, push_escaped};
+use crate::spelling::{bad_tilde, is_plain, left_of_escaped, pointer_after, push_escaped};
 use std::alloc::{AllocError, Global};
 use std::marker::Model;
+
+const POINTER_WEIGHT: usize = 128;
+
+const TOKEN_WEIGHT: usize = 8;
 
 /// A JSON Pointer (RFC 6901): a list of tokens that leads from a document to one of its parts.
 ///
@@ -241,6 +246,48 @@ impl Pointer {
             ends,
             is_plain: self.is_plain,
         })
+    }
+
+    /// What remains of a budget in bytes once the weight of this place is taken from it: 128, 8 for each token, and the bytes
+    /// of the spelling. None exactly if that is more than the budget. A weight is about what the pointer takes in memory,
+    /// and never less than it takes once it is made.
+    ///
+    /// It takes no memory. If no token has to be escaped, it takes the same time however long the pointer is.
+    ///
+    /// ```text
+    /// pointer.left_of(200)  // Some(62) for /a
+    /// ```
+    pub fn left_of(&self, budget: usize) -> Option<usize>
+        ensures left { MatchOption result (budget < place_weight self.now)
+            (λ left. left + place_weight self.now ≡ budget) }
+    {
+        let tokens = self.len().checked_mul(TOKEN_WEIGHT)?;
+        let left = budget.checked_sub(POINTER_WEIGHT)?.checked_sub(tokens)?;
+        self.left_of_spelling(left)
+    }
+
+    // What remains of the budget once the bytes of the spelling are taken from it.
+    fn left_of_spelling(&self, budget: usize) -> Option<usize>
+        ensures { MatchOption result (budget < length (spell self.now))
+            (λ left. left + length (spell self.now) ≡ budget) }
+    {
+        if self.is_plain {
+            budget.checked_sub(self.text.as_str().len())
+        } else {
+            self.left_of_tokens(budget)
+        }
+    }
+
+    // The same, token by token.
+    fn left_of_tokens(&self, budget: usize) -> Option<usize>
+        ensures { MatchOption result (budget < length (spell self.now))
+            (λ left. left + length (spell self.now) ≡ budget) }
+    {
+        let mut left = budget;
+        for number in 0..self.len() {
+            left = left_of_escaped(self.token(number).unwrap(), left)?;
+        }
+        Some(left)
     }
 
     /// How many tokens there are: 0 for the pointer to the whole document. Takes no memory.

@@ -119,3 +119,15 @@ fn push_without_tildes(text: &mut String, token: &str) -> Result<(), AllocError>
     text.push_str(rest)?;
     Ok(())
 }
+
+// What remains of a budget once the spelling of a token, and the slash before it, are taken from it.
+pub(crate) fn left_of_escaped(token: &str, budget: usize) -> Option<usize>
+    ensures { MatchOption result (budget < 1 + length (escape token.now))
+        (λ left. left + (1 + length (escape token.now)) ≡ budget) }
+{
+    let mut left = budget.checked_sub(1)?;
+    for byte in token.as_bytes() {
+        left = left.checked_sub(if *byte == b'~' || *byte == b'/' { 2 } else { 1 })?;
+    }
+    Some(left)
+}

@@ -51,10 +51,10 @@ same_list ds p = (λ at. at, λ at. at)
 pub same_back : (ds es : List Document) → HaveSameMembers ds es → HaveSameMembers es ds
 same_back ds es same p = ((same p).1, (same p).0)
 
-symmetric : (p q : Document) → Compatible p q → Compatible q p
+pub symmetric : (p q : Document) → Compatible p q → Compatible q p
 symmetric p q free w clash = free w (record { first = clash.second; second = clash.first; differ = λ same. clash.differ (sym same) })
 
-itself : (p : Document) → Compatible p p
+pub itself : (p : Document) → Compatible p p
 itself p w clash = clash.differ refl
 
 pub pairwise_push : (ds : List Document) (p : Document) → PairwiseCompatible ds → ((q : Document) → Contains ds q → Compatible p q) → PairwiseCompatible (ds ++ p ∷ [])
@@ -119,7 +119,7 @@ module _ (laws : MergeLaws) where
       absurd (let differ = (has.joins found.0 found.1).1 found.2 in cc)
 
   -- what is compatible with the join is so with each patch
-  fits_each : (ds : List Document) (m : Option Document) (p : Document) → IsJoinOf ds m → IfSome m (Compatible p) → (q : Document) → Contains ds q → Compatible p q
+  pub fits_each : (ds : List Document) (m : Option Document) (p : Document) → IsJoinOf ds m → IfSome m (Compatible p) → (q : Document) → Contains ds q → Compatible p q
   fits_each ds (Some k) p joined fits q at = λ w clash. fits w ((laws.clash_with_a_join ds k p w joined).1 (q, at, clash))
   fits_each ds None p none fits q at = absurd (Contains-nil q (subst (λ (l : List Document). Contains l q) none at))
 

@@ -1,5 +1,13 @@
+pub mod Alike
+pub mod Conflicting
 pub mod Following
 pub mod Growing
+pub mod Identities
 pub mod Keeping
+pub mod PairTexts
+pub mod PairsFound
+pub mod Reporting
+pub mod Shown
+pub mod Slices
 pub mod Taking
 pub mod TextRuns

@@ -24,6 +24,11 @@ IsUnread (NoDocument fault) text = document_in text ≡ Err fault
 IsUnread OutOfMemory text = ⊤
 IsUnread other text = ⊥
 
+-- memory ran out
+abbrev pub IsOutOfMemory : LiveFault → Type 0
+IsOutOfMemory OutOfMemory = ⊤
+IsOutOfMemory other = ⊥
+
 -- ---- replicas
 
 -- nothing is shown

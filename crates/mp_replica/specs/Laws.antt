@@ -1,13 +1,16 @@
 -- Laws over runs of calls. Each is the contract of a function of the module `laws` that runs nothing.
-use Rattle.std.specs.Prelude.{◌≡◌, ◌↔◌, List, None, option_map}
-use Rattle.std.specs.List.{All}
-use Rattle.mp_tree.specs.Document.{Document, IsReadable}
+use Rattle.std.specs.Prelude.{◌≡◌, ◌↔◌, ℕ, List, None, option_map}
+use Rattle.std.specs.List.{All, Contains}
+use Rattle.mp_tree.specs.Document.{Document, IsDocument, IsReadable}
 use Rattle.mp_tree.specs.View.{document}
 use Rattle.mp_merge.specs.Lists.{HaveSameMembers, PairwiseCompatible}
 use Rattle.mp_merge.specs.Outcome.{IsOutcome}
 use Rattle.mp_replica.specs.Following.{Follows}
 use Rattle.mp_replica.specs.Held.{HeldPatches, HeldReplica, IsJoinOf}
+use Rattle.mp_replica.specs.Messages.{LogFollows, HaveOnePatch, HaveSameMessages, Sent}
+use Rattle.mp_replica.specs.PatchLog.{AreAlike, AreAllPairs, Begins, HeldLog, Pair, Shows, start_of, stored_of}
 use Rattle.mp_replica.specs.Taking.{HasTaken}
+use Rattle.mp_replica.specs.declared.message.Identity.{Identity}
 
 -- ---- replicas
 
@@ -54,3 +57,27 @@ TakersAgree = (taken others : List Document) (r s : HeldPatches) → HaveSameMem
     → ((r.places ≡ None) ↔ (s.places ≡ None))
     × (r.places ≡ None → r.pending ≡ None → s.pending ≡ None
     → option_map document r.joined ≡ option_map document s.joined)
+
+-- ---- patch logs
+
+-- two patch logs of one start that received the same messages are alike, if an identity has one patch
+abbrev pub LogsAreAlike : Type 0
+LogsAreAlike = (epoch : ℕ) (start : Document) (messages others : List Sent) (one other : HeldLog) → HaveOnePatch messages
+    → HaveSameMessages messages others → LogFollows epoch start messages one → LogFollows epoch start others other
+    → AreAlike one other
+
+-- two that are alike show the same document
+abbrev pub AlikeShowTheSame : Type 0
+AlikeShowTheSame = (one other : HeldLog) (d e : Document) → AreAlike one other → IsDocument d → IsDocument e
+    → Shows (start_of one) (stored_of one) d → Shows (start_of other) (stored_of other) e → d ≡ e
+
+-- and report the same conflicts
+abbrev pub AlikeReportTheSame : Type 0
+AlikeReportTheSame = (one other : HeldLog) (pairs others : List Pair) → AreAlike one other
+    → AreAllPairs (stored_of one) pairs → AreAllPairs (stored_of other) others → pairs ≡ others
+
+-- and after one decision, in whatever order it names the patches, they are alike again
+abbrev pub AlikeBeginTheSame : Type 0
+AlikeBeginTheSame = (one other one_now other_now : HeldLog) (chosen others : List Identity) → AreAlike one other
+    → ((i : Identity) → Contains chosen i ↔ Contains others i) → Begins one chosen one_now
+    → Begins other others other_now → AreAlike one_now other_now

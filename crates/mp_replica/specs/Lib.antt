@@ -3,6 +3,9 @@ pub mod Following
 pub mod Held
 pub mod Kept
 pub mod Laws
+pub mod LogTexts
+pub mod Messages
+pub mod PatchLog
 pub mod Private
 pub mod Taking
 pub mod Texts

@@ -1,7 +1,8 @@
-//! Why a call over texts of what stays in memory gives no answer.
+//! Why a call over texts of what stays in memory gives no answer, or a patch log begins no new start.
 ghost use Rattle.std.specs.Prelude.{◌≡◌};
 
-use mp_pointer::PointerFault;
+use crate::message::Identity;
+use mp_pointer::{Pointer, PointerFault};
 use mp_tree::ReadFault;
 use std::alloc::{AllocError, AllocFailed};
 use thiserror::Error;
@@ -66,5 +67,39 @@ impl<T: Drop> From<AllocFailed<T>> for LiveFault {
 
     fn from(_refused: AllocFailed<T>) -> LiveFault {
         LiveFault::OutOfMemory
+    }
+}
+
+/// Why a patch log does not begin the new start that was decided.
+#[derive(Debug, Drop, Error)]
+pub enum DecideFault {
+    /// The chosen patch with this identity has not arrived yet: the decision waits for it.
+    #[error("{0:?} has not arrived")]
+    NotReceived(Identity),
+    /// Two of the chosen patches conflict: of all such pairs the first, by their identities.
+    #[error("conflict: {first:?} and {second:?}")]
+    Conflict {
+        /// The lower identity of the two.
+        first: Identity,
+        /// The other.
+        second: Identity,
+        /// The places at which the two patches disagree, in the order of paths.
+        places: Vec<Pointer>,
+    },
+    /// There is no number after that of this start.
+    #[error("no number is left for a start")]
+    LastEpoch,
+    /// Memory ran out.
+    #[error("out of memory")]
+    OutOfMemory,
+}
+
+impl From<AllocError> for DecideFault {
+    ghost use Rattle.mp_replica.specs.declared.fault.DecideFault.TheVariants.{OutOfMemory};
+
+    ghost from_gives = { λ _ fault. fault ≡ OutOfMemory };
+
+    fn from(_refused: AllocError) -> DecideFault {
+        DecideFault::OutOfMemory
     }
 }

@@ -1,5 +1,5 @@
 //! Laws over runs of calls: each function runs nothing, and its contract is the law.
-ghost use Rattle.mp_replica.specs.Laws.{FollowersAgree, FollowsSame, HoldsJoin, ShowsOutcome, ShowsReadable, TakenSame, TakersAgree};
+ghost use Rattle.mp_replica.specs.Laws.{AlikeBeginTheSame, AlikeReportTheSame, AlikeShowTheSame, FollowersAgree, FollowsSame, HoldsJoin, LogsAreAlike, ShowsOutcome, ShowsReadable, TakenSame, TakersAgree};
 ghost use Rattle.mp_replica.specs.Private.LawsBelow.{MergeLaws, TextLaws};
 
 use mp_merge::laws as merge;
@@ -51,6 +51,24 @@ pub fn takers_agree()
     ensures { TakersAgree }
 {
     merge_laws();
+}
+
+/// Two patch logs of one start that received the same messages, in any orders and with any repeats, are alike: they store the
+/// same patches. The premise is that an identity has one patch: of two patches under one identity each log stores the one that
+/// it received first.
+pub fn logs_are_alike()
+    ensures { LogsAreAlike }
+{}
+
+/// Two patch logs that are alike show the same document and report the same conflicts, and after one decision they are alike
+/// again.
+pub fn alike_logs_agree()
+    ensures shown { AlikeShowTheSame }
+    ensures reported { AlikeReportTheSame }
+    ensures begun { AlikeBeginTheSame }
+{
+    merge_laws();
+    tree::docs_are_documents();
 }
 
 pub(crate) fn merge_laws()

@@ -1,17 +1,26 @@
-//! Replicas that stay in memory, and patches that are gathered without a start: receiving a patch costs what the patch
-//! costs.
+//! Replicas that stay in memory, patches that are gathered without a start, and logs of patches that may conflict: receiving
+//! a patch costs what the patch costs.
 #![tactic(auto)]
 
 mod fault;
 mod kept;
 pub mod laws;
 mod live_join;
+mod message;
+mod pairs;
+mod pairs_texts;
+mod patch_log;
+mod patch_log_texts;
 mod patches;
 mod patches_texts;
 mod reading;
 mod replica;
 mod replica_texts;
+mod stored_patches;
 
-pub use fault::LiveFault;
+pub use fault::{DecideFault, LiveFault};
+pub use message::{Arrival, Identity, Message};
+pub use pairs::ConflictingPair;
+pub use patch_log::PatchLog;
 pub use patches::{Added, Patches};
 pub use replica::{Received, Replica};

@@ -66,8 +66,11 @@ impl LiveJoin {
         self.joined.as_ref()
     }
 
+    // What is pending, which fits.
     pub(crate) fn pending(&self) -> Option<&Doc>
-        ensures { option_map (λ p. p.now) result ≡ self.now.pending }
+        ensures value { option_map (λ p. p.now) result ≡ self.now.pending }
+        ensures fits { Fits (option_map document self.now.joined)
+            (option_map document self.now.pending) }
     {
         self.pending.as_ref()
     }

@@ -1,4 +1,8 @@
+pub mod FaultPlaces
+pub mod FirstFaults
 pub mod Joins
+pub mod Limited
+pub mod Listed
 pub mod Merging
 pub mod OneAnswer
 pub mod Places
@@ -6,6 +10,7 @@ pub mod Readings
 pub mod Reduced
 pub mod Replays
 pub mod Sayings
+pub mod Short
 pub mod SomeAnswer
 pub mod Steps
 pub mod Unread

@@ -6,7 +6,7 @@ use Rattle.mp_tree.specs.Text.{document_in}
 use Rattle.mp_texts.specs.Private.Unread.{IsPatchFault, IsPatchesFault}
 use Rattle.mp_texts.specs.Texts.{AreRead, given}
 use Rattle.mp_texts.specs.declared.fault.TextsFault.{TextsFault}
-use Rattle.mp_texts.specs.declared.fault.TextsFault.TheVariants.{Document as NoDocument, Patch, List as OfList, Form, Refused, Pointer, Missing, OutOfMemory}
+use Rattle.mp_texts.specs.declared.fault.TextsFault.TheVariants.{Document as NoDocument, Patch, List as OfList, Form, Refused, Pointer, Missing, TooLarge, OutOfMemory}
 use Rattle.mp_texts.proofs.Readings.{AreRead-append, AreRead-cons}
 
 -- ---- the text of a number
@@ -55,3 +55,4 @@ unread_at ts k ds read t at (Form fault) is = absurd is
 unread_at ts k ds read t at (Refused fault) is = absurd is
 unread_at ts k ds read t at (Pointer fault) is = absurd is
 unread_at ts k ds read t at Missing is = absurd is
+unread_at ts k ds read t at (TooLarge number) is = absurd is

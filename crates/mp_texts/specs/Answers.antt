@@ -1,5 +1,5 @@
 -- The text that each call answers.
-use Rattle.std.specs.Prelude.{◌≡◌, ◌≤◌, ◌+◌, ℕ, List, map, Some, Ok}
+use Rattle.std.specs.Prelude.{◌≡◌, ◌≢◌, ◌<◌, ◌≤◌, ◌+◌, ◌-◌, ◌^◌, ℕ, List, length, map, Some, Ok}
 use Rattle.mp_tree.specs.Document.{Document, list, string, depth_limit}
 use Rattle.mp_tree.specs.Elements.{items_of}
 use Rattle.mp_tree.specs.Text.{document_in, text as compact}
@@ -8,6 +8,8 @@ use Rattle.mp_pointer.specs.Spelling.{Tokens, spell}
 use Rattle.mp_patch.specs.Form.{AreForms, deepest, shapes}
 use Rattle.mp_patch.specs.Operation.{Operation}
 use Rattle.mp_patch.specs.Run.{Runs}
+use Rattle.mp_patch.specs.Weight.{operations_weight}
+use Rattle.mp_patch.specs.Within.{RunsWithin}
 use Rattle.mp_merge.specs.Application.{in_turn}
 use Rattle.mp_merge.specs.Join.{IsJoin}
 use Rattle.mp_merge.specs.Outcome.{IsOutcome}
@@ -91,3 +93,29 @@ place_of place = string (spell place)
 -- the spellings, in order
 abbrev pub places_list : List Tokens → Document
 places_list places = list (items_of (map place_of places))
+
+-- ---- within a limit in bytes
+
+-- `usize::MAX`, which stands for none
+abbrev pub no_limit : ℕ
+no_limit = 2 ^ 64 - 1
+
+-- the answer has at most so many bytes
+abbrev pub Within : ℕ → (List ℕ → Type 0) → List ℕ → Type 0
+Within limit IsAnswer answer = IsAnswer answer × (length answer ≤ limit)
+
+-- there is an answer, and it has more
+abbrev pub IsTooLong : ℕ → (List ℕ → Type 0) → Type 0
+IsTooLong limit IsAnswer = (answer : List ℕ) × IsAnswer answer × (limit < length answer)
+
+-- the operations of the rewriting together weigh at most the limit, if there is one
+abbrev pub IsLightRewriteText : ℕ → List ℕ → List ℕ → List ℕ → Type 0
+IsLightRewriteText limit document patch answer =
+    (rewritten : IsRewriteText document patch answer)
+    × (limit ≢ no_limit → operations_weight rewritten.operations ≤ limit)
+
+-- each result on the way weighs at most the limit, if there is one
+abbrev pub IsLightPatchText : ℕ → List ℕ → List ℕ → List ℕ → Type 0
+IsLightPatchText limit document json_patch answer =
+    (patched : IsPatchText document json_patch answer)
+    × (limit ≢ no_limit → RunsWithin limit patched.from patched.operations patched.end)

@@ -2,9 +2,9 @@
 use Rattle.std.specs.Prelude.{◌≡◌, ◌≢◌, ℕ, List}
 use Rattle.mp_tree.specs.Document.{Document}
 use Rattle.mp_pointer.specs.Spelling.{Tokens}
-use Rattle.mp_merge.specs.Lists.{IsReportedPair}
-use Rattle.mp_merge.specs.declared.fault.ListFault.TheVariants.{ConflictOf}
-use Rattle.mp_texts.specs.Answers.{IsJoinText, IsMergeText, IsPartText, IsPatchText, IsReplayText, IsRewriteText}
+use Rattle.mp_merge.specs.Within.{IsReportedPairWithin}
+use Rattle.mp_merge.specs.declared.fault.ListWithinFault.TheVariants.{ConflictOf}
+use Rattle.mp_texts.specs.Answers.{IsJoinText, IsLightPatchText, IsLightRewriteText, IsMergeText, IsPartText, IsReplayText, Within}
 use Rattle.mp_texts.specs.Faults.{IsJoinTextFault, IsMergeTextFault, IsPartTextFault, IsPatchTextFault, IsRead}
 use Rattle.mp_texts.specs.Faults.{IsReplayTextFault, IsRewriteTextFault}
 use Rattle.mp_texts.specs.Texts.{AreRead}
@@ -20,50 +20,55 @@ pub data Call : Type 0 where
   patch_text : List ℕ → List ℕ → Call
   part_text : List ℕ → List ℕ → Call
 
--- ---- what the contract of the call says of a text, and of an error
+-- ---- what the contract of the call says of a text, and of an error, within a limit in bytes
 
-abbrev pub MayReturn : Call → List ℕ → Type 0
-MayReturn (join_texts patches) text = IsJoinText patches text
-MayReturn (replay_texts start patches) text = IsReplayText start patches text
-MayReturn (merge_texts document patches) text = IsMergeText document patches text
-MayReturn (rewrite_text document patch) text = IsRewriteText document patch text
-MayReturn (patch_text document json_patch) text = IsPatchText document json_patch text
-MayReturn (part_text document pointer) text = IsPartText document pointer text
+abbrev pub MayReturn : ℕ → Call → List ℕ → Type 0
+MayReturn limit (join_texts patches) text = Within limit (IsJoinText patches) text
+MayReturn limit (replay_texts start patches) text = Within limit (IsReplayText start patches) text
+MayReturn limit (merge_texts document patches) text = Within limit (IsMergeText document patches) text
+MayReturn limit (rewrite_text document patch) text = Within limit (IsLightRewriteText limit document patch) text
+MayReturn limit (patch_text document json_patch) text = Within limit (IsLightPatchText limit document json_patch) text
+MayReturn limit (part_text document pointer) text = Within limit (IsPartText document pointer) text
 
-abbrev pub MayFail : Call → TextsFault → Type 0
-MayFail (join_texts patches) fault = IsJoinTextFault fault patches
-MayFail (replay_texts start patches) fault = IsReplayTextFault fault start patches
-MayFail (merge_texts document patches) fault = IsMergeTextFault fault document patches
-MayFail (rewrite_text document patch) fault = IsRewriteTextFault fault document patch
-MayFail (patch_text document json_patch) fault = IsPatchTextFault fault document json_patch
-MayFail (part_text document pointer) fault = IsPartTextFault fault document pointer
+abbrev pub MayFail : ℕ → Call → TextsFault → Type 0
+MayFail limit (join_texts patches) fault = IsJoinTextFault limit fault patches
+MayFail limit (replay_texts start patches) fault = IsReplayTextFault limit fault start patches
+MayFail limit (merge_texts document patches) fault = IsMergeTextFault limit fault document patches
+MayFail limit (rewrite_text document patch) fault = IsRewriteTextFault limit fault document patch
+MayFail limit (patch_text document json_patch) fault = IsPatchTextFault limit fault document json_patch
+MayFail limit (part_text document pointer) fault = IsPartTextFault limit fault document pointer
 
 -- ---- the answer, as its caller sees it
 
--- a text; of a conflict the two numbers and the places, whatever vector has them; or another error
+-- a text; of a conflict the two numbers, the places that are reported, whatever vector has them, and how many there are; or
+-- another error
 pub data CallAnswer : Type 0 where
   returned : List ℕ → CallAnswer
-  conflicting : ℕ → ℕ → List Tokens → CallAnswer
+  conflicting : ℕ → ℕ → List Tokens → ℕ → CallAnswer
   failed : TextsFault → CallAnswer
 
 -- what is seen of an error
 abbrev pub seen_of : TextsFault → CallAnswer
-seen_of (OfList (ConflictOf first second places)) = conflicting first second places.items
+seen_of (OfList (ConflictOf first second conflicts)) =
+    conflicting first second conflicts.places.items conflicts.total
 seen_of fault = failed fault
 
--- the patches are read, and these are the numbers and the places of the pair that conflicts
-abbrev pub HaveConflict : List (List ℕ) → ℕ → ℕ → List Tokens → Type 0
-HaveConflict patches first second places =
-    (ds : List Document) × AreRead patches ds × IsReportedPair ds first second places
+-- the patches are read, and these are the numbers of the pair that conflicts, the places within the limit, and their number
+abbrev pub HaveConflict : ℕ → List (List ℕ) → ℕ → ℕ → List Tokens → ℕ → Type 0
+HaveConflict limit patches first second places total =
+    (ds : List Document) × AreRead patches ds × IsReportedPairWithin limit ds first second places total
 
-abbrev pub MayConflict : Call → ℕ → ℕ → List Tokens → Type 0
-MayConflict (join_texts patches) first second places = HaveConflict patches first second places
-MayConflict (replay_texts start patches) first second places =
-    IsRead start × HaveConflict patches first second places
-MayConflict call first second places = ⊥
+abbrev pub MayConflict : ℕ → Call → ℕ → ℕ → List Tokens → ℕ → Type 0
+MayConflict limit (join_texts patches) first second places total =
+    HaveConflict limit patches first second places total
+MayConflict limit (replay_texts start patches) first second places total =
+    IsRead start × HaveConflict limit patches first second places total
+MayConflict limit call first second places total = ⊥
 
--- an answer that the call may give, unless memory runs out; a conflict is seen as one, whatever vector has its places
-abbrev pub IsCallAnswer : Call → CallAnswer → Type 0
-IsCallAnswer call (returned text) = MayReturn call text
-IsCallAnswer call (conflicting first second places) = MayConflict call first second places
-IsCallAnswer call (failed fault) = (fault ≢ OutOfMemory) × (seen_of fault ≡ failed fault) × MayFail call fault
+-- an answer that the call may give within the limit, unless memory runs out; a conflict is seen as one, whatever vector has its
+-- places
+abbrev pub IsCallAnswer : ℕ → Call → CallAnswer → Type 0
+IsCallAnswer limit call (returned text) = MayReturn limit call text
+IsCallAnswer limit call (conflicting first second places total) = MayConflict limit call first second places total
+IsCallAnswer limit call (failed fault) =
+    (fault ≢ OutOfMemory) × (seen_of fault ≡ failed fault) × MayFail limit call fault

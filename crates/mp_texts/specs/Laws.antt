@@ -1,11 +1,16 @@
 -- Laws over texts. Each is the contract of a function of the module `laws` that runs nothing.
-use Rattle.std.specs.Prelude.{◌≡◌, ◌≢◌, ◌≤◌, ◌+◌, ◌↔◌, ℕ, List, [], ◌∷◌, ◌++◌}
+use Rattle.std.specs.Prelude.{◌≡◌, ◌≢◌, ◌⊎◌, ◌≤◌, ◌+◌, ◌↔◌, ℕ, List, [], ◌∷◌, ◌++◌, Err}
 use Rattle.std.specs.List.{Contains}
 use Rattle.mp_tree.specs.Document.{depth_limit}
 use Rattle.mp_tree.specs.Text.{document_in}
+use Rattle.mp_tree.specs.declared.fault.ReadFault.{ReadFault}
+use Rattle.mp_tree.specs.declared.fault.ReadFault.TheVariants as read
+use Rattle.mp_pointer.specs.Spelling.{Tokens}
 use Rattle.mp_patch.specs.Form.{deepest}
 use Rattle.mp_texts.specs.Answers.{IsJoinText, IsMergeText, IsPatchText, IsReplayText, IsRewriteText}
 use Rattle.mp_texts.specs.Calls.{Call, CallAnswer, IsCallAnswer, MayFail, seen_of}
+use Rattle.mp_texts.specs.FaultPlaces.{HasNoFaultPlace, IsFaultPlace}
+use Rattle.mp_texts.specs.PlacesTexts.{IsPlacesText}
 use Rattle.mp_texts.specs.Reduces.{Parts, JoinsThrough, texts_in}
 use Rattle.mp_texts.specs.Texts.{AreCompatible, ReadTheSame}
 use Rattle.mp_texts.specs.declared.fault.TextsFault.{TextsFault}
@@ -81,18 +86,51 @@ ReplayIsPatch = (start : List ℕ) (texts : List (List ℕ)) (answer joined edit
     → (rewritten : IsRewriteText start joined edits) → 2 + deepest rewritten.operations ≤ depth_limit
     → IsPatchText start edits patched ↔ (patched ≡ answer)
 
--- ---- one answer
+-- ---- one answer, within whatever limit
 
 -- a call has an answer, whatever bytes it is given
 abbrev pub CallHasAnswer : Type 0
-CallHasAnswer = (call : Call) → (answer : CallAnswer) × IsCallAnswer call answer
+CallHasAnswer = (limit : ℕ) (call : Call) → (answer : CallAnswer) × IsCallAnswer limit call answer
 
 -- and one alone: it is a function of the call's arguments
 abbrev pub CallHasOneAnswer : Type 0
-CallHasOneAnswer = (call : Call) (answer other : CallAnswer)
-    → IsCallAnswer call answer → IsCallAnswer call other → answer ≡ other
+CallHasOneAnswer = (limit : ℕ) (call : Call) (answer other : CallAnswer)
+    → IsCallAnswer limit call answer → IsCallAnswer limit call other → answer ≡ other
 
 -- a text that its contract admits is that answer by definition; so is what is seen of an error, unless memory ran out
 abbrev pub FaultsShowTheAnswer : Type 0
-FaultsShowTheAnswer = (call : Call) (fault : TextsFault) → MayFail call fault → fault ≢ OutOfMemory
-    → IsCallAnswer call (seen_of fault)
+FaultsShowTheAnswer = (limit : ℕ) (call : Call) (fault : TextsFault) → MayFail limit call fault → fault ≢ OutOfMemory
+    → IsCallAnswer limit call (seen_of fault)
+
+-- ---- where a text is no document
+
+-- a text that is read, and is no document for an error, has a place of that error
+abbrev pub FaultHasPlace : Type 0
+FaultHasPlace = (fault : ReadFault) (text : List ℕ) → fault ≢ read.NotJson → fault ≢ read.OutOfMemory
+    → document_in text ≡ Err fault → (place : Tokens) × IsFaultPlace fault text place
+
+-- and one alone
+abbrev pub FaultHasOnePlace : Type 0
+FaultHasOnePlace = (fault : ReadFault) (text : List ℕ) (place other : Tokens)
+    → IsFaultPlace fault text place → IsFaultPlace fault text other → place ≡ other
+
+-- whatever the text and the error, there is no such place, or there is one
+abbrev pub HasPlaceOrNone : Type 0
+HasPlaceOrNone = (fault : ReadFault) (text : List ℕ)
+    → HasNoFaultPlace fault text ⊎ ((place : Tokens) × IsFaultPlace fault text place)
+
+-- and not both
+abbrev pub NoPlaceIsNone : Type 0
+NoPlaceIsNone = (fault : ReadFault) (text : List ℕ) (place : Tokens)
+    → HasNoFaultPlace fault text → ¬ IsFaultPlace fault text place
+
+-- ---- the text of places within a limit
+
+-- there is one
+abbrev pub PlacesHaveText : Type 0
+PlacesHaveText = (limit : ℕ) (places : List Tokens) → (text : List ℕ) × IsPlacesText limit places text
+
+-- and one alone
+abbrev pub HasOnePlacesText : Type 0
+HasOnePlacesText = (limit : ℕ) (places : List Tokens) (text other : List ℕ)
+    → IsPlacesText limit places text → IsPlacesText limit places other → text ≡ other

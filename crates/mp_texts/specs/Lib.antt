@@ -1,7 +1,9 @@
 pub mod Answers
 pub mod Calls
+pub mod FaultPlaces
 pub mod Faults
 pub mod Laws
+pub mod PlacesTexts
 pub mod Private
 pub mod Reduces
 pub mod Texts

@@ -1,8 +1,8 @@
 //! Why a call over texts gives no text.
 ghost use Rattle.std.specs.Prelude.{◌≡◌};
 
-use mp_merge::ListFault;
-use mp_patch::{ApplyFault, FormFault};
+use mp_merge::{ListWithinFault, RewriteFault};
+use mp_patch::{ApplyFault, ApplyWithinFault, FormFault};
 use mp_pointer::PointerFault;
 use mp_tree::ReadFault;
 use std::alloc::{AllocError, AllocFailed};
@@ -23,9 +23,9 @@ pub enum TextsFault {
         /// Why the text is not a document.
         fault: ReadFault,
     },
-    /// There are no patches, or two of them conflict.
+    /// There are no patches, or two of them conflict: with the places that the limit allows, and how many there are.
     #[error("{0}")]
-    List(ListFault),
+    List(ListWithinFault),
     /// The patch is a document, but not a JSON Patch.
     #[error("{0}")]
     Form(FormFault),
@@ -38,19 +38,26 @@ pub enum TextsFault {
     /// The document has no part there.
     #[error("missing")]
     Missing,
+    /// The answer, or something on the way to it, is larger than the caller's limit.
+    #[error("too large")]
+    TooLarge {
+        /// Of a JSON Patch the number of the operation whose result weighs more, from 0; of a rewriting how many of its
+        /// operations fit; and 0 if the answer's text is longer.
+        number: usize,
+    },
     /// Memory ran out.
     #[error("out of memory")]
     OutOfMemory,
 }
 
-impl From<ListFault> for TextsFault {
+impl From<ListWithinFault> for TextsFault {
     ghost use Rattle.mp_texts.specs.Faults.{texts_fault_of_list};
 
     ghost from_gives = { λ cause fault. fault ≡ texts_fault_of_list cause };
 
-    fn from(cause: ListFault) -> TextsFault {
+    fn from(cause: ListWithinFault) -> TextsFault {
         match cause {
-            ListFault::OutOfMemory => TextsFault::OutOfMemory,
+            ListWithinFault::OutOfMemory => TextsFault::OutOfMemory,
             refusal => TextsFault::List(refusal),
         }
     }
@@ -78,6 +85,35 @@ impl From<ApplyFault> for TextsFault {
         match cause {
             ApplyFault::OutOfMemory => TextsFault::OutOfMemory,
             refusal => TextsFault::Refused(refusal),
+        }
+    }
+}
+
+impl From<ApplyWithinFault> for TextsFault {
+    ghost use Rattle.mp_texts.specs.Faults.{texts_fault_of_apply_within};
+
+    ghost from_gives = { λ cause fault. fault ≡ texts_fault_of_apply_within cause };
+
+    fn from(cause: ApplyWithinFault) -> TextsFault {
+        match cause {
+            ApplyWithinFault::Refused { op, cause } => {
+                TextsFault::Refused(ApplyFault::Refused { op, cause })
+            }
+            ApplyWithinFault::TooLarge { op } => TextsFault::TooLarge { number: op },
+            ApplyWithinFault::OutOfMemory => TextsFault::OutOfMemory,
+        }
+    }
+}
+
+impl From<RewriteFault> for TextsFault {
+    ghost use Rattle.mp_texts.specs.Faults.{texts_fault_of_rewrite};
+
+    ghost from_gives = { λ cause fault. fault ≡ texts_fault_of_rewrite cause };
+
+    fn from(cause: RewriteFault) -> TextsFault {
+        match cause {
+            RewriteFault::TooLarge { fitting } => TextsFault::TooLarge { number: fitting },
+            RewriteFault::OutOfMemory => TextsFault::OutOfMemory,
         }
     }
 }

@@ -1,5 +1,5 @@
 //! Laws over texts alone: each function runs nothing, and its contract is the law.
-ghost use Rattle.mp_texts.specs.Laws.{CallHasAnswer, CallHasOneAnswer, EachPartHasAJoin, FaultsShowTheAnswer, JoinOfTwoJoins, JoinTextsAreShared, OneJoinText, OneReplayText, ReducesAgree, ReducesDecide, ReducesExist, ReducesGiveTheJoin, ReplayIsMerge, ReplayIsPatch};
+ghost use Rattle.mp_texts.specs.Laws.{CallHasAnswer, CallHasOneAnswer, EachPartHasAJoin, FaultHasOnePlace, FaultHasPlace, FaultsShowTheAnswer, HasOnePlacesText, HasPlaceOrNone, NoPlaceIsNone, PlacesHaveText, JoinOfTwoJoins, JoinTextsAreShared, OneJoinText, OneReplayText, ReducesAgree, ReducesDecide, ReducesExist, ReducesGiveTheJoin, ReplayIsMerge, ReplayIsPatch};
 ghost use Rattle.mp_texts.specs.Private.LawsBelow.{AnswerLaws, ExistenceLaws, JoinLaws, ReplayLaws};
 
 use mp_merge::laws as merge;
@@ -51,8 +51,8 @@ pub fn replays_agree()
     replay_laws();
 }
 
-/// An answer exists: each of the six calls, whatever bytes its arguments are, has an answer that its contract admits
-/// and that is not out of memory. Texts that are not UTF-8 or not JSON have one too, an error.
+/// An answer exists: each of the six calls, whatever bytes its arguments are and whatever its limit, has an answer that its
+/// contract admits and that is not out of memory. Texts that are not UTF-8 or not JSON have one too, an error.
 pub fn answer_exists()
     ensures { CallHasAnswer }
 {
@@ -61,7 +61,7 @@ pub fn answer_exists()
 
 /// One answer: unless memory runs out, what a call answers is a function of its arguments. Two answers to the same call
 /// with the same arguments are both texts and equal byte for byte, or both errors of the same kind, with the same
-/// numbers and, of a conflict, the same places. `IsCallAnswer` says of each of the six calls which answers its contract
+/// numbers and, of a conflict, the same places and the same number of all. `IsCallAnswer` says of each of the six calls which answers its contract
 /// admits.
 pub fn one_answer()
     ensures one { CallHasOneAnswer }
@@ -69,6 +69,21 @@ pub fn one_answer()
 {
     answer_laws();
 }
+
+/// A text that is no document since a number is not whole, or since it is too deep, has a place of that error, and one alone:
+/// what `fault_place` answers of it is the place, unless memory runs out.
+pub fn fault_places()
+    ensures exists { FaultHasPlace }
+    ensures one { FaultHasOnePlace }
+    ensures some_or_none { HasPlaceOrNone }
+    ensures not_both { NoPlaceIsNone }
+{}
+
+/// Places have a text within whatever limit, and one alone: what `write_places_within` gives of them, unless memory runs out.
+pub fn places_texts()
+    ensures exists { PlacesHaveText }
+    ensures one { HasOnePlacesText }
+{}
 
 fn join_laws()
     ensures { JoinLaws }
@@ -109,6 +124,8 @@ fn answer_laws()
     patch::one_end();
     patch::runs_are_not_refused();
     patch::one_refusal();
+    patch::limits_change_nothing();
+    patch::one_answer_within();
     merge::one_outcome();
     merge::outcome_exists();
     merge::reported_pair();
@@ -116,6 +133,8 @@ fn answer_laws()
     merge::one_join();
     merge::join_exists();
     merge::one_rewriting();
+    merge::first_conflicts();
+    merge::rewritings_within();
 }
 
 fn existence_laws()
@@ -126,6 +145,8 @@ fn existence_laws()
     pointer::parts_are_readable();
     patch::forms_have_documents();
     patch::runs_or_is_refused();
+    patch::limits_change_nothing();
+    patch::one_answer_within();
     patch::forms_are_writable();
     patch::runs_are_readable();
     patch::is_form_or_faulty();
@@ -135,4 +156,6 @@ fn existence_laws()
     merge::merged_is_readable();
     merge::rewriting_exists();
     merge::rewritings_are_writable();
+    merge::first_conflicts();
+    merge::rewritings_within();
 }

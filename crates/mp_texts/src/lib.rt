@@ -3,10 +3,15 @@
 
 mod documents;
 mod fault;
+mod fault_places;
 pub mod laws;
+mod limiting;
 mod lists;
 mod reading;
+mod writing;
 
-pub use documents::{part_text, patch_text, rewrite_text, write_places};
+pub use documents::{part_text, patch_text, rewrite_text};
 pub use fault::TextsFault;
+pub use fault_places::fault_place;
 pub use lists::{join_texts, merge_texts, replay_texts};
+pub use writing::{write_places, write_places_within};

@@ -5,4 +5,5 @@ pub mod Elements
 pub mod Meaning
 pub mod SameParts
 pub mod Throughout
+pub mod Weights
 pub mod Wholes

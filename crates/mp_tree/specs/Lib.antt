@@ -8,3 +8,4 @@ pub mod Rows
 pub mod Text
 pub mod Values
 pub mod View
+pub mod Weight

@@ -1,9 +1,10 @@
 //! Documents: copies, equality and depth.
-ghost use Rattle.std.specs.Prelude.{◌≡◌, ◌≤◌, ◌↔◌, IfOk, IsTrue};
+ghost use Rattle.std.specs.Prelude.{◌≡◌, ◌≤◌, ◌<◌, ◌+◌, ◌↔◌, IfOk, IsTrue, MatchOption};
 
 use crate::building::{FEW, map_of};
 use crate::comparing::is_same;
 use crate::measuring::is_within;
+use crate::weighing::left_of;
 use crate::whole::Whole;
 use std::alloc::{AllocError, Global};
 use std::collections::BTreeMap;
@@ -29,6 +30,7 @@ pub enum Doc {
 
 impl Doc {
     ghost use Rattle.mp_tree.specs.Document.{depth};
+    ghost use Rattle.mp_tree.specs.Weight.{weight};
     ghost use Rattle.mp_tree.specs.View.{document};
 
     /// An equal document, which shares nothing with this one. `AllocError` if memory ran out.
@@ -70,6 +72,22 @@ impl Doc {
         ensures fits { IsTrue result ↔ (depth (document self.now) ≤ limit) }
     {
         is_within(self, limit)
+    }
+
+    /// What remains of a budget in bytes once the weight of this document is taken from it: the budget less the weight. None
+    /// exactly if the document weighs more. `left_of` says what a weight is.
+    ///
+    /// It takes no memory, looks at each part once at most, and stops at the first part that is too heavy.
+    ///
+    /// ```text
+    /// Doc::Null.left_of(100)  // Some(60)
+    /// Doc::Null.left_of(39)   // None
+    /// ```
+    pub fn left_of(&self, budget: usize) -> Option<usize>
+        ensures left { MatchOption result (budget < weight (document self.now))
+            (λ left. left + weight (document self.now) ≡ budget) }
+    {
+        left_of(self, budget)
     }
 }
 

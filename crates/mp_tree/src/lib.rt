@@ -20,6 +20,7 @@ mod value_reading;
 mod value_walks;
 mod value_writing;
 mod values;
+mod weighing;
 mod whole;
 mod writing;
 
@@ -29,8 +30,9 @@ pub use fault::{DocsFault, ReadFault};
 pub use node::Node;
 pub use reading::{DEPTH_LIMIT, read_doc, read_docs};
 pub use values::{
-    copy_to_doc, copy_value, read_value, read_values, same_value, value_items_mut,
-    value_members_mut, write_value,
+    copy_to_doc, copy_value, is_whole, read_any, read_value, read_values, same_value,
+    value_items_mut, value_members_mut, write_value,
 };
+pub use weighing::{left_of, left_of_name};
 pub use whole::Whole;
 pub use writing::{write_doc, write_text};

@@ -2,24 +2,27 @@
 //! would be read of it, so each function here says of a value what its sibling says of a `Doc`. A number that is not whole means 0:
 //! one that `serde_json` holds as a float, as it does each with a fraction or an exponent, or outside -2^63 to 2^64 - 1.
 //! `read_value` and `read_values` give none.
-ghost use Rattle.std.specs.Prelude.{◌≡◌, ◌≢◌, ◌≤◌, ◌↔◌, All, Some, Ok, Err, IsTrue, IfOk, IfErr, MatchOption, string_bytes};
+ghost use Rattle.std.specs.Prelude.{◌≡◌, ◌≢◌, ◌≤◌, ◌↔◌, All, None, Some, IsSome, Ok, Err, IsTrue, IfOk, IfErr, MatchOption, string_bytes};
 ghost use Rattle.std.specs.Borrow.{sem, LendsIf};
 ghost use Rattle.serde_json.specs.Rows.{list_row, map_row};
 ghost use Rattle.serde_json.specs.contracts.value.Value.{the_row};
 ghost use Rattle.serde_json.specs.declared.value.Value.TheVariants.{Array, Object};
 ghost use Rattle.mp_tree.specs.Document.{list, object, depth, depth_limit};
-ghost use Rattle.mp_tree.specs.Text.{document_in, documents_in, read, text};
+ghost use Rattle.serde_json.specs.View.{number_view, view};
+ghost use Rattle.mp_tree.specs.Text.{data_in, document_in, documents_in, read, text, whole_number};
 ghost use Rattle.mp_tree.specs.Values.{value_document, value_items};
 ghost use Rattle.mp_tree.specs.View.{document};
 
+use crate::converting::whole_of;
 use crate::copying::doc_copied;
 use crate::doc::Doc;
 use crate::fault::{DocsFault, ReadFault};
+use crate::reading::read_json;
 use crate::value_copying::copy_of;
 use crate::value_reading::{Tree, read_tree};
 use crate::value_walks::is_same;
 use crate::value_writing::Written;
-use serde_json::{Map, Value, to_string};
+use serde_json::{Map, Number, Value, to_string};
 use std::alloc::{AllocError, Global};
 
 /// As `read_doc`, but what `serde_json` reads is kept as it is. It costs less where a document is read, changed and written.
@@ -60,6 +63,32 @@ pub fn read_values(alloc: Global, bytes: &[u8]) -> Result<Vec<Value>, DocsFault>
         Value::Array(values) => Ok(values),
         _ => Err(DocsFault::NotAnArray),
     }
+}
+
+/// The value that a JSON text is, whatever its numbers are, and one level deeper than a document is read: what is looked into to say
+/// where a text has a number that is not whole, or is too deep. `NotJson` if `serde_json` has no reading; `OutOfMemory` may come at
+/// any point.
+///
+/// ```text
+/// read_any(alloc, b"[1.5]")  // an array with a number that is not whole
+/// ```
+pub fn read_any(alloc: Global, bytes: &[u8]) -> Result<Value, ReadFault>
+    ensures value { IfOk result (λ v. data_in bytes.now ≡ Some (view v)) }
+    ensures faults { IfErr result (λ fault. fault ≢ ReadFault.OutOfMemory
+        → (fault ≡ ReadFault.NotJson) × (data_in bytes.now ≡ None)) }
+{
+    Ok(read_json(alloc, bytes)?)
+}
+
+/// Whether a number of `serde_json` is whole and from -2^63 to 2^64 - 1, as each number of a document is. Takes no memory.
+///
+/// ```text
+/// is_whole(&number)  // false for 1.5 and for 1.0
+/// ```
+pub fn is_whole(number: &Number) -> bool
+    ensures { IsTrue result ↔ IsSome (whole_number (number_view number.now)) }
+{
+    whole_of(number).is_some()
 }
 
 /// As `write_doc`: the compact text of the document that the value means. For a number that is not whole it has 0.

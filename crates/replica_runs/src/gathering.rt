@@ -49,7 +49,10 @@ pub fn agree(alloc: Global, count: u64) -> Result<Option<u64>, AllocError> {
         return Ok(None);
     }
     let all = bytes_of(alloc, texts.as_slice())?;
-    match (patches.text(alloc), join_texts(alloc, all.as_slice())) {
+    match (
+        patches.text(alloc),
+        join_texts(alloc, all.as_slice(), usize::MAX),
+    ) {
         (Ok(joined), Ok(wanted)) => Ok(if joined == wanted { Some(taken) } else { None }),
         _ => Err(AllocError),
     }

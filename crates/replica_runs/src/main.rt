@@ -3,12 +3,14 @@
 //! that two runs with other counts differ by the cost of the patches alone.
 //!
 //! `receive`: a replica. `agree`: a replica, whose text has to be the replay of all texts. `gather`: patches without a start.
-//! `join`: the same, whose text has to be the join of all texts. `apart`: patches of 33 bytes that nest two objects each.
+//! `join`: the same, whose text has to be the join of all texts. `apart`: patches of 33 bytes that nest two objects each. `log`:
+//! a patch log. `agree-log`: a patch log, whose text has to be the replay of all texts.
 //!
 //! Any other word names a call, which is made once if `COUNT` is above 0, on what `BYTES` is the size of.
 #![tactic(auto)]
 
 mod gathering;
+mod logging;
 mod one;
 mod receiving;
 mod texts;
@@ -66,6 +68,8 @@ fn work(alloc: Global, job: &str, bytes: u64, count: u64) -> Result<Option<u64>,
         "gather" => gathering::gather(alloc, false, count),
         "join" => gathering::agree(alloc, count),
         "apart" => gathering::gather(alloc, true, count),
+        "log" => logging::log(alloc, bytes, count),
+        "agree-log" => logging::agree(alloc, bytes, count),
         call => one::one(alloc, call, bytes, count > 0),
     }
 }

@@ -1,4 +1,4 @@
-//! Test vectors: how deep a document is that is read, and depths. What is read and written is run by `checks/rows`.
+//! Test vectors: how deep a document is that is read, and depths. What is read and written is run by `tests/program`.
 use crate::written::{equal, holds};
 use mp_tree::{Doc, ReadFault, read_doc};
 use std::alloc::{AllocError, Global};

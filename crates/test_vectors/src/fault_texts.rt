@@ -1,10 +1,10 @@
 //! The texts of the errors, which no contract says.
 use crate::written::says;
 use mp_cli::{CommandFault, RunFault};
-use mp_merge::{ConvergeFault, JoinFault, ListFault};
-use mp_patch::{ApplyFault, Cause, FormCause, FormFault};
+use mp_merge::{Conflicts, ConvergeFault, JoinFault, ListFault, ListWithinFault, RewriteFault};
+use mp_patch::{ApplyFault, ApplyWithinFault, Cause, FormCause, FormFault};
 use mp_pointer::PointerFault;
-use mp_replica::LiveFault;
+use mp_replica::{DecideFault, LiveFault};
 use mp_texts::TextsFault;
 use mp_tree::{DocsFault, ReadFault};
 use std::fmt::Display;
@@ -73,6 +73,21 @@ const APPLY_FAULTS: &[(ApplyFault, &str)] = &[
     (ApplyFault::OutOfMemory, "out of memory"),
 ];
 
+const APPLY_WITHIN_FAULTS: &[(ApplyWithinFault, &str)] = &[
+    (
+        ApplyWithinFault::Refused {
+            op: 7,
+            cause: Cause::Missing,
+        },
+        "operation 7: missing",
+    ),
+    (
+        ApplyWithinFault::TooLarge { op: 7 },
+        "operation 7: too large",
+    ),
+    (ApplyWithinFault::OutOfMemory, "out of memory"),
+];
+
 const RUN_FAULTS: &[(RunFault, &str)] = &[
     (RunFault::ReadFailed, "read failed"),
     (RunFault::WriteFailed, "write failed"),
@@ -113,7 +128,8 @@ fn of_reading(rt: HostRuntime) -> Result<(), Fail> {
 
 #[test]
 fn of_what_stays_in_memory(rt: HostRuntime) -> Result<(), Fail> {
-    say(&rt, LIVE_FAULTS)
+    say(&rt, LIVE_FAULTS)?;
+    says(&rt, &DecideFault::OutOfMemory, "out of memory")
 }
 
 #[test]
@@ -126,7 +142,8 @@ fn of_json_patches(rt: HostRuntime) -> Result<(), Fail> {
     say(&rt, CAUSES)?;
     say(&rt, FORM_CAUSES)?;
     say(&rt, FORM_FAULTS)?;
-    say(&rt, APPLY_FAULTS)
+    say(&rt, APPLY_FAULTS)?;
+    say(&rt, APPLY_WITHIN_FAULTS)
 }
 
 #[test]
@@ -141,6 +158,24 @@ fn of_merging(rt: HostRuntime) -> Result<(), Fail> {
         places: Vec::new(rt.alloc()),
     };
     says(&rt, &clash, "conflict: patches 1 and 3")
+}
+
+#[test]
+fn of_merging_within_a_limit(rt: HostRuntime) -> Result<(), Fail> {
+    says(&rt, &ListWithinFault::NoPatches, "no patches")?;
+    says(&rt, &ListWithinFault::OutOfMemory, "out of memory")?;
+    let clash = ListWithinFault::ConflictOf {
+        first: 1,
+        second: 3,
+        conflicts: Conflicts {
+            places: Vec::new(rt.alloc()),
+            total: 2,
+        },
+    };
+    says(&rt, &clash, "conflict: patches 1 and 3")?;
+    let fault = RewriteFault::TooLarge { fitting: 2 };
+    says(&rt, &fault, "too large")?;
+    says(&rt, &RewriteFault::OutOfMemory, "out of memory")
 }
 
 #[test]
@@ -186,7 +221,7 @@ fn of_texts(rt: HostRuntime) -> Result<(), Fail> {
         fault: ReadFault::TooDeep,
     };
     is_reported(&rt, unread, "patch 1: too deep")?;
-    let none = TextsFault::List(ListFault::NoPatches);
+    let none = TextsFault::List(ListWithinFault::NoPatches);
     is_reported(&rt, none, "no patches")?;
     let no_array = TextsFault::Form(FormFault::NotAnArray);
     is_reported(&rt, no_array, "not an array")?;
@@ -198,5 +233,6 @@ fn of_texts(rt: HostRuntime) -> Result<(), Fail> {
     let no_pointer = TextsFault::Pointer(PointerFault::BadTilde(2));
     is_reported(&rt, no_pointer, "pointer: bad tilde at 2")?;
     is_reported(&rt, TextsFault::Missing, "missing")?;
+    is_reported(&rt, TextsFault::TooLarge { number: 1 }, "too large")?;
     is_reported(&rt, TextsFault::OutOfMemory, "out of memory")
 }

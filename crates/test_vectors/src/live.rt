@@ -1,5 +1,5 @@
 //! Test vectors of mp_replica: those of the README and of `docs/REPLICAS.md`, and the kept forms.
-use crate::written::{equal, says};
+use crate::written::{answers, equal};
 use mp_pointer::Pointer;
 use mp_replica::{Added, LiveFault, Patches, Received, Replica};
 use mp_texts::write_places;
@@ -20,21 +20,6 @@ const CLASHING: &[u8] = br#"{"k":5,"a":{"x":2},"l":[1]}"#;
 const SHOWN: &str = r#"{"a":{"x":1},"l":[1,2]}"#;
 
 const JOINED: &str = r#"{"a":{"x":1,"y":null},"k":null,"l":[1,2]}"#;
-
-/// The call answers this text, or an error that says it.
-fn answers<R: Abort + AllocGlobal>(
-    rt: &R,
-    given: Result<String, LiveFault>,
-    wanted: &str,
-) -> Result<(), Fail> {
-    match given {
-        Ok(text) => {
-            equal(rt, text.as_str(), wanted);
-            Ok(())
-        }
-        Err(fault) => says(rt, &fault, wanted),
-    }
-}
 
 /// A replica that has received these.
 fn follows(alloc: Global, patches: &[&[u8]]) -> Result<Replica, LiveFault> {

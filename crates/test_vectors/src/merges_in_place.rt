@@ -69,7 +69,7 @@ fn doc_of_many(alloc: Global, value: &str) -> Result<Doc, Fail> {
     Ok(read_doc(alloc, text.as_bytes())?)
 }
 
-/// No command of the program merges in place, so `checks/sizes` has no such input.
+/// No command of the program merges in place, so `tests/program` has no such input.
 #[test]
 fn three_hundred_names_are_set(rt: HostRuntime) -> Result<(), Fail> {
     let mut doc = doc_of_many(rt.alloc(), "0")?;

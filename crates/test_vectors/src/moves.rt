@@ -1,4 +1,4 @@
-//! The calls that apply a JSON Patch to a `Doc`, on moves that lead back. `checks/growth` counts what they take on documents of
+//! The calls that apply a JSON Patch to a `Doc`, on moves that lead back. `tests/program` counts what they take on documents of
 //! its own, which it writes to a file.
 use crate::written::holds;
 use mp_patch::{JsonPatch, apply, apply_once, apply_owned};

@@ -1,5 +1,5 @@
-//! Test vectors: parts that are written. Those that are read, and spellings, are run by `checks/rows`, and tokens by
-//! `checks/allocation-failures`.
+//! Test vectors: parts that are written. Those that are read, and spellings, are run by `tests/program`, and tokens by
+//! `tests/allocation`.
 use crate::written::{holds, is_text};
 use mp_pointer::{Pointer, edit_part, get_mut};
 use mp_tree::{Doc, read_docs, write_doc};

@@ -1,13 +1,12 @@
 //! Test vectors of `library_example`: those of the README and of `docs/REPLICAS.md`, and the texts of the errors.
 use crate::written::{equal, holds, is_spelled, is_text, says};
 use library_example::{
-    Arrival, DecideFault, Delivery, EpochReplica, Identity, Message, PatchLog, PatchMessage, at,
-    for_a_peer, show, shown_after,
+    Delivery, EpochReplica, PatchMessage, at, follow_decision, for_a_peer, show, shown_after,
 };
 use mp_merge::JoinFault;
 use mp_patch::{JsonPatch, apply};
 use mp_pointer::Pointer;
-use mp_replica::Received;
+use mp_replica::{Arrival, DecideFault, Identity, Message, PatchLog, Received};
 use mp_tree::{Doc, ReadFault, read_doc, read_docs};
 use std::alloc::Global;
 use std::process::Abort;
@@ -227,212 +226,58 @@ fn where_messages_stop(rt: HostRuntime) -> Result<(), Fail> {
     }
 }
 
-/// The start of the recipe in `docs/REPLICAS.md`, and its patches: Ann's first conflicts with Bob's first, Bob's second
-/// with none.
-const BOX: &str = r#"{"colour":"red","size":1}"#;
+/// The log shows this document, and has this number of its start.
+fn has_begun<R: Abort + AllocGlobal>(
+    rt: &R,
+    log: &PatchLog,
+    epoch: u64,
+    wanted: &str,
+) -> Result<(), Fail> {
+    equal(rt, log.epoch(), epoch);
+    is_text(rt, &log.document(rt.alloc())?, wanted)
+}
 
-const ANN: Identity = Identity {
+const MINE: Identity = Identity {
     sender: 1,
     number: 1,
 };
 
-const BOB: Identity = Identity {
+const YOURS: Identity = Identity {
     sender: 2,
     number: 1,
 };
 
-const BOB_AGAIN: Identity = Identity {
-    sender: 2,
-    number: 2,
-};
-
-const BLUE: &str = r#"{"colour":"blue"}"#;
-
-const GREEN: &str = r#"{"colour":"green"}"#;
-
-const LARGER: &str = r#"{"size":2}"#;
-
-/// A message that comes to a patch log, what becomes of it, and what the patch log shows then.
-struct Coming {
-    epoch: u64,
-    identity: Identity,
-    patch: &'static str,
-    arrival: Arrival,
-    shown: &'static str,
-}
-
-fn message_of(alloc: Global, coming: &Coming) -> Result<Message, ReadFault> {
-    let patch = doc_of(alloc, coming.patch)?;
-    Ok(Message {
-        epoch: coming.epoch,
-        identity: coming.identity,
-        patch,
-    })
-}
-
-fn comes<R: Abort + AllocGlobal>(rt: &R, log: &mut PatchLog, coming: &Coming) -> Result<(), Fail> {
-    let message = message_of(rt.alloc(), coming)?;
-    equal(rt, log.receive(rt.alloc(), &message)?, coming.arrival);
-    shows(rt, log, coming.shown)
-}
-
-fn all_come<R: Abort + AllocGlobal>(
-    rt: &R,
-    log: &mut PatchLog,
-    messages: &[Coming],
-) -> Result<(), Fail> {
-    for coming in messages {
-        comes(rt, log, coming)?;
-    }
-    Ok(())
-}
-
-fn shows<R: Abort + AllocGlobal>(rt: &R, log: &PatchLog, wanted: &str) -> Result<(), Fail> {
-    is_text(rt, &log.current_doc(rt.alloc())?, wanted)
-}
-
-fn clash<R: Abort + AllocGlobal>(
-    rt: &R,
-    log: &PatchLog,
-    wanted: &[(Identity, Identity)],
-) -> Result<(), Fail> {
-    let pairs = log.conflicts(rt.alloc())?;
-    equal(rt, pairs.as_slice(), wanted);
-    Ok(())
-}
-
-/// Ann's first patch and Bob's, which conflict.
-const BOTH: &[Coming] = &[
-    Coming {
+/// A patch log of the start of number 1, to which a patch of it has come.
+fn log_of_one(alloc: Global) -> Result<PatchLog, Fail> {
+    let mut log = PatchLog::new(alloc, 1, doc_of(alloc, START)?);
+    let message = Message {
         epoch: 1,
-        identity: ANN,
-        patch: BLUE,
-        arrival: Arrival::Kept,
-        shown: r#"{"colour":"blue","size":1}"#,
-    },
-    Coming {
-        epoch: 1,
-        identity: BOB,
-        patch: GREEN,
-        arrival: Arrival::Kept,
-        shown: BOX,
-    },
-];
-
-const LARGER_COMES: Coming = Coming {
-    epoch: 1,
-    identity: BOB_AGAIN,
-    patch: LARGER,
-    arrival: Arrival::Kept,
-    shown: r#"{"colour":"red","size":2}"#,
-};
-
-/// A patch log of the box, to which Ann's first patch and Bob's have arrived.
-fn log_of_both<R: Abort + AllocGlobal>(rt: &R) -> Result<PatchLog, Fail> {
-    let mut log = PatchLog::new(rt.alloc(), 1, doc_of(rt.alloc(), BOX)?);
-    all_come(rt, &mut log, BOTH)?;
-    Ok(log)
-}
-
-#[test]
-fn the_recipe_of_replicas(rt: HostRuntime) -> Result<(), Fail> {
-    let mut log = log_of_both(&rt)?;
-    comes(&rt, &mut log, &LARGER_COMES)?;
-    clash(&rt, &log, &[(ANN, BOB)])?;
-    log.decide(rt.alloc(), &[ANN, BOB_AGAIN])?;
-    is_decided(&rt, &log)
-}
-
-/// The recipe's decision was taken.
-fn is_decided<R: Abort + AllocGlobal>(rt: &R, log: &PatchLog) -> Result<(), Fail> {
-    shows(rt, log, r#"{"colour":"blue","size":2}"#)?;
-    equal(rt, log.epoch(), 2);
-    clash(rt, log, &[])
-}
-
-/// A repeat changes nothing.
-const REPEAT: Coming = Coming {
-    epoch: 1,
-    identity: ANN,
-    patch: LARGER,
-    arrival: Arrival::Repeat,
-    shown: BOX,
-};
-
-/// Once Ann's first patch was chosen: a message of another start is reported as such, and Bob makes his patch anew.
-const AFTER: &[Coming] = &[
-    Coming {
-        epoch: 1,
-        identity: BOB,
-        patch: GREEN,
-        arrival: Arrival::Late,
-        shown: r#"{"colour":"blue","size":1}"#,
-    },
-    Coming {
-        epoch: 3,
-        identity: BOB,
-        patch: GREEN,
-        arrival: Arrival::Early,
-        shown: r#"{"colour":"blue","size":1}"#,
-    },
-    Coming {
-        epoch: 2,
-        identity: BOB,
-        patch: GREEN,
-        arrival: Arrival::Kept,
-        shown: r#"{"colour":"green","size":1}"#,
-    },
-];
-
-#[test]
-fn what_becomes_of_messages(rt: HostRuntime) -> Result<(), Fail> {
-    let mut log = log_of_both(&rt)?;
-    comes(&rt, &mut log, &REPEAT)?;
-    log.decide(rt.alloc(), &[ANN])?;
-    all_come(&rt, &mut log, AFTER)
-}
-
-/// The decision is refused, with this text.
-fn is_refused<R: Abort + AllocGlobal>(
-    rt: &R,
-    log: &mut PatchLog,
-    chosen: &[Identity],
-    wanted: &str,
-) -> Result<DecideFault, Fail> {
-    match log.decide(rt.alloc(), chosen) {
-        Err(fault) => {
-            says(rt, &fault, wanted)?;
-            Ok(fault)
-        }
-        Ok(()) => Err(Fail::new("the decision is taken")),
+        identity: MINE,
+        patch: doc_of(alloc, r#"{"k":null}"#)?,
+    };
+    match log.receive(alloc, &message)? {
+        Arrival::Stored => Ok(log),
+        _ => Err(Fail::new("it is not stored")),
     }
 }
 
 #[test]
-fn a_decision_waits_for_what_it_names(rt: HostRuntime) -> Result<(), Fail> {
-    let mut log = log_of_both(&rt)?;
-    let wanted = "Identity { sender: 2, number: 2 } has not arrived";
-    is_refused(&rt, &mut log, &[ANN, BOB_AGAIN], wanted)?;
-    comes(&rt, &mut log, &LARGER_COMES)?;
-    log.decide(rt.alloc(), &[ANN, BOB_AGAIN])?;
-    is_decided(&rt, &log)
+fn a_decision_is_followed_once(rt: HostRuntime) -> Result<(), Fail> {
+    let mut log = log_of_one(rt.alloc())?;
+    follow_decision(rt.alloc(), &mut log, 2, &[])?;
+    has_begun(&rt, &log, 1, "{}")?;
+    follow_decision(rt.alloc(), &mut log, 1, &[])?;
+    has_begun(&rt, &log, 2, START)?;
+    follow_decision(rt.alloc(), &mut log, 1, &[MINE])?;
+    has_begun(&rt, &log, 2, START)
 }
 
 #[test]
-fn a_decision_for_patches_that_clash_is_refused(rt: HostRuntime) -> Result<(), Fail> {
-    let mut log = log_of_both(&rt)?;
-    let wanted =
-        "conflict: Identity { sender: 1, number: 1 } and Identity { sender: 2, number: 1 }";
-    match is_refused(&rt, &mut log, &[BOB, ANN], wanted)? {
-        DecideFault::Conflict { places, .. } => is_at(&rt, places.as_slice(), "/colour")?,
-        _ => holds(&rt, false, wanted),
+fn a_decision_that_can_not_be_followed_yet(rt: HostRuntime) -> Result<(), Fail> {
+    let mut log = log_of_one(rt.alloc())?;
+    match follow_decision(rt.alloc(), &mut log, 1, &[MINE, YOURS]) {
+        Err(DecideFault::NotReceived(missing)) => equal(&rt, missing, YOURS),
+        _ => return Err(Fail::new("it is followed")),
     }
-    shows(&rt, &log, BOX)
-}
-
-#[test]
-fn no_number_is_left(rt: HostRuntime) -> Result<(), Fail> {
-    let mut log = PatchLog::new(rt.alloc(), u64::MAX, doc_of(rt.alloc(), BOX)?);
-    is_refused(&rt, &mut log, &[], "no number is left for a start")?;
-    Ok(())
+    has_begun(&rt, &log, 1, "{}")
 }

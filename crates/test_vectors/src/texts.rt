@@ -1,4 +1,4 @@
-//! Test vectors of mp_texts: places of a conflict. The calls are run on the test vectors from C, by `checks/library`.
+//! Test vectors of mp_texts: places of a conflict. The calls are run on the test vectors from C, by `tests/library`.
 use crate::written::equal;
 use mp_pointer::Pointer;
 use mp_texts::write_places;

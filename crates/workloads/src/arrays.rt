@@ -25,7 +25,12 @@ pub fn run(alloc: Global, numbers: &mut Numbers, digest: &mut Digest) -> Result<
     operations.push_str("]")?;
     digest.add_answer(
         alloc,
-        patch_text(alloc, document.as_bytes(), operations.as_bytes()),
+        patch_text(
+            alloc,
+            document.as_bytes(),
+            operations.as_bytes(),
+            usize::MAX,
+        ),
     )
 }
 

@@ -30,6 +30,6 @@ fn replay(
     }
     digest.add_answer(
         alloc,
-        replay_texts(alloc, start.as_bytes(), texts.as_slice()),
+        replay_texts(alloc, start.as_bytes(), texts.as_slice(), usize::MAX),
     )
 }

@@ -16,7 +16,12 @@ pub fn run(alloc: Global, count: u64, seed: u64, digest: &mut Digest) -> Result<
         configuration.push_text(&mut document)?;
         let mut operations = String::new(alloc);
         push_operations(&mut operations, &mut numbers, configuration.services)?;
-        let answer = patch_text(alloc, document.as_bytes(), operations.as_bytes());
+        let answer = patch_text(
+            alloc,
+            document.as_bytes(),
+            operations.as_bytes(),
+            usize::MAX,
+        );
         digest.add_answer(alloc, answer)?;
     }
     Ok(())

@@ -18,7 +18,7 @@ pub fn run(alloc: Global, numbers: &mut Numbers, digest: &mut Digest) -> Result<
     let second = object_of(alloc, key, SECOND, false)?;
     let clashing = object_of(alloc, key, SECOND, true)?;
     let texts = [first.as_bytes(), second.as_bytes()];
-    digest.add_answer(alloc, join_texts(alloc, &texts))?;
+    digest.add_answer(alloc, join_texts(alloc, &texts, usize::MAX))?;
     let first = read(alloc, first.as_str())?;
     let second = read(alloc, second.as_str())?;
     let clashing = read(alloc, clashing.as_str())?;

@@ -17,18 +17,28 @@ pub fn run(alloc: Global, numbers: &mut Numbers, digest: &mut Digest) -> Result<
     let escaped = escaped_of(alloc, numbers)?;
     digest.add_answer(
         alloc,
-        merge_texts(alloc, objects.as_bytes(), &[b"{\"more\":[{\"x\":1}]}"]),
+        merge_texts(
+            alloc,
+            objects.as_bytes(),
+            &[b"{\"more\":[{\"x\":1}]}"],
+            usize::MAX,
+        ),
     )?;
     digest.add_answer(
         alloc,
-        merge_texts(alloc, escaped.as_bytes(), &[b"{\"more\":\"\\\"\"}"]),
+        merge_texts(
+            alloc,
+            escaped.as_bytes(),
+            &[b"{\"more\":\"\\\"\"}"],
+            usize::MAX,
+        ),
     )?;
     let chains = chains_of(alloc, numbers)?;
     let mut texts = Vec::new(alloc);
     for chain in chains.as_slice() {
         texts.push(chain.as_bytes())?;
     }
-    digest.add_answer(alloc, join_texts(alloc, texts.as_slice()))
+    digest.add_answer(alloc, join_texts(alloc, texts.as_slice(), usize::MAX))
 }
 
 fn objects_of(alloc: Global, numbers: &mut Numbers) -> Result<String, AllocError> {

@@ -24,10 +24,10 @@ fn publish(
     patch: &str,
     digest: &mut Digest,
 ) -> Result<(), AllocError> {
-    match rewrite_text(alloc, document.as_bytes(), patch.as_bytes()) {
+    match rewrite_text(alloc, document.as_bytes(), patch.as_bytes(), usize::MAX) {
         Ok(edits) => {
             digest.add_text(edits.as_str());
-            let answer = patch_text(alloc, document.as_bytes(), edits.as_bytes());
+            let answer = patch_text(alloc, document.as_bytes(), edits.as_bytes(), usize::MAX);
             digest.add_answer(alloc, answer)
         }
         Err(fault) => {

@@ -37,7 +37,7 @@ fn join(alloc: Global, patches: &[String]) -> Result<String, mp_texts::TextsFaul
     for patch in patches {
         texts.push(patch.as_bytes())?;
     }
-    join_texts(alloc, texts.as_slice())
+    join_texts(alloc, texts.as_slice(), usize::MAX)
 }
 
 fn share_of(

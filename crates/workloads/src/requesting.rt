@@ -31,7 +31,10 @@ fn merge(
     let mut patch = String::new(alloc);
     configuration.push_patch(&mut patch, number)?;
     let patches = [patch.as_bytes()];
-    digest.add_answer(alloc, merge_texts(alloc, document.as_bytes(), &patches))
+    digest.add_answer(
+        alloc,
+        merge_texts(alloc, document.as_bytes(), &patches, usize::MAX),
+    )
 }
 
 fn command(

@@ -30,9 +30,9 @@ proved; the package itself is tested alone. A call gives up the interpreter's lo
 256 KiB of stack, which threading.stack_size() should leave. It takes mostly 10 to 100 bytes of memory for each byte that it
 reads, and never more than 360 in addition to what copies and the answer take.
 
-A short text can take all memory: a JSON Patch doubles a document with each copy, and two patches may conflict at very many places. No
-call takes a limit. So pass the texts of strangers in a process of its own, under ulimit -d or in a cgroup, and no JSON Patch with
-more than a few copies.
+A short text can ask for all memory: a JSON Patch doubles a document with each copy, and two patches may conflict at very many places.
+The library's calls have a limit, and those of this package do not yet. So pass the texts of strangers in a process of its own, under
+ulimit -d or in a cgroup, and no JSON Patch with more than a few copies.
 """
 
 from . import objects

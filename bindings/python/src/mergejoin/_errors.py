@@ -91,8 +91,9 @@ class InputError(MergejoinError, ValueError):
     why is "not JSON", "number not whole" (a text has whole numbers from -2**63 to 2**64 - 1) or "too deep" (it has at most 126 levels); of
     a pointer it is "no slash", "bad tilde" or "not UTF-8".
 
-    place is the JSON Pointer of the value that is wrong, if mergejoin.objects found it before the call, and else None. Then
-    why may be "name not text" too, of the object at that place.
+    place is the JSON Pointer of the first number that is not whole, or of the first part that is too deep; else it is None. If
+    mergejoin.objects found the error before the call, it is the place of the value that is wrong, and why may be "name not text" too,
+    of the object at that place.
 
     key is that of the patch, if mergejoin.dask met it, and else None.
     """
@@ -111,6 +112,7 @@ class InputError(MergejoinError, ValueError):
         if self.what == "pointer":
             return f"pointer: {self.why}" + ("" if self.why == "no slash" else f" at {self.number}")
         if self.key is not None:
-            return f"patch of {self.key!r}: {self.why}"
-        which = f"patch {self.number}" if self.what == "patch" else self.what
+            which = f"patch of {self.key!r}"
+        else:
+            which = f"patch {self.number}" if self.what == "patch" else self.what
         return f"{which}: {self.why}" + ("" if self.place is None else f" at {json.dumps(self.place, ensure_ascii=False)}")

@@ -4,7 +4,7 @@ import ctypes
 import enum
 import json
 import os
-from typing import Any, Callable, List, NoReturn, Sequence, Union
+from typing import Any, Callable, List, NoReturn, Optional, Sequence, Tuple, Union
 
 from ._errors import Conflict, InputError, Malformed, Missing, NoPatches, Refused
 
@@ -41,7 +41,7 @@ class Reply(ctypes.Structure):
 
 
 # What a function reads, in the header's order: a text with its length, or an array of texts with their number. After them
-# come the buffer, its capacity, and the most bytes that the text of a result may have.
+# come the buffer, its capacity, and the limit of the result and of what is made on the way, in bytes.
 _TEXT = [ctypes.c_char_p, ctypes.c_size_t]
 _TEXTS = [ctypes.POINTER(Text), ctypes.c_size_t]
 _BUFFER = [ctypes.c_void_p, ctypes.c_size_t, ctypes.c_size_t]
@@ -121,6 +121,12 @@ def read(text: bytes) -> None:
         called(JOIN, [text])
 
 
+def _words_and_place(reply: Reply, text: str) -> Tuple[str, Optional[str]]:
+    """Why a text is not a document, and the place that follows the words if there is one, of which total is the length then."""
+    words = reply.total
+    return (text[:words], text[words + len(" at "):]) if words else (text, None)
+
+
 def raise_for(reply: Reply, text: str) -> NoReturn:
     """Raises the error that a reply without a result reports."""
     if reply.status == Status.CONFLICT:
@@ -132,9 +138,9 @@ def raise_for(reply: Reply, text: str) -> NoReturn:
     if reply.status == Status.MISSING:
         raise Missing
     if reply.status == Status.DOCUMENT:
-        raise InputError("document", 0, text)
+        raise InputError("document", 0, *_words_and_place(reply, text))
     if reply.status == Status.PATCH:
-        raise InputError("patch", reply.first, text)
+        raise InputError("patch", reply.first, *_words_and_place(reply, text))
     if reply.status == Status.FORM:
         raise Malformed(reply.first, text)
     if reply.status == Status.POINTER:

@@ -8,11 +8,9 @@ use Rattle.mp_tree.proofs.Facts.{is_here, find-below, cases_same, find-here, sam
 use Rattle.mp_merge.specs.Clash.{Clash, Compatible, AreAllClashes, AreConflictsOfPair}
 use Rattle.mp_merge.specs.Private.Edits.{NotBothMaps}
 use Rattle.mp_merge.specs.Private.Clashes.{IsOneClash, WalksClashes, WalksMembers}
-use Rattle.mp_merge.specs.Private.Growth.{Grew, behind}
 use Rattle.mp_merge.specs.Laws.{ClashesExist, EmptyIfCompatible, HaveOneList}
 use Rattle.mp_merge.proofs.Clashes.ByName.{ClashOf, clash_of, clash_from}
 use Rattle.mp_merge.proofs.Clashes.Exchange.{object_above}
-use Rattle.mp_merge.proofs.Collections.Growth.{IsRestOf, rest_after_one}
 use Rattle.mp_merge.proofs.Paths.Rising.{BeginsAbove, Lists, lists_none, lists_root, lists_both, same_rising, under_all}
 
 -- ---- one path alone
@@ -168,17 +166,6 @@ walk_finds_all p q places good walk =
         λ clash. (all.lists.all w).1 (clash.first, clash.second, clash.differ),
       );
     })
-
--- ---- steps of the walk
-
-abbrev pub IsClashesRest : List Path → List Path → Path → Members → Members → Members → Type 0
-IsClashesRest before now s all left qs = IsRestOf behind append-nil append_assoc before now (WalksMembers s left qs) (WalksMembers s all qs)
-
-pub clashes_after_one : (before now later : List Path) (s : Path) (all left qs : Members) (n : List ℕ) (p : Document) → IsClashesRest before now s all (member n p left) qs
-    → Grew now later (WalksClashes (s ++ n ∷ []) p (find n qs)) → IsClashesRest before later s all left qs
-clashes_after_one before now later s all left qs n p =
-    rest_after_one behind append-nil append_assoc before now later (WalksClashes (s ++ n ∷ []) p (find n qs)) (WalksMembers s left qs) (WalksMembers s (member n p left) qs) (WalksMembers s all qs)
-    (λ first rest here others. (first, rest, refl, here, others))
 
 -- ---- the laws
 

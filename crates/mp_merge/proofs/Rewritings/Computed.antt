@@ -11,6 +11,8 @@ use Rattle.mp_patch.specs.Operation.{Operation}
 use Rattle.mp_merge.specs.Clash.{path_cmp}
 use Rattle.mp_merge.specs.Private.Edits.{GuardedEdit, IsOneEdit, NotBothMaps, AreEdits, AreMemberEdits}
 use Rattle.mp_merge.specs.Rewriting.{guard_of, guards, part_left, edit_to, edit, IsRewriting}
+use Rattle.mp_merge.specs.EditPlace.{IsEditPlace}
+use Rattle.mp_merge.specs.Within.{guarded_edits}
 use Rattle.mp_merge.proofs.Rewritings.EditPlaces.{differs_at_edit, edit_where_differs, left_by-no_map}
 use Rattle.mp_merge.proofs.Paths.Maps.{MapsAbove, at_path, part-at_path}
 use Rattle.mp_merge.proofs.Paths.Rising.{BeginsAbove, Lists, lists_both, under_all}
@@ -230,7 +232,7 @@ mutual
 
 -- the guards and the edits of what was found at the places
 module _ (d p : Document) where
-  abbrev guarded_at : Path → GuardedEdit
+  abbrev pub guarded_at : Path → GuardedEdit
   guarded_at w = (guard_of w (part d w), edit d p w)
 
   guards_found : (ws : List Path) → flat_map (λ (g : GuardedEdit). g.0) (map guarded_at ws) ≡ guards d ws
@@ -241,13 +243,16 @@ module _ (d p : Document) where
   edits_found [] = refl
   edits_found (w ∷ ws) = ap (λ os. edit d p w ∷ os) (edits_found ws)
 
-pub walk_is_rewriting : (d p : Document) (found : List GuardedEdit) (operations : List Operation) → IsDocument p → AreEdits [] p (Some d) found
-    → operations ≡ flat_map (λ (g : GuardedEdit). g.0) found ++ map (λ (g : GuardedEdit). g.1) found → IsRewriting d p operations
-walk_is_rewriting d p found operations good edits is =
+-- the edit places of d and p, and what was found at each
+pub record EditsAt (d p : Document) (found : List GuardedEdit) : Type 0 where
+  pub places : List Path
+  pub rising : IsStrictlySortedBy path_cmp places
+  pub all : (w : Path) → Contains places w ↔ IsEditPlace d p w
+  pub is : found ≡ map (guarded_at d p) places
+
+pub walk_finds_places : (d p : Document) (found : List GuardedEdit) → IsDocument p → AreEdits [] p (Some d) found → EditsAt d p found
+walk_finds_places d p found good edits =
     let all = listing p [] (Some d) found good edits in
-    let found_is : found ≡ map (guarded_at d p) all.places = all.edits ∙ map-same (edit_at [] (Some d) (Some p)) (guarded_at d p) all.places (λ w at.
-    let here = (all.all w).0 at in
-    ap (λ o. (guard_of w (at_path (Some d) w), edit_to w (look d w) (part_left w o))) (sym (part-at_path w p here.patch_maps)) ∙ ap (λ o. (guard_of w o, edit d p w)) (sym (part-at_path w d here.maps))) in
     record {
       places = all.places;
       rising = all.rising;
@@ -255,6 +260,22 @@ walk_is_rewriting d p found operations good edits is =
         λ at. let here = (all.all w).0 at in edit_where_differs d p w (record { maps = here.maps; patch_maps = here.patch_maps; speaks = here.speaks; differs = here.differs }),
         λ place. let here = differs_at_edit d p w place in (all.all w).1 (record { maps = here.maps; patch_maps = here.patch_maps; speaks = here.speaks; differs = here.differs }),
       );
-      guarded = is ∙ ap (λ (gs : List GuardedEdit). flat_map (λ (g : GuardedEdit). g.0) gs ++ map (λ (g : GuardedEdit). g.1) gs) found_is
-          ∙ ap₂ (λ (xs ys : List Operation). xs ++ ys) (guards_found d p all.places) (edits_found d p all.places);
+      is = all.edits ∙ map-same (edit_at [] (Some d) (Some p)) (guarded_at d p) all.places (λ w at.
+          let here = (all.all w).0 at in
+          ap (λ o. (guard_of w (at_path (Some d) w), edit_to w (look d w) (part_left w o))) (sym (part-at_path w p here.patch_maps)) ∙ ap (λ o. (guard_of w o, edit d p w)) (sym (part-at_path w d here.maps)));
+    }
+
+-- the tests of what was found there, and then the edits
+pub listed_at : (d p : Document) (places : List Path) → flat_map (λ (g : GuardedEdit). g.0) (map (guarded_at d p) places) ++ map (λ (g : GuardedEdit). g.1) (map (guarded_at d p) places) ≡ guarded_edits d p places
+listed_at d p places = ap₂ (λ (xs ys : List Operation). xs ++ ys) (guards_found d p places) (edits_found d p places)
+
+pub walk_is_rewriting : (d p : Document) (found : List GuardedEdit) (operations : List Operation) → IsDocument p → AreEdits [] p (Some d) found
+    → operations ≡ flat_map (λ (g : GuardedEdit). g.0) found ++ map (λ (g : GuardedEdit). g.1) found → IsRewriting d p operations
+walk_is_rewriting d p found operations good edits is =
+    let at = walk_finds_places d p found good edits in
+    record {
+      places = at.places;
+      rising = at.rising;
+      all = at.all;
+      guarded = is ∙ ap (λ (gs : List GuardedEdit). flat_map (λ (g : GuardedEdit). g.0) gs ++ map (λ (g : GuardedEdit). g.1) gs) at.is ∙ listed_at d p at.places;
     }

@@ -29,7 +29,7 @@ one_edit s p t = elim (decide_part t (part_left s (Some p))) [
 ]
 
 mutual
-  some_edits : (p : Document) (s : Path) (t : Option Document) → (found : List GuardedEdit) × AreEdits s p t found
+  pub some_edits : (p : Document) (s : Path) (t : Option Document) → (found : List GuardedEdit) × AreEdits s p t found
   some_edits (object ps) s (Some (object ds)) = some_member_edits ps s ds
   some_edits p s t = one_edit s p t
 

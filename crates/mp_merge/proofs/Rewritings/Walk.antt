@@ -1,35 +1,15 @@
 -- What each arm of the walk over a patch and a document adds.
-use Rattle.std.proofs.Common.{◌≡◌, ◌≢◌, inr, ℕ, List, [], ◌∷◌, ◌++◌, Option, Some, None, refl, sym, ap, ap₂, ◌∙◌, map, append-nil, append_assoc}
-use Rattle.std.proofs.lemmas.Grind.{flat_map-append}
-use Rattle.std.proofs.lemmas.List.{map-append}
-use Rattle.std.specs.List.{flat_map}
+use Rattle.std.proofs.Common.{◌≡◌, ◌≢◌, inr, ℕ, List, [], ◌∷◌, ◌++◌, Option, Some, None, refl, sym, ap, ap₂, ◌∙◌}
 use Rattle.mp_tree.specs.Document.{Document, null, flag, whole, string, list, object, Members, no_members, member, find}
 use Rattle.mp_tree.specs.Look.{Path, nothing, look, look_here}
-use Rattle.mp_patch.specs.Operation.{Operation, add, remove, replace, test}
-use Rattle.mp_patch.specs.View.{operation_of, operations_of}
-use Rattle.mp_patch.specs.declared.op.Op.{Op}
+use Rattle.mp_patch.specs.Operation.{add, remove, replace, test}
 use Rattle.mp_merge.specs.Application.{merge_patch, unless_null}
-use Rattle.mp_merge.specs.Private.Edits.{GuardedEdit, IsOneEdit, NotBothMaps, AreEdits, AreMemberEdits, Lists, followed_by}
+use Rattle.mp_merge.specs.Private.Edits.{GuardedEdit, IsOneEdit, NotBothMaps, AreEdits, AreMemberEdits, Admitted, admit_edit}
+use Rattle.mp_merge.specs.Private.Budgets.{add_each}
 use Rattle.mp_merge.specs.Rewriting.{part_left, edit_to}
 use Rattle.mp_merge.specs.Private.Growth.{GrewBy}
+use Rattle.mp_merge.proofs.Budgets.{each_none, each_both}
 use Rattle.mp_merge.proofs.Collections.Growth.{IsRestOf, grew_by_all, rest_after_one}
-
--- ---- two lists that have grown
-
-pub followed_by_none : (lists : Lists) → followed_by lists [] ≡ lists
-followed_by_none lists = ap₂ (λ xs ys. (xs, ys)) (append-nil lists.0) (append-nil lists.1)
-
-pub followed_by_both : (lists : Lists) (found more : List GuardedEdit) → followed_by (followed_by lists found) more ≡ followed_by lists (found ++ more)
-followed_by_both lists found more =
-    let guards : GuardedEdit → List Operation = λ g. g.0 in
-    let edit : GuardedEdit → Operation = λ g. g.1 in
-    ap₂ (λ xs ys. (xs, ys)) (append_assoc lists.0 (flat_map guards found) (flat_map guards more) ∙ ap (λ os. lists.0 ++ os) (sym (flat_map-append guards found more)))
-    (append_assoc lists.1 (map edit found) (map edit more) ∙ ap (λ os. lists.1 ++ os) (sym (map-append edit found more)))
-
-pub grew_by_one_edit : (Holds : List GuardedEdit → Type 0) (guards : List Op) (old new : List Op) (op : Op) → new ≡ old ++ op ∷ [] → Holds (([], operation_of op) ∷ [])
-    → GrewBy followed_by (operations_of guards, operations_of old) (operations_of guards, operations_of new) Holds
-grew_by_one_edit Holds guards old new op is here =
-    (([], operation_of op) ∷ [], ap₂ (λ xs ys. (xs, ys)) (sym (append-nil (operations_of guards))) (ap operations_of is ∙ map-append operation_of old (op ∷ [])), here)
 
 -- ---- one operation
 
@@ -112,23 +92,23 @@ edits_one s (list ds) t found never one = one
 
 -- ---- both have maps
 
-pub both_maps : (old new : Lists) (s place : Path) (p : Document) (t : Option Document) (ps ds : Members) → p ≡ object ps → t ≡ Some (object ds) → place ≡ s → GrewBy followed_by old new (AreMemberEdits place ps ds) → GrewBy followed_by old new (AreEdits s p t)
+pub both_maps : (old new : Admitted) (s place : Path) (p : Document) (t : Option Document) (ps ds : Members) → p ≡ object ps → t ≡ Some (object ds) → place ≡ s → GrewBy (add_each admit_edit) old new (AreMemberEdits place ps ds) → GrewBy (add_each admit_edit) old new (AreEdits s p t)
 both_maps old new s place p t ps ds patch target there grew = rw (patch, target, ← there) grew
 
 -- ---- name by name
 
 -- what is still to be added, added to what is there, gives all that is added
-abbrev pub IsEditsRest : Lists → Lists → Path → Members → Members → Members → Type 0
-IsEditsRest before now s all left ds = IsRestOf followed_by followed_by_none followed_by_both before now (AreMemberEdits s left ds) (AreMemberEdits s all ds)
+abbrev pub IsEditsRest : Admitted → Admitted → Path → Members → Members → Members → Type 0
+IsEditsRest before now s all left ds = IsRestOf (add_each admit_edit) (each_none admit_edit) (each_both admit_edit) before now (AreMemberEdits s left ds) (AreMemberEdits s all ds)
 
-pub edits_after_one : (before now later : Lists) (s : Path) (all left ds : Members) (n : List ℕ) (p : Document) → IsEditsRest before now s all (member n p left) ds → GrewBy followed_by now later (AreEdits (s ++ n ∷ []) p (find n ds))
+pub edits_after_one : (before now later : Admitted) (s : Path) (all left ds : Members) (n : List ℕ) (p : Document) → IsEditsRest before now s all (member n p left) ds → GrewBy (add_each admit_edit) now later (AreEdits (s ++ n ∷ []) p (find n ds))
     → IsEditsRest before later s all left ds
 edits_after_one before now later s all left ds n p =
-    rest_after_one followed_by followed_by_none followed_by_both before now later (AreEdits (s ++ n ∷ []) p (find n ds)) (AreMemberEdits s left ds) (AreMemberEdits s (member n p left) ds) (AreMemberEdits s all ds)
+    rest_after_one (add_each admit_edit) (each_none admit_edit) (each_both admit_edit) before now later (AreEdits (s ++ n ∷ []) p (find n ds)) (AreMemberEdits s left ds) (AreMemberEdits s (member n p left) ds) (AreMemberEdits s all ds)
     (λ first rest here others. (first, rest, refl, here, others))
 
-pub all_edits : (before now : Lists) (s : Path) (all ds : Members) → IsEditsRest before now s all no_members ds → GrewBy followed_by before now (AreMemberEdits s all ds)
-all_edits before now s all ds = grew_by_all followed_by followed_by_none followed_by_both before now (AreMemberEdits s all ds)
+pub all_edits : (before now : Admitted) (s : Path) (all ds : Members) → IsEditsRest before now s all no_members ds → GrewBy (add_each admit_edit) before now (AreMemberEdits s all ds)
+all_edits before now s all ds = grew_by_all (add_each admit_edit) (each_none admit_edit) (each_both admit_edit) before now (AreMemberEdits s all ds)
 
-pub renamed : (now later : Lists) (w s : Path) (m n : List ℕ) (p : Document) (t o : Option Document) → w ≡ s → m ≡ n → t ≡ o → GrewBy followed_by now later (AreEdits (w ++ m ∷ []) p t) → GrewBy followed_by now later (AreEdits (s ++ n ∷ []) p o)
+pub renamed : (now later : Admitted) (w s : Path) (m n : List ℕ) (p : Document) (t o : Option Document) → w ≡ s → m ≡ n → t ≡ o → GrewBy (add_each admit_edit) now later (AreEdits (w ++ m ∷ []) p t) → GrewBy (add_each admit_edit) now later (AreEdits (s ++ n ∷ []) p o)
 renamed now later w s m n p t o path name part grew = rw (← path, ← name, ← part) grew

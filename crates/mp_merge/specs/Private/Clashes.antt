@@ -1,8 +1,16 @@
 -- What the walk over two patches adds to a list of paths. Only private clauses cite it.
-use Rattle.std.specs.Prelude.{◌≡◌, ◌≢◌, ◌⊎◌, ℕ, List, [], ◌∷◌, ◌++◌, Option, None, Some, slice_get}
+use Rattle.std.specs.Prelude.{◌≡◌, ◌≢◌, ◌⊎◌, ◌+◌, ◌-◌, ◌^◌, ℕ, min, List, [], ◌∷◌, ◌++◌, Option, None, Some, slice_get, ⊤}
 use Rattle.mp_tree.specs.Document.{Document, object, Members, no_members, member, find}
 use Rattle.mp_tree.specs.Look.{Path}
+use Rattle.mp_pointer.specs.Weight.{place_weight}
+use Rattle.mp_merge.specs.Clash.{AreAllClashes}
 use Rattle.mp_merge.specs.Lists.{CompatibleBelow}
+use Rattle.mp_merge.specs.Private.Budgets.{add_each, admit}
+use Rattle.mp_merge.specs.Private.Growth.{GrewBy}
+use Rattle.mp_merge.specs.Within.{AreFirstOf}
+use Rattle.mp_merge.specs.declared.budget.Budget.{Budget}
+use Rattle.mp_merge.specs.declared.budget.Budget.TheVariants.{Unlimited, Left, Over}
+use Rattle.mp_merge.specs.declared.comparing.Found.{Found}
 
 -- at the path s: no clash if the two are equal, else that one alone
 abbrev pub IsOneClash : Path → Document → Document → List Path → Type 0
@@ -21,6 +29,40 @@ abbrev mutual
   WalksMembers s (member n p ps) qs places =
       (first : List Path) × (rest : List Path) × (places ≡ first ++ rest)
       × WalksClashes (s ++ n ∷ []) p (find n qs) first × WalksMembers s ps qs rest
+
+-- ---- what is reported of the paths
+
+-- the paths that the budget took, what is left of it, and how many paths the walk has passed
+abbrev pub Reported : Type 0
+Reported = (List Path × Budget) × ℕ
+
+abbrev pub reported_of : Found → Reported
+reported_of found = ((found.places.items, found.budget), found.total)
+
+abbrev pub with_path : List Path → Path → List Path
+with_path places w = places ++ w ∷ []
+
+-- one more, as far as 64 bits count
+abbrev pub counted : ℕ → ℕ
+counted total = min (total + 1) (2 ^ 64 - 1)
+
+abbrev pub report : Reported → Path → Reported
+report reported w = (admit with_path place_weight reported.0 w, counted reported.1)
+
+-- the walk has passed paths of which that holds
+abbrev pub Passed : Found → Found → (List Path → Type 0) → Type 0
+Passed old new Holds = GrewBy (add_each report) (reported_of old) (reported_of new) Holds
+
+-- what a walk with that budget reports of all paths; of a budget that something was too much for, nothing is asked
+abbrev pub AreReported : Budget → List Path → List Path → ℕ → Type 0
+AreReported Unlimited all places total = places ≡ all
+AreReported (Left limit) all places total = AreFirstOf limit all places total
+AreReported Over all places total = ⊤
+
+abbrev pub AreReportedConflicts : Budget → Document → Document → List Path → ℕ → Type 0
+AreReportedConflicts budget p q places total = (all : List Path) × AreAllClashes p q all × AreReported budget all places total
+
+-- ---- lists of patches
 
 -- patch number k is compatible with those before it
 abbrev pub IsFreeBelow : List Document → ℕ → Type 0

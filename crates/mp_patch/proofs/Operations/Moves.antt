@@ -1,11 +1,12 @@
 -- A move is a removal and then an addition to what is left; a copy is an addition of what is there.
-use Rattle.std.proofs.Common.{◌≡◌, ◌≢◌, inl, inr, Some, Result, Ok, Err, refl, subst}
+use Rattle.std.proofs.Common.{◌≡◌, ◌≢◌, inl, inr, ℕ, None, Some, Result, Ok, Err, refl, subst}
 use Rattle.mp_tree.specs.Document.{Document, IsDocument}
 use Rattle.mp_pointer.specs.Part.{part}
 use Rattle.mp_pointer.specs.Spelling.{Tokens, IsProperPrefix}
-use Rattle.mp_patch.specs.Operation.{add, move, copy, remove, Removes}
+use Rattle.mp_patch.specs.Operation.{Operation, add, move, copy, remove, Removes}
 use Rattle.mp_patch.specs.Refusal.{HasNoPlace, IsTooDeep, LeavesNoPlace, PartIsTooDeep, RefusedBy, causes}
 use Rattle.mp_patch.specs.Private.Steps.{Answers}
+use Rattle.mp_patch.specs.Private.Within.{AnswersWithin, Judges, TakesToMove}
 use Rattle.mp_patch.specs.declared.fault.Cause.{Cause}
 use Rattle.mp_patch.specs.declared.fault.Refusal.{Refusal}
 use Rattle.mp_patch.specs.declared.fault.Refusal.TheVariants.{By, OutOfMemory}
@@ -57,3 +58,25 @@ module _ (f t : Tokens) (x d : Document) (stood : part d f ≡ Some x) where
   copied (Err (By cause)) e (inr (place, inl (is, deep))) = inr (some_missing d x f stood, inr (place, inl (is, (x, stood, deep))))
   copied (Err (By cause)) e (inr (place, inr h)) = absurd h.1
   copied (Err OutOfMemory) e answers = tt
+
+-- ---- a move in two halves
+
+pub not_taken : {T : Type 0} (m : T → Document) (fault : Refusal Cause) (f t : Tokens) (d e : Document) → Answers (Err fault) d (move f t) e → TakesToMove m (Err fault) d f t e
+not_taken m (By cause) f t d e refused = refused
+not_taken m OutOfMemory f t d e refused = tt
+
+pub refused_within : (limit : ℕ) (fault : Refusal Cause) (d : Document) (o : Operation) (e e' : Document) → Answers (Err fault) d o e → AnswersWithin limit (Err fault) d o e'
+refused_within limit (By cause) d o e e' refused = refused
+refused_within limit OutOfMemory d o e e' refused = tt
+
+module _ (limit : ℕ) (f t : Tokens) (x d left : Document) (good : IsDocument d) (apart : ¬ IsProperPrefix f t) (other : f ≢ t) (stood : part d f ≡ Some x) (removes : Removes f d left) where
+  pub moved_too_large : Judges limit None left (add t x) → Judges limit None d (move f t)
+  moved_too_large j =
+      let done = moved f t x d left good apart other stood removes (Ok tt) j.1 (j.0, j.2) in
+      (done.0, j.1, done.1, j.3)
+
+  pub moved_within : (n : ℕ) (e : Document) → Judges limit (Some n) left (add t x) → Answers (Ok tt) left (add t x) e → AnswersWithin limit (Ok (Some n)) d (move f t) e
+  moved_within n e j answers =
+      let done = moved f t x d left good apart other stood removes (Ok tt) e answers in
+      let weighs = j e answers.0 answers.1 in
+      (done.0, done.1, weighs.0, weighs.1)

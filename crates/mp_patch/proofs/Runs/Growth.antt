@@ -29,13 +29,13 @@ operation_there ops items i op same less read = slice_get-map operation_of ops i
 pub take_next : (operations : List Operation) (i : ℕ) (o : Operation) → slice_get operations i ≡ Some o → take (i + 1) operations ≡ take i operations ++ o ∷ []
 take_next operations i o there = take_more operations i o (slice_get_within operations i o there) ∙ ap (λ x. take i operations ++ x ∷ []) (get_or_from_slice_get operations i o o there)
 
--- ---- a list of operations that is taken apart
+-- ---- a list of operations that is taken apart, with a relation of those that were taken and the document that they lead to
 
-pub record HasRunTo {O : Type 0} (g : O → Operation) (d : Document) (ops left : List O) (done : ℕ) (e : Document) : Type 0 where
+pub record HasRunTo {O : Type 0} (R : List Operation → Document → Type 0) (g : O → Operation) (ops left : List O) (done : ℕ) (e : Document) : Type 0 where
   pub passed : List O
   pub all : ops ≡ passed ++ left
   pub numbered : done ≡ length passed
-  pub run : Runs d (map g passed) e
+  pub run : R (map g passed) e
 
 take_front : (xs ys : List Operation) → take (length xs) (xs ++ ys) ≡ xs
 take_front [] ys = refl
@@ -45,9 +45,9 @@ get_next : (xs ys : List Operation) (y : Operation) → slice_get (xs ++ y ∷ y
 get_next [] ys y = refl
 get_next (x ∷ xs) ys y = get_next xs ys y
 
-module _ {O : Type 0} (g : O → Operation) (d : Document) (ops left : List O) (done : ℕ) (m : Document) (r : HasRunTo g d ops left done m) where
-  pub run_end : length left ≡ 0 → Runs d (map g ops) m
-  run_end none = subst (λ os. Runs d (map g os) m) (sym (r.all ∙ ap (λ os. r.passed ++ os) (empty left none) ∙ append-nil r.passed)) r.run
+module _ {O : Type 0} (R : List Operation → Document → Type 0) (g : O → Operation) (ops left : List O) (done : ℕ) (m : Document) (r : HasRunTo R g ops left done m) where
+  pub run_end : length left ≡ 0 → R (map g ops) m
+  run_end none = subst (λ os. R (map g os) m) (sym (r.all ∙ ap (λ os. r.passed ++ os) (empty left none) ∙ append-nil r.passed)) r.run
     where
       empty : (os : List O) → length os ≡ 0 → os ≡ []
       empty [] none = refl
@@ -60,23 +60,20 @@ module _ {O : Type 0} (g : O → Operation) (d : Document) (ops left : List O) (
     long : done ≡ length (map g r.passed)
     long = r.numbered ∙ sym (length-map r.passed g)
 
-    pub run_further : (e : Document) → ¬ IsRefused m (g op) → Step m (g op) e → HasRunTo g d ops more (done + 1) e
-    run_further e free step = record {
+    pub run_further : (e : Document) → ((os : List Operation) → R os m → R (os ++ g op ∷ []) e) → HasRunTo R g ops more (done + 1) e
+    run_further e longer = record {
       passed = r.passed ++ op ∷ [];
       all = r.all ∙ ap (λ os. r.passed ++ os) next ∙ sym (append_assoc r.passed (op ∷ []) more);
       numbered = ap (λ n. n + 1) r.numbered ∙ sym (length-append r.passed (op ∷ []));
-      run = subst (λ os. Runs d os e) (sym (map-append g r.passed (op ∷ []))) (Runs-more (map g r.passed) d m e (g op) r.run free step);
+      run = subst (λ os. R os e) (sym (map-append g r.passed (op ∷ []))) (longer (map g r.passed) r.run);
     }
 
     pub few_done : done < length ops
     few_done = omega (arith, r.numbered, ap length (r.all ∙ ap (λ os. r.passed ++ os) next), length-append r.passed (op ∷ more))
 
-    pub fault_next : (fault : Refusal Cause) (e : Document) → Answers (Err fault) m (g op) e → IsApplyFault (fault_of_operation done fault) d (map g ops)
-    fault_next (By cause) e refused = (
-      m,
-      subst (λ os. Runs d os m) (sym (ap₂ take long split ∙ take_front (map g r.passed) (g op ∷ map g more))) r.run,
-      g op,
-      ap₂ slice_get split long ∙ get_next (map g r.passed) (map g more) (g op),
-      refused,
-    )
-    fault_next OutOfMemory e refused = tt
+    -- those that were taken are the first, and the next one is at their number
+    pub run_before : R (take done (map g ops)) m
+    run_before = subst (λ os. R os m) (sym (ap₂ take long split ∙ take_front (map g r.passed) (g op ∷ map g more))) r.run
+
+    pub next_there : slice_get (map g ops) done ≡ Some (g op)
+    next_there = ap₂ slice_get split long ∙ get_next (map g r.passed) (map g more) (g op)

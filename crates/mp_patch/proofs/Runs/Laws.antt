@@ -73,7 +73,7 @@ moved-once f t x y d e e' good here there (inr (other, left, removes, adds)) (in
     let value = some_same y x (sym there ∙ here) in
     Adds-once t x left e e' (Removes-document f d left good removes) (part-document f d x good here) adds (subst (λ v. Adds t v left e') value (subst (λ m. Adds t y m e') same adds'))
 
-Step-once : (d : Document) (o : Operation) (e f : Document) → IsDocument d → HasDocument o → Step d o e → Step d o f → e ≡ f
+pub Step-once : (d : Document) (o : Operation) (e f : Document) → IsDocument d → HasDocument o → Step d o e → Step d o f → e ≡ f
 Step-once d (add t v) e f good value a b = Adds-once t v d e f good value a b
 Step-once d (remove t) e f good value a b = Removes-once t d e f good a b
 Step-once d (replace t v) e f good value a b =

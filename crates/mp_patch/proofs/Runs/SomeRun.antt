@@ -24,10 +24,10 @@ shallow_or_deep : (t : Tokens) (v : Document) → ¬ IsTooDeep t v ⊎ IsTooDeep
 shallow_or_deep t v = elim (dec_le (length t + depth v) depth_limit) [ yes fits ↦ inl (λ deep. omega (arith, fits, deep)) | no over ↦ inr (lt_of_not-le over) ]
 
 -- the operation leads somewhere, and is not refused
-abbrev Leads : Document → Operation → Type 0
+abbrev pub Leads : Document → Operation → Type 0
 Leads d o = (e : Document) × (¬ IsRefused d o) × Step d o e
 
-abbrev Judged : Document → Operation → Type 0
+abbrev pub Judged : Document → Operation → Type 0
 Judged d o = Leads d o ⊎ IsRefused d o
 
 module _ (d : Document) (good : IsDocument d) where
@@ -90,7 +90,7 @@ judge_copy d f t (Some x) good there =
       | inr refused ↦ inr (refused.0, carry (Err (By refused.0)) d refused.1)
     ]
 
-judge : (d : Document) (o : Operation) → IsDocument d → Judged d o
+pub judge : (d : Document) (o : Operation) → IsDocument d → Judged d o
 judge d (add t v) good = judge_add d good t v
 judge d (remove t) good = judge_remove d good t (part d t) refl (decide_path t [])
 judge d (replace t v) good = judge_replace d good t v (part d t) refl

@@ -11,6 +11,7 @@ pub record MergeLaws : Type 0 where
   pub merged_is_document : merge.MergedIsDocument
   pub applied_once : merge.AppliedOnce
   pub all_clashes_exist : merge.ClashesExist
+  pub one_list : merge.HaveOneList
   pub none_if_compatible : merge.EmptyIfCompatible
   pub clash_with_a_join : merge.ClashWithAJoin
   pub join_exists : merge.JoinExists

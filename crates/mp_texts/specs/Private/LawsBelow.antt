@@ -41,17 +41,24 @@ pub record AnswerLaws : Type 0 where
   pub one_outcome : merge.HasOneOutcome
   pub outcome_exists : merge.OutcomeExists
   pub reported_is_incompatible : merge.CompatibleHaveNone
-  pub one_reported_pair : merge.HasOneReportedPair
   pub none_has_no_join : merge.EmptyHasNoJoin
   pub one_join : merge.HasOneJoin
   pub join_exists : merge.JoinExists
   pub one_rewriting : merge.HasOneRewriting
+  pub one_report_within : merge.HasOneReportWithin
+  pub not_too_large : merge.WithinIsNotTooLarge
+  pub one_fitting : merge.HasOneFitting
+  pub limits_change_nothing : patch.LimitsChangeNoAnswer
+  pub unstopped : patch.RunsAreNotStopped
+  pub one_stop : patch.HasOneStopWithin
 
 -- of what has an answer
 pub record ExistenceLaws : Type 0 where
   pub joins : JoinLaws
   pub run_documents : patch.FormsHaveDocuments
   pub runs_or_refused : patch.RunsOrIsRefused
+  pub runs_or_stops : patch.RunsWithinOrStops
+  pub limits_change_nothing : patch.LimitsChangeNoAnswer
   pub writable_forms : patch.FormsAreWritable
   pub readable_runs : patch.RunsAreReadable
   pub spelled_or_faulty : pointer.SpellsOrIsFaulty
@@ -63,3 +70,5 @@ pub record ExistenceLaws : Type 0 where
   pub readable_merge : merge.MergedIsReadable
   pub rewriting_exists : merge.RewritingExists
   pub writable_rewriting : merge.RewritingIsWritable
+  pub reported_within : merge.ReportedWithin
+  pub within_or_too_large : merge.RewritingIsWithinOrNot

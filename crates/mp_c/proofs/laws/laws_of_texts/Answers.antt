@@ -6,4 +6,5 @@ returns c = record {
   has_answer = c.answer_exists.ensures;
   one_answer = c.one_answer.ensures.one;
   faults_show = c.one_answer.ensures.faults;
+  places = c.place_laws.ensures;
 }

@@ -7,15 +7,15 @@ use Rattle.mp_c.proofs.replica.receive.Goals as goal
 pub returns-in-Taken : goal.returns-in-Taken
 returns-in-Taken c = (
   c.new.ensures.bytes,
-  subst (λ (what : Received). Receives what c.args.patch.now c.args.replica.now c.receive_text.new.self) c.in-Taken.is c.in_ok-receive_text.ensures.texts,
+  subst (λ (what : Received). Receives what c.args.patch.now c.args.replica.now c.receive_text.new.self) c.in-Taken.is c.in-Ok.ensures.texts,
 )
 
 pub returns-in_ok-conflict_with-in-Conflict : goal.returns-in_ok-conflict_with-in-Conflict
 returns-in_ok-conflict_with-in-Conflict c =
-    refuses c.args.patch.now c.args.replica.now c.receive_text.new.self c.in_ok-conflict_with-in-Conflict.field-0
-    (subst (λ (what : Received). Receives what c.args.patch.now c.args.replica.now c.receive_text.new.self) c.in-Conflict.is c.in_ok-receive_text.ensures.texts)
+    refuses c.args.limit c.args.patch.now c.args.replica.now c.receive_text.new.self c.in_ok-conflict_with-in-Conflict.field-0
+    (subst (λ (what : Received). Receives what c.args.patch.now c.args.replica.now c.receive_text.new.self) c.in-Conflict.is c.in-Ok.ensures.texts)
     c.in_ok-conflict_with-in-Conflict.ensures
 
 pub returns-in-Pending : goal.returns-in-Pending
 returns-in-Pending c =
-    subst (λ (what : Received). Receives what c.args.patch.now c.args.replica.now c.receive_text.new.self) c.in-Pending.is c.in_ok-receive_text.ensures.texts
+    subst (λ (what : Received). Receives what c.args.patch.now c.args.replica.now c.receive_text.new.self) c.in-Pending.is c.in-Ok.ensures.texts

@@ -1,12 +1,14 @@
-use Rattle.std.proofs.Common.{◌≡◌, [], ◌∷◌, ◌++◌, string_bytes, Some, refl, ap₂, ◌∙◌, append-nil, append_assoc, arith}
+use Rattle.std.proofs.Common.{◌≡◌, [], ◌∷◌, ◌++◌, string_bytes, Some, refl, ap₂, ◌∙◌, arith}
 use Rattle.std.proofs.lemmas.Result.{on_ok_weaker}
 use Rattle.mp_tree.specs.Document.{find}
 use Rattle.mp_tree.specs.View.{members_by}
 use Rattle.mp_tree.proofs.Facts.{looked_up-by}
-use Rattle.mp_merge.specs.Private.Clashes.{WalksClashes}
+use Rattle.mp_merge.specs.Private.Budgets.{add_each}
+use Rattle.mp_merge.specs.Private.Clashes.{Passed, WalksClashes, report, reported_of}
 use Rattle.mp_merge.specs.Private.Edits.{NotBothMaps}
-use Rattle.mp_merge.specs.Private.Growth.{Grew, behind}
-use Rattle.mp_merge.proofs.Clashes.Conflicts.{clashes_after_one, walks_one}
+use Rattle.mp_merge.proofs.Budgets.{each_none, each_both}
+use Rattle.mp_merge.proofs.Clashes.Conflicts.{walks_one}
+use Rattle.mp_merge.proofs.Clashes.Reported.{reported_after_one}
 use Rattle.mp_merge.proofs.Clashes.ByName.{not_both_first, not_both_second, no_map}
 use Rattle.mp_merge.proofs.Collections.Growth.{grew_by_all, grew_by_none}
 use Rattle.mp_merge.proofs.Collections.Members.{next_change_by, pass_change_by, no_changes_by}
@@ -14,8 +16,8 @@ use Rattle.mp_merge.proofs.comparing.+push_clashes.Goals as goal
 use Rattle.mp_merge.proofs.comparing.+push_clashes.Goals.{push_clashes-in_default-via-in-Some+in_default, push_clashes-in_default-via-in_default}
 use Rattle.mp_pointer.proofs.Facts.{back_again}
 
-pub push_clashes-returns-in_default-clause-places : goal.push_clashes-returns-in_default-clause-places
-push_clashes-returns-in_default-clause-places g t c =
+pub push_clashes-returns-in_default-clause-found : goal.push_clashes-returns-in_default-clause-found
+push_clashes-returns-in_default-clause-found g t c =
     let p = g.T.Node.means c.args.p.now in
     let q = g.T.Node.means c.args.q.now in
     let never : NotBothMaps p (Some q) = elim c.in_default.branch [
@@ -39,10 +41,10 @@ push_member_clashes-loop-name-preserved-in-Some-get g t c =
     let others = members_by f c.args.others.now.entries in
     let found = looked_up-by f good c.args.others.now.entries c.as_str.ensures.value c.in-Some-get.ensures.value in
     let pushed : c.push.new.self ≡ s ++ n ∷ [] = c.in_ok-push.ensures.ok ∙ ap₂ (λ w k. w ++ k ∷ []) l.invariant.path c.as_str-in-Some-get.ensures.value in
-    let grew : Grew l.places.items c.push_clashes.new.places.items (WalksClashes (s ++ n ∷ []) (f c.in-Some.change.now) (find n others)) = rw (found, ← pushed) c.in_ok-push_clashes.ensures.places in
+    let grew : Passed l.found c.push_clashes.new.found (WalksClashes (s ++ n ∷ []) (f c.in-Some.change.now) (find n others)) = rw (found, ← pushed) c.in_ok-push_clashes.ensures.found in
     record {
       path = back_again s n c.push.new.self c.push_clashes.new.path c.pop.new.self pushed c.in_ok-push_clashes.ensures.path c.pop.ensures;
-      changes = pass_change_by f good l.invariant.changes c.in-Some.ensures.steps (λ map rest. (clashes_after_one _ _ _ _ _ (members_by f c.next.new.self) _ _ _ rest.0 grew, let deep = rest.1 in omega arith));
+      changes = pass_change_by f good l.invariant.changes c.in-Some.ensures.steps (λ map rest. (reported_after_one _ _ _ _ _ (members_by f c.next.new.self) _ _ _ rest.0 grew, let deep = rest.1 in omega arith));
     }
 
 pub push_member_clashes-loop-name-preserved : goal.push_member_clashes-loop-name-preserved
@@ -54,11 +56,11 @@ push_member_clashes-loop-name-preserved g t c =
     let n = string_bytes c.in-Some.name.now in
     let others = members_by f c.args.others.now.entries in
     let absent = looked_up-by f good c.args.others.now.entries c.as_str.ensures.value c.in_default.ensures.value in
-    let grew = grew_by_none behind append-nil append_assoc l.places.items (WalksClashes (s ++ n ∷ []) (f c.in-Some.change.now) (find n others)) (rw absent refl) in
+    let grew = grew_by_none (add_each report) (each_none report) (each_both report) (reported_of l.found) (WalksClashes (s ++ n ∷ []) (f c.in-Some.change.now) (find n others)) (rw absent refl) in
     record {
       path = l.invariant.path;
-      changes = pass_change_by f good l.invariant.changes c.in-Some.ensures.steps (λ map rest. (clashes_after_one _ _ _ _ _ (members_by f c.next.new.self) _ _ _ rest.0 grew, let deep = rest.1 in omega arith));
+      changes = pass_change_by f good l.invariant.changes c.in-Some.ensures.steps (λ map rest. (reported_after_one _ _ _ _ _ (members_by f c.next.new.self) _ _ _ rest.0 grew, let deep = rest.1 in omega arith));
     }
 
-pub push_member_clashes-returns-clause-places : goal.push_member_clashes-returns-clause-places
-push_member_clashes-returns-clause-places g t c = grew_by_all behind append-nil append_assoc _ _ _ ((no_changes_by g.T.Node.means c.loop-name.invariant.changes c.in-None.ensures.steps.0).0)
+pub push_member_clashes-returns-clause-found : goal.push_member_clashes-returns-clause-found
+push_member_clashes-returns-clause-found g t c = grew_by_all (add_each report) (each_none report) (each_both report) _ _ _ ((no_changes_by g.T.Node.means c.loop-name.invariant.changes c.in-None.ensures.steps.0).0)

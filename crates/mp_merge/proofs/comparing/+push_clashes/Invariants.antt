@@ -1,7 +1,8 @@
 use Rattle.std.proofs.Common.{◌≡◌, ◌*◌, ◌≤◌, suc}
 use Rattle.mp_tree.specs.Document.{depth, members_depth}
 use Rattle.mp_tree.specs.View.{members_by}
-use Rattle.mp_merge.proofs.Clashes.Conflicts.{IsClashesRest}
+use Rattle.mp_merge.specs.Private.Clashes.{reported_of}
+use Rattle.mp_merge.proofs.Clashes.Reported.{IsReportedRest}
 use Rattle.mp_merge.proofs.Collections.Members.{ChangesLeftBy}
 use Rattle.mp_merge.proofs.comparing.+push_clashes.Given as goal
 
@@ -18,5 +19,5 @@ invariant-push_member_clashes-loop-name g l =
     let f = g.T.Node.means in
     let changes = members_by f l.changes.entries in record {
       path : l.path ≡ l.initial.path;
-      changes : ChangesLeftBy f l.name-iterator (λ left. IsClashesRest l.initial.places.items l.places.items l.initial.path changes left (members_by f l.others.entries) × (members_depth left ≤ members_depth changes));
+      changes : ChangesLeftBy f l.name-iterator (λ left. IsReportedRest (reported_of l.initial.found) (reported_of l.found) l.initial.path changes left (members_by f l.others.entries) × (members_depth left ≤ members_depth changes));
     }

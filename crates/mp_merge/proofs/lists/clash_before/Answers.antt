@@ -1,11 +1,12 @@
 use Rattle.std.proofs.Common.{◌≡◌, ◌<◌, length, map, Some, slice_get, sym, ◌∙◌, subst, true≢false, arith}
 use Rattle.mp_merge.specs.Clash.{Compatible, AreAllClashes}
+use Rattle.mp_merge.specs.Lists.{IsClashBelow}
 use Rattle.mp_merge.proofs.Clashes.Conflicts.{empty_if_compatible}
 use Rattle.mp_merge.proofs.Joins.Numbered.{at_number, same_at, below_more}
 use Rattle.mp_merge.proofs.lists.clash_before.Goals as goal
 
-pub all_clashes-requires : goal.all_clashes-requires
-all_clashes-requires g c = c.requires.documents c.index-patches-first-then-not-are_compatible.result
+pub reported_conflicts-requires : goal.reported_conflicts-requires
+reported_conflicts-requires g c = c.requires.documents c.index-patches-first-then-not-are_compatible.result
 
 pub loop-first-preserved : goal.loop-first-preserved
 loop-first-preserved g c =
@@ -26,12 +27,13 @@ returns-then-not-are_compatible g c =
     let d = c.index-patches-first-then-not-are_compatible.result in
     let p = f d in
     let q = f c.index-patches-second.result in
-    let places = c.in_ok-places.places.items in
+    let found = c.in_ok-conflicts.ensures in
+    let places = found.0 in
     let within : k < length ds = omega (arith, c.loop-first-test.true, c.requires.within) in
     let at : slice_get (map f ds) k ≡ Some p = at_number f ds k d within c.index-patches-first-then-not-are_compatible.is in
     let compared = same_at (map f ds) k p (f c.index-patches-first.result) at (at_number f ds k c.index-patches-first.result within c.index-patches-first.is) in
-    let clashes : AreAllClashes p q places = c.in_ok-places.ensures in
-    record {
+    let clashes : AreAllClashes p q places = found.1 in
+    let clash : IsClashBelow (map f ds) k c.args.second places = record {
       one = p;
       other = q;
       at_first = at;
@@ -42,7 +44,8 @@ returns-then-not-are_compatible g c =
         clashes = clashes;
       };
       least_first = c.loop-first.invariant;
-    }
+    } in
+    (places, clash, found.2)
 
 pub returns : goal.returns
 returns g c q at_second i p less at_i =

@@ -1,7 +1,7 @@
 use Rattle.std.proofs.Common.{◌≡◌, ◌*◌, ◌+◌, ◌≤◌}
 use Rattle.mp_tree.specs.Document.{depth, members_depth}
 use Rattle.mp_tree.specs.View.{members_by}
-use Rattle.mp_merge.specs.Private.Edits.{lists_of}
+use Rattle.mp_merge.specs.Private.Edits.{admitted_of}
 use Rattle.mp_merge.proofs.Collections.Members.{ChangesLeftBy}
 use Rattle.mp_merge.proofs.Rewritings.Walk.{IsEditsRest}
 use Rattle.mp_merge.proofs.rewriting.+push_edits.Given as goal
@@ -19,5 +19,5 @@ invariant-push_member_edits-loop-name g l =
     let f = g.T.Node.means in
     let changes = members_by f l.changes.entries in record {
       path : l.path ≡ l.initial.path;
-      changes : ChangesLeftBy f l.name-iterator (λ left. IsEditsRest (lists_of l.initial.found) (lists_of l.found) l.initial.path changes left (members_by f l.entries.entries) × (members_depth left ≤ members_depth changes));
+      changes : ChangesLeftBy f l.name-iterator (λ left. IsEditsRest (admitted_of l.initial.found) (admitted_of l.found) l.initial.path changes left (members_by f l.entries.entries) × (members_depth left ≤ members_depth changes));
     }

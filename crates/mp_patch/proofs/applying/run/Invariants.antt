@@ -2,12 +2,13 @@ use Rattle.std.proofs.Common.{◌≤◌}
 use Rattle.std.specs.Vec.Iter.{into_iter_items}
 use Rattle.mp_tree.specs.Document.{depth, depth_limit}
 use Rattle.mp_patch.specs.Private.Bounds.{Bounds}
+use Rattle.mp_patch.specs.Run.{Runs}
 use Rattle.mp_patch.proofs.Runs.Growth.{HasRunTo}
 use Rattle.mp_patch.proofs.applying.run.Given as goal
 
 abbrev pub invariant-loop-op : goal.invariant-loop-op
 invariant-loop-op g l = record {
-  ran : HasRunTo g.O.StepOwned.means (g.T.Node.means l.fn.doc) l.fn.ops.items (into_iter_items l.op-iterator) l.done (g.T.Node.means l.result);
+  ran : HasRunTo (λ os e. Runs (g.T.Node.means l.fn.doc) os e) g.O.StepOwned.means l.fn.ops.items (into_iter_items l.op-iterator) l.done (g.T.Node.means l.result);
   bounds : Bounds l.bound.most 0 (g.T.Node.means l.result);
   shallow : depth (g.T.Node.means l.fn.doc) ≤ depth_limit → depth (g.T.Node.means l.result) ≤ depth_limit;
   can_next : (goal.iterator-loop-op g).can_next l.op-iterator;

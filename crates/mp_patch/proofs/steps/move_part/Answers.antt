@@ -1,60 +1,28 @@
-use Rattle.std.proofs.Common.{◌≡◌, ◌≢◌, rules, true≢false, sym, ◌∙◌, subst}
-use Rattle.std.proofs.lemmas.Result.{err_from_is_err_and}
-use Rattle.std.proofs.lemmas.Bool.Decides.{Decides-at}
-use Rattle.mp_pointer.specs.Spelling.{IsProperPrefix}
-use Rattle.mp_pointer.proofs.Facts.{are_same_tokens-Decides}
+use Rattle.std.proofs.Common.{Ok, IfSome, IsTrue, length, refl, subst}
 use Rattle.mp_patch.specs.Private.Bounds.{Bounds}
-use Rattle.mp_patch.proofs.Operations.Bounds.{part-bounds, Removes-bounds, added-bounds}
-use Rattle.mp_patch.proofs.Operations.Moves.{moved, not_moved, stays}
+use Rattle.mp_patch.specs.Private.Within.{TakesToMove}
+use Rattle.mp_patch.proofs.Operations.Bounds.{added-bounds}
+use Rattle.mp_patch.proofs.Operations.Moves.{moved}
 use Rattle.mp_patch.proofs.steps.move_part.Goals as goal
 
 pub returns-in-Some-clause-answer : goal.returns-in-Some-clause-answer
 returns-in-Some-clause-answer g c =
     let m = g.T.Node.means in
-    let f = c.args.origin.now in
-    let t = c.args.path.now in
-    let apart : ¬ IsProperPrefix f t = λ h. true≢false (sym (c.is_proper_prefix_of.ensures.1 h) ∙ c.if-is_proper_prefix_of.false) in
-    let same : f ≡ t = (Decides-at _ _ c.eq.ensures (are_same_tokens-Decides f t)).0 c.if-eq.true in
-    stays (m c.args.doc.now) (m c.in-Some.field-0.now) f t apart same (search rules)
-
-pub returns-in_err-part-clause-answer : goal.returns-in_err-part-clause-answer
-returns-in_err-part-clause-answer g c =
-    let m = g.T.Node.means in
-    let f = c.args.origin.now in
-    let t = c.args.path.now in
-    let apart : ¬ IsProperPrefix f t = λ h. true≢false (sym (c.is_proper_prefix_of.ensures.1 h) ∙ c.if-is_proper_prefix_of.false) in
-    let other : f ≢ t = λ h. true≢false (sym ((Decides-at _ _ c.eq.ensures (are_same_tokens-Decides f t)).1 h) ∙ c.if-eq.false) in
-    let p = err_from_is_err_and c.from_residual.result c.from_residual.ensures.1 in
-    rw (p.1, p.2) (not_moved c.in_err-part.field-0.0 f t (m c.args.doc.now) (m c.remove.new.doc) (m c.remove.new.doc) apart other c.in_err-part.ensures)
-
-pub returns-clause-answer : goal.returns-clause-answer
-returns-clause-answer g c =
-    let m = g.T.Node.means in
-    let f = c.args.origin.now in
-    let t = c.args.path.now in
     let d = c.args.doc.now in
-    let apart : ¬ IsProperPrefix f t = λ h. true≢false (sym (c.is_proper_prefix_of.ensures.1 h) ∙ c.if-is_proper_prefix_of.false) in
-    let other : f ≢ t = λ h. true≢false (sym ((Decides-at _ _ c.eq.ensures (are_same_tokens-Decides f t)).1 h) ∙ c.if-eq.false) in
-    moved f t (m c.in_ok-part.part) (m d) (m c.remove.new.doc) (c.requires.documents d) apart other c.in_ok-part.ensures.1 c.in_ok-part.ensures.2 c.put.result (m c.put.new.doc) c.put.ensures
+    let f = c.args.origin.now in
+    let t = c.args.path.now in
+    let left = m c.take_to_move.new.doc in
+    let took = subst (λ o. TakesToMove m (Ok o) (m d) f t left) c.in-Some.is c.in_ok-part.ensures.taken in
+    moved f t (m c.in-Some.part) (m d) left (c.requires.documents d) took.0 took.1 took.2 took.3 c.put.result (m c.put.new.doc) c.put.ensures
 
--- the part is as much less deep than the document as it stood below it
-pub admit_part-fits-requires-clause-part : goal.admit_part-fits-requires-clause-part
-admit_part-fits-requires-clause-part g c =
+pub returns-in-Some-clause-bounds : goal.returns-in-Some-clause-bounds
+returns-in-Some-clause-bounds g c =
     let m = g.T.Node.means in
-    let most = c.args.bound.now.most in
-    let x = m c.in_ok-part.part in
-    subst (λ n. Bounds most n x) (sym c.len.ensures) (part-bounds most c.args.origin.now (m c.args.doc.now) x c.in_ok-part.ensures.1 c.requires.bounds)
-
-pub admit_part-fits-requires-clause-rest : goal.admit_part-fits-requires-clause-rest
-admit_part-fits-requires-clause-rest g c =
-    let m = g.T.Node.means in
-    let left = c.remove.new.doc in
-    Removes-bounds c.args.bound.now.most c.args.origin.now (m c.args.doc.now) (m left) c.in_ok-part.ensures.2 (c.requires.documents left) c.requires.bounds
-
-pub returns-clause-bounds : goal.returns-clause-bounds
-returns-clause-bounds g c =
-    let m = g.T.Node.means in
+    let f = c.args.origin.now in
+    let t = c.args.path.now in
+    let left = m c.take_to_move.new.doc in
     let end = c.put.new.doc in
-    let admits = c.admit_part-fits.ensures in
-    added-bounds c.admit_part-fits.result c.admit_part-fits.new.self.most c.len-2.result c.args.path.now (m c.in_ok-part.part) (m c.remove.new.doc) (m end)
-    c.len-2.ensures admits.fits.1 admits.bounds (c.requires.documents end) admits.kept c.put.result c.put.ensures
+    let most = c.take_to_move.new.bound.most in
+    let took = subst (λ o. TakesToMove m (Ok o) (m c.args.doc.now) f t left) c.in-Some.is c.in_ok-part.ensures.taken in
+    let fits = subst (λ o. IfSome o (λ x. IsTrue x.1 → Bounds most (length t) (m x.0))) c.in-Some.is c.in_ok-part.ensures.fits in
+    added-bounds c.in-Some.fits most (length t) t (m c.in-Some.part) left (m end) refl took.4.1 fits (c.requires.documents end) c.in_ok-part.ensures.bounds c.put.result c.put.ensures

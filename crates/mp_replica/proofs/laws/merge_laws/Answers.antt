@@ -9,6 +9,7 @@ returns c = record {
   merged_is_document = c.applies_at_each_name.ensures.document;
   applied_once = c.merging_again.ensures.twice;
   all_clashes_exist = c.all_conflicts.ensures.exist;
+  one_list = c.all_conflicts.ensures.one;
   none_if_compatible = c.all_conflicts.ensures.empty;
   clash_with_a_join = c.clash_with_a_join.ensures;
   join_exists = c.join_exists.ensures;

@@ -1,12 +1,17 @@
-use Rattle.std.proofs.Common.{string_bytes}
+use Rattle.std.proofs.Common.{string_bytes, inr, refl}
 use Rattle.mp_tree.specs.Values.{value_document}
 use Rattle.mp_patch.specs.View.{value_operations}
+use Rattle.mp_texts.specs.Answers.{IsLightPatchText, IsPatchText}
+use Rattle.mp_texts.specs.Faults.{IsPatchTextFault}
 use Rattle.mp_texts.proofs.Readings.{text_written}
+use Rattle.mp_texts.proofs.Short.{answered}
 use Rattle.mp_texts.proofs.documents.patch_text.Goals as goal
 
 -- what the operations leave can be read, since the document and the patch can
 pub returns : goal.returns
 returns c =
+    let document = c.args.document.now in
+    let json_patch = c.args.json_patch.now in
     let d = value_document c.in_ok-doc.doc in
     let form = value_document c.in_ok-form.form in
     let operations = value_operations c.in_ok-operations.operations.items in
@@ -14,10 +19,11 @@ returns c =
     let written = c.in_ok-write_value in
     let readable = c.readings_are_documents.ensures.document in
     let forms = c.in_ok-operations.ensures in
+    let steps = c.in_ok-patched.ensures.within in
     let runs = c.in_ok-patched.ensures.runs in
-    let writable = c.forms_are_writable.ensures form operations (readable c.args.json_patch.now form c.in_ok-form.ensures) forms in
-    let good = c.runs_are_readable.ensures d end operations (readable c.args.document.now d c.in_ok-doc.ensures) writable runs in
-    record {
+    let writable = c.forms_are_writable.ensures form operations (readable json_patch form c.in_ok-form.ensures) forms in
+    let good = c.runs_are_readable.ensures d end operations (readable document d c.in_ok-doc.ensures) writable runs in
+    let is : IsPatchText document json_patch (string_bytes written.field-0) = record {
       from = d;
       document_read = c.in_ok-doc.ensures;
       form = form;
@@ -27,4 +33,6 @@ returns c =
       end = end;
       runs = runs;
       text = text_written end (string_bytes written.field-0) written.ensures.text written.ensures.reads_back good.within;
-    }
+    } in
+    let light : IsLightPatchText c.args.limit document json_patch (string_bytes written.field-0) = (is, steps) in
+    answered c.args.limit c.unless_longer.result written.field-0 (IsLightPatchText c.args.limit document json_patch) (λ fault. IsPatchTextFault c.args.limit fault document json_patch) c.unless_longer.ensures light (λ long. inr (refl, long))

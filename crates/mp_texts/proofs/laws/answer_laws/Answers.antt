@@ -16,9 +16,14 @@ returns c = record {
   one_outcome = c.one_outcome.ensures;
   outcome_exists = c.outcome_exists.ensures;
   reported_is_incompatible = c.reported_pair.ensures.none;
-  one_reported_pair = c.reported_pair.ensures.one;
   none_has_no_join = c.empty_has_no_join.ensures;
   one_join = c.one_join.ensures;
   join_exists = c.join_exists.ensures;
   one_rewriting = c.one_rewriting.ensures;
+  one_report_within = c.first_conflicts.ensures.one_report;
+  not_too_large = c.rewritings_within.ensures.not_both;
+  one_fitting = c.rewritings_within.ensures.one_fitting;
+  limits_change_nothing = c.limits_change_nothing.ensures;
+  unstopped = c.one_answer_within.ensures.unstopped;
+  one_stop = c.one_answer_within.ensures.one_stop;
 }

@@ -1,10 +1,13 @@
-use Rattle.std.proofs.Common.{◌≡◌, List, ap, map, string_bytes, subst, sym}
+use Rattle.std.proofs.Common.{◌≡◌, List, ap, map, string_bytes, refl, subst, sym}
 use Rattle.mp_tree.specs.Document.{Document, depth_limit}
 use Rattle.mp_tree.specs.Values.{value_document}
 use Rattle.mp_merge.specs.Join.{IsJoin}
 use Rattle.mp_merge.specs.Lists.{AreWithin}
+use Rattle.mp_texts.specs.Answers.{IsJoinText}
+use Rattle.mp_texts.specs.Faults.{IsJoinTextFault}
 use Rattle.mp_texts.specs.Texts.{given}
 use Rattle.mp_texts.proofs.Readings.{all_within, text_written}
+use Rattle.mp_texts.proofs.Short.{answered}
 use Rattle.mp_texts.proofs.lists.join_texts.Goals as goal
 
 -- the join is no deeper than the patches, so it is read back
@@ -18,10 +21,11 @@ returns c =
     let written = c.in_ok-write_value in
     let shallow = all_within c.readings_are_documents.ensures.document texts (map value_document values) read in
     let within = c.in_ok-joined.ensures.depth depth_limit (subst (λ (ds : List Document). AreWithin depth_limit ds) (sym same) shallow) in
-    record {
+    let is : IsJoinText texts (string_bytes written.field-0) = record {
       documents = map value_document values;
       read = read;
       join = joined;
       is_join = subst (λ (ds : List Document). IsJoin ds joined) same c.in_ok-joined.ensures.joined;
       text = text_written joined (string_bytes written.field-0) written.ensures.text written.ensures.reads_back within;
-    }
+    } in
+    answered c.args.limit c.unless_longer.result written.field-0 (IsJoinText texts) (λ fault. IsJoinTextFault c.args.limit fault texts) c.unless_longer.ensures is (λ long. (refl, long))

@@ -1,0 +1,317 @@
+//! A patch log that stays in memory.
+
+use crate::calls::{reply_of, text_of};
+use crate::raw::{self, Handle, OfHandle, Reply, CONFLICT, MISSING, NO_MEMORY, REFUSED, RESULT};
+use crate::{places, Error};
+use std::fmt;
+
+/// Who made a patch, and the sender's number for it. Identities are ordered by the sender, and then by the number. A sender
+/// gives each of its patches for one start a number of its own.
+#[repr(C)]
+#[derive(Clone, Copy, Debug, PartialEq, Eq, PartialOrd, Ord, Hash)]
+pub struct Identity {
+    /// The sender that made the patch.
+    pub sender: u64,
+    /// The sender's number for the patch.
+    pub number: u64,
+}
+
+/// A replica that keeps the patches themselves, each under its identity, also those that conflict: it has a start with its
+/// number, the epoch, and shows what the start and the patches that conflict with no other make. Once it is decided which
+/// patches the start ends with, it begins the next.
+///
+/// Receiving a patch costs what the patch costs, unless it conflicts with others: then it may cost what is stored.
+///
+/// ```
+/// use mergejoin::{Arrival, DecideError, Error, Identity, PatchLog};
+///
+/// let (ada, bob) = (Identity { sender: 1, number: 1 }, Identity { sender: 2, number: 1 });
+/// let mut log = PatchLog::new(7, r#"{"title":"Notes"}"#)?;
+/// assert_eq!(log.receive(7, ada, r#"{"author":"Ada"}"#)?, Arrival::Stored);
+/// assert_eq!(log.receive(7, ada, r#"{"author":"Ada"}"#)?, Arrival::Repeat);
+/// assert_eq!(log.receive(7, bob, r#"{"author":"Bob"}"#)?, Arrival::Stored);
+/// assert_eq!(log.document()?, r#"{"title":"Notes"}"#);
+/// assert_eq!(log.conflicts()?, r#"[{"first":[1,1],"second":[2,1],"places":["/author"]}]"#);
+///
+/// let both = log.decide(&[ada, bob]);
+/// assert!(matches!(both, Err(DecideError::Conflict { first, second, .. }) if (first, second) == (ada, bob)));
+/// assert_eq!(log.decide(&[bob]), Ok(()));
+/// assert_eq!(log.document()?, r#"{"author":"Bob","title":"Notes"}"#);
+/// assert_eq!(log.receive(7, ada, r#"{"author":"Ada"}"#)?, Arrival::Late);
+/// # Ok::<(), Error>(())
+/// ```
+///
+/// A patch log may move to another thread, and serves one thread at a time: it is `Send`, and not `Sync`.
+///
+/// ```compile_fail,E0277
+/// fn is_shared<T: Sync>() {}
+/// is_shared::<mergejoin::PatchLog>();
+/// ```
+pub struct PatchLog {
+    held: Handle,
+    /// The bytes that the document's text may have.
+    shown: usize,
+    limit: usize,
+}
+
+/// What became of a message.
+#[derive(Clone, Copy, Debug, PartialEq, Eq, Hash)]
+pub enum Arrival {
+    /// Its patch is stored, whether it conflicts with others or not.
+    Stored,
+    /// A patch with its identity is stored already.
+    Repeat,
+    /// It is of an earlier start, and is dropped.
+    Late,
+    /// It is of a later start: the caller keeps it until that is begun.
+    Early,
+}
+
+/// Why no new start is begun.
+#[derive(Clone, Debug, PartialEq, Eq)]
+#[non_exhaustive]
+pub enum DecideError {
+    /// No number is left for a start.
+    LastEpoch,
+    /// Under this identity, which was chosen, no patch is stored.
+    NotReceived(Identity),
+    /// Two of the chosen patches conflict: the first two, in the order of [`PatchLog::conflicts`].
+    Conflict {
+        /// The lower identity of the two.
+        first: Identity,
+        /// The other.
+        second: Identity,
+        /// The places at which they conflict, as JSON Pointers, in the order of paths: all of them, or as many of the first as
+        /// the limit allows.
+        places: Vec<String>,
+        /// How many places there are in all.
+        total: usize,
+    },
+    /// Memory ran out.
+    NoMemory,
+    /// What a later library may report.
+    Unknown {
+        /// The status.
+        status: u32,
+        /// The words.
+        words: String,
+    },
+}
+
+impl PatchLog {
+    /// Makes a log that begins with this document, as the start of this number, and to which nothing has arrived.
+    ///
+    /// # Errors
+    ///
+    /// [`Error::Document`] if the text is not a document, or [`Error::NoMemory`].
+    pub fn new(epoch: u64, start: impl AsRef<[u8]>) -> Result<Self, Error> {
+        let start = start.as_ref();
+        let (mut held, (bytes, length)) = (Handle::new(), (start.as_ptr(), start.len()));
+        // SAFETY: `held` is as the header's {0}, and no other call has it; the text is borrowed for the call, and no pointer of a
+        // slice is null; the call writes its text alone. It is made again if the text is no document, and then changes nothing.
+        unsafe {
+            text_of(0, |out, capacity| {
+                raw::mergejoin_patch_log_start(
+                    &mut held,
+                    epoch,
+                    bytes,
+                    length,
+                    out,
+                    capacity,
+                    usize::MAX,
+                )
+            })
+        }?;
+        Ok(PatchLog {
+            held,
+            shown: length,
+            limit: usize::MAX,
+        })
+    }
+
+    /// From now on a text that is longer than so many bytes is [`Error::TooLarge`].
+    pub fn set_limit(&mut self, limit: usize) {
+        self.limit = limit;
+    }
+
+    /// Receives a message: a patch with its identity, made for the start of this number. The patch is read first, whichever
+    /// start it is for.
+    ///
+    /// # Errors
+    ///
+    /// [`Error::Patch`] if the text is not a document, or [`Error::NoMemory`]. Nothing is changed then.
+    pub fn receive(
+        &mut self,
+        epoch: u64,
+        identity: Identity,
+        patch: impl AsRef<[u8]>,
+    ) -> Result<Arrival, Error> {
+        let Identity { sender, number } = identity;
+        let patch = patch.as_ref();
+        let (held, (bytes, length)) = (&mut self.held, (patch.as_ptr(), patch.len()));
+        // SAFETY: as of `new`, of a log. The word for a message fits, so that it is not received twice.
+        let word = unsafe {
+            text_of(0, |out, capacity| {
+                raw::mergejoin_patch_log_receive(
+                    held,
+                    epoch,
+                    sender,
+                    number,
+                    bytes,
+                    length,
+                    out,
+                    capacity,
+                    usize::MAX,
+                )
+            })
+        }?;
+        match word.as_str() {
+            "stored" => {
+                self.shown = self.shown.saturating_add(length);
+                Ok(Arrival::Stored)
+            }
+            "repeat" => Ok(Arrival::Repeat),
+            "late" => Ok(Arrival::Late),
+            "early" => Ok(Arrival::Early),
+            _ => Err(Error::Unknown {
+                status: RESULT,
+                words: word,
+            }),
+        }
+    }
+
+    /// Gives the text of the document: what [`replay`](crate::replay) gives of the start and of the patches that conflict with
+    /// no other.
+    ///
+    /// # Errors
+    ///
+    /// [`Error::NoMemory`], or [`Error::TooLarge`].
+    pub fn document(&mut self) -> Result<String, Error> {
+        self.read(raw::mergejoin_patch_log_document, self.shown)
+    }
+
+    /// Gives the text of a JSON array of each two patches that conflict, in the order of their identities, the lower one first:
+    /// `[{"first":[1,1],"second":[2,1],"places":["/a"]}]` of number 1 of sender 1 and number 1 of sender 2.
+    ///
+    /// # Errors
+    ///
+    /// [`Error::NoMemory`], or [`Error::TooLarge`].
+    pub fn conflicts(&mut self) -> Result<String, Error> {
+        self.read(raw::mergejoin_patch_log_conflicts, 0)
+    }
+
+    /// Ends the start by the patches with these identities: what they make of it is the new start, whose number is the next.
+    /// All patches are forgotten. Neither order nor repetition counts. A decision is of one start, so it is handed on once,
+    /// while that is the start.
+    ///
+    /// # Errors
+    ///
+    /// [`DecideError::LastEpoch`], [`DecideError::NotReceived`] and [`DecideError::Conflict`] are looked for in this order; or
+    /// [`DecideError::NoMemory`]. Nothing is changed then.
+    pub fn decide(&mut self, chosen: &[Identity]) -> Result<(), DecideError> {
+        let (held, limit) = (&mut self.held, self.limit);
+        // SAFETY: as of `receive`; the identities are borrowed for the call. It is made again if the places of a conflict did not
+        // fit, after which nothing is changed.
+        let (reply, text) = unsafe {
+            reply_of(0, |out, capacity| {
+                raw::mergejoin_patch_log_decide(
+                    held,
+                    chosen.as_ptr(),
+                    chosen.len(),
+                    out,
+                    capacity,
+                    limit,
+                )
+            })
+        }
+        .map_err(|_| DecideError::NoMemory)?;
+        if reply.status == RESULT {
+            return Ok(());
+        }
+        Err(DecideError::of(&reply, text, chosen))
+    }
+
+    /// Makes one of the header's calls that read a log.
+    fn read(&mut self, call: OfHandle, guess: usize) -> Result<String, Error> {
+        let (held, limit) = (&mut self.held, self.limit);
+        // SAFETY: `held` is a log, and no other call has it; the call writes its text alone, and changes nothing.
+        unsafe {
+            text_of(guess.min(limit), |out, capacity| {
+                call(held, out, capacity, limit)
+            })
+        }
+    }
+}
+
+impl DecideError {
+    /// Why a decision with this reply and this text began nothing. The reply numbers the chosen identities.
+    fn of(reply: &Reply, text: String, chosen: &[Identity]) -> Self {
+        let known =
+            match reply.status {
+                CONFLICT => chosen.get(reply.first).zip(chosen.get(reply.second)).map(
+                    |(&first, &second)| DecideError::Conflict {
+                        first,
+                        second,
+                        places: places::read(&text, reply.total),
+                        total: reply.total,
+                    },
+                ),
+                REFUSED => Some(DecideError::LastEpoch),
+                MISSING => chosen
+                    .get(reply.first)
+                    .copied()
+                    .map(DecideError::NotReceived),
+                NO_MEMORY => Some(DecideError::NoMemory),
+                _ => None,
+            };
+        known.unwrap_or(DecideError::Unknown {
+            status: reply.status,
+            words: text,
+        })
+    }
+}
+
+impl fmt::Display for Identity {
+    fn fmt(&self, to: &mut fmt::Formatter<'_>) -> fmt::Result {
+        write!(to, "{}:{}", self.sender, self.number)
+    }
+}
+
+impl fmt::Display for DecideError {
+    fn fmt(&self, to: &mut fmt::Formatter<'_>) -> fmt::Result {
+        match self {
+            DecideError::LastEpoch => to.write_str("no number is left for a start"),
+            DecideError::NotReceived(identity) => write!(to, "{identity} has not arrived"),
+            DecideError::Conflict {
+                first,
+                second,
+                places,
+                total,
+            } => {
+                write!(to, "conflict: {first} and {second}")?;
+                places::show(to, places, *total)
+            }
+            DecideError::NoMemory => to.write_str("out of memory"),
+            DecideError::Unknown { status, words } => write!(to, "status {status}: {words}"),
+        }
+    }
+}
+
+impl std::error::Error for DecideError {}
+
+impl Drop for PatchLog {
+    fn drop(&mut self) {
+        // SAFETY: `held` is a log, and is not used any more.
+        unsafe { raw::mergejoin_patch_log_free(&mut self.held) }
+    }
+}
+
+impl fmt::Debug for PatchLog {
+    fn fmt(&self, to: &mut fmt::Formatter<'_>) -> fmt::Result {
+        to.debug_struct("PatchLog").finish_non_exhaustive()
+    }
+}
+
+// SAFETY: what is held may move between threads, as the header says and the library proves; and `&mut self` leaves one
+// call at a time.
+unsafe impl Send for PatchLog {}

@@ -1,2 +1,0 @@
--- What private clauses alone cite: who trusts the public contracts need not read it.
-pub mod PatchLogs

@@ -1,0 +1,71 @@
+//! The handle of a patch log: what C keeps between two calls.
+ghost use Rattle.std.specs.Prelude.{◌≡◌, Option, Some, None, option_map};
+ghost use Rattle.std.specs.Coded.{coded_option};
+ghost use Rattle.mp_replica.specs.PatchLog.{HeldLog};
+ghost use Rattle.mp_replica.specs.contracts.patch_log.PatchLog.{the_row};
+ghost use Rattle.mp_c.specs.Owned.{owned_at};
+
+use crate::box_at::BoxAt;
+use mp_replica::PatchLog;
+use std::alloc::Global;
+use std::marker::Model;
+use std::mem;
+
+/// A pointer that C neither reads nor writes: null while no patch log is held.
+#[repr(C)]
+pub struct PatchLogHandle {
+    at: *mut u8,
+    pub ghost value: { Option HeldLog } by { coded_option the_row.coded },
+}
+
+impl Model for PatchLogHandle {
+    ghost also_owns = { λ h. owned_at the_row h.at h.value };
+}
+
+impl PatchLogHandle {
+    pub fn of(owned: BoxAt<PatchLog>) -> PatchLogHandle
+        ensures { result.value ≡ owned.value }
+    {
+        let BoxAt { at } = owned;
+        PatchLogHandle { at: at as *mut u8 }
+    }
+
+    pub fn into_box_at(self) -> BoxAt<PatchLog>
+        ensures { result.value ≡ self.value }
+    {
+        let PatchLogHandle { at } = self;
+        BoxAt {
+            at: at as *mut PatchLog,
+        }
+    }
+
+    /// Takes what is held, and leaves nothing.
+    pub fn take(&mut self, alloc: Global) -> Option<Box<PatchLog>>
+        ensures value { option_map (λ b. b.value) result ≡ self.old.value }
+        ensures rest { self.new.value ≡ None }
+    {
+        mem::replace(self, PatchLogHandle::of(BoxAt::none()))
+            .into_box_at()
+            .into_box(alloc)
+    }
+
+    /// Holds the box. What was held before is dropped.
+    pub fn put(&mut self, alloc: Global, owned: Box<PatchLog>)
+        ensures { self.new.value ≡ Some owned.value }
+    {
+        let _before = mem::replace(self, PatchLogHandle::of(BoxAt::of(owned)))
+            .into_box_at()
+            .into_box(alloc);
+    }
+}
+
+unsafe impl Send for PatchLogHandle {}
+
+fn needs_send<T: Send>(value: T) -> T {
+    value
+}
+
+// That a handle may move to another thread: this is refused if `Send` of what it owns is not proved.
+pub(crate) fn crosses(handle: PatchLogHandle) -> PatchLogHandle {
+    needs_send(handle)
+}

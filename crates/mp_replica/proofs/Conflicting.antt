@@ -1,0 +1,413 @@
+-- What is known of the stored patches that conflict, as one more is stored.
+use Rattle.std.proofs.Common.{◌≡◌, ◌≢◌, ◌↔◌, ◌⊎◌, inl, inr, List, [], ◌∷◌, ◌++◌, Option, None, Some, IfSome, option_map, refl, sym, ap, ◌∙◌, subst, append_assoc}
+use Rattle.std.proofs.lemmas.List.Elements.{Contains-append_left, Contains-push, Contains-push_cases}
+use Rattle.std.specs.List.{Contains}
+use Rattle.std.specs.List.Sorted.{IsStrictlySortedBy}
+use Rattle.std.specs.Map.{keys_of}
+use Rattle.mp_tree.specs.Document.{Document, IsDocument}
+use Rattle.mp_tree.specs.Look.{Path}
+use Rattle.mp_tree.specs.View.{document}
+use Rattle.mp_tree.specs.declared.doc.Doc.{Doc}
+use Rattle.mp_tree.proofs.Facts.{Contains-nil, IsDocument-document, some_same}
+use Rattle.mp_tree.proofs.Passed.{Passed, Passed-next}
+use Rattle.mp_merge.specs.Clash.{AreAllClashes, Compatible}
+use Rattle.mp_replica.specs.Held.{HasJoined, IsJoinOf}
+use Rattle.mp_replica.specs.PatchLog.{AreUnclashed, ClashesWithNone, HaveArrived, Stored, StoresAlso, identity_cmp, stored_in}
+use Rattle.mp_replica.specs.Private.LawsBelow.{MergeLaws}
+use Rattle.mp_replica.specs.Private.Steps.{HeldJoin, JoinsStay, SameJoins}
+use Rattle.mp_replica.specs.Private.StoredPatches.{AreConflictingWith, AreOthers, Conflicts, FitsAll, IsJoined, JoinsOthers, KnowsConflicts}
+use Rattle.mp_replica.specs.declared.message.Identity.{Identity}
+use Rattle.mp_replica.proofs.Growing.{documents, fits_each, itself, join_of, joined_none, joined_on, joined_still, symmetric}
+use Rattle.mp_replica.proofs.Identities.{decide_identity, entry_stored, stored_entry}
+
+none_ascending : IsStrictlySortedBy identity_cmp []
+unfolding IsStrictlySortedBy
+none_ascending = tt
+
+-- ---- one identity, one patch
+
+pub one_patch : (stored : Stored) (i j : Identity) (p q : Document) → i ≡ j → stored i ≡ Some p → stored j ≡ Some q → p ≡ q
+one_patch stored i j p q same at_i at_j = some_same p q (sym at_i ∙ ap stored same ∙ at_j)
+
+differ : (stored : Stored) (i j : Identity) (q : Document) → stored i ≡ None → stored j ≡ Some q → j ≢ i
+differ stored i j q none at same = let never : Some q ≡ None = sym at ∙ ap stored same ∙ none in cc
+
+pub one_arrived : (stored : Stored) (chosen : List Identity) (i : Identity) → stored i ≢ None → HaveArrived stored chosen → HaveArrived stored (chosen ++ i ∷ [])
+one_arrived stored chosen i some have j at = elim (Contains-push_cases chosen i j at) [
+  | inl before ↦ have j before
+  | inr same ↦ λ none. some (ap stored same ∙ none)
+]
+
+-- one more identity, under which a patch is stored that is compatible, or none
+pub one_fits : (stored : Stored) (ids : List Identity) (i : Identity) (p : Document) → ((q : Document) → stored i ≡ Some q → Compatible p q) → FitsAll stored ids p → FitsAll stored (ids ++ i ∷ []) p
+one_fits stored ids i p agree each j q at here = elim (Contains-push_cases ids i j at) [
+  | inl before ↦ each j q before here
+  | inr same ↦ agree q (ap stored same ∙ here)
+]
+
+-- ---- one more patch p under i
+
+module _ (es fs : Stored) (i : Identity) (p : Document) (absent : es i ≡ None) (more : StoresAlso es i p fs) where
+  still : (j : Identity) (q : Document) → es j ≡ Some q → fs j ≡ Some q
+  still j q at = more.others j (differ es i j q absent at) ∙ at
+
+  new_or_old : (j : Identity) (q : Document) → fs j ≡ Some q → (q ≡ p) ⊎ (es j ≡ Some q)
+  new_or_old j q at = elim (decide_identity j i) [
+    | inl same ↦ inl (one_patch fs j i q p same at more.here)
+    | inr other ↦ inr (sym (more.others j other) ∙ at)
+  ]
+
+  pub none_before : (q : Document) → ClashesWithNone fs q → ClashesWithNone es q
+  none_before q none j r at = none j r (still j r at)
+
+  pub none_after : (q : Document) → Compatible q p → ClashesWithNone es q → ClashesWithNone fs q
+  none_after q agree none j r at = elim (new_or_old j r at) [
+    | inl same ↦ subst (Compatible q) (sym same) agree
+    | inr before ↦ none j r before
+  ]
+
+  itself_after : ClashesWithNone es p → ClashesWithNone fs p
+  itself_after none = none_after p (itself p) none
+
+  -- ---- it clashes with none
+
+  module _ (none : ClashesWithNone es p) where
+    conflicts_still : (j : Identity) → Conflicts es j ↔ Conflicts fs j
+    conflicts_still j = (
+      λ was. (was.0, still j was.0 was.1, λ all. was.2 (none_before was.0 all)),
+      λ is. elim (new_or_old j is.0 is.1) [
+        | inl same ↦ absurd (is.2 (subst (ClashesWithNone fs) (sym same) (itself_after none)))
+        | inr before ↦ (is.0, before, λ all. is.2 (none_after is.0 (symmetric p is.0 (none j is.0 before)) all))
+      ],
+    )
+
+    unclashed_more : (others : List Document) → AreUnclashed es others → AreUnclashed fs (others ++ p ∷ [])
+    unclashed_more others are q = (
+      λ at. elim (Contains-push_cases others p q at) [
+        | inl before ↦
+            let was = (are q).0 before in
+            ((was.0.0, still was.0.0 q was.0.1), none_after q (symmetric p q (none was.0.0 q was.0.1)) was.1)
+        | inr same ↦ subst (λ r. ((j : Identity) × (fs j ≡ Some r)) × ClashesWithNone fs r) same ((i, more.here), itself_after none)
+      ],
+      λ has. elim (new_or_old has.0.0 q has.0.1) [
+        | inl same ↦ subst (Contains (others ++ p ∷ [])) (sym same) (Contains-push others p)
+        | inr before ↦ Contains-append_left others (p ∷ []) q ((are q).1 ((has.0.0, before), none_before q has.1))
+      ],
+    )
+
+  -- ---- it clashes with one
+
+  module _ (laws : MergeLaws) (good : IsDocument p) (clash : ¬ ClashesWithNone es p) (known found : List Identity)
+      (knows : (j : Identity) → Contains known j ↔ Conflicts es j) (now : AreConflictingWith es i p known found) where
+    clashes_now : ¬ ClashesWithNone fs p
+    clashes_now none = clash (none_before p none)
+
+    decide : (q : Document) → Compatible p q ⊎ (¬ Compatible p q)
+    decide q =
+        let all = laws.all_clashes_exist p q good in
+        by all.0 all.1
+      where
+        by : (places : List Path) → AreAllClashes p q places → Compatible p q ⊎ (¬ Compatible p q)
+        by [] all = inl ((laws.none_if_compatible p q [] all).0 refl)
+        by (w ∷ places) all = inr (λ agree. let never = (laws.none_if_compatible p q (w ∷ places) all).1 agree in cc)
+
+    known_from : (j : Identity) → Conflicts fs j → Contains found j
+    known_from j is = elim (decide_identity j i) [
+      | inl same ↦ (now j).1 (inr same)
+      | inr other ↦
+          let before : es j ≡ Some is.0 = sym (more.others j other) ∙ is.1 in
+          (now j).1 (inl (record {
+            other = is.0;
+            at = before;
+            why = elim (decide is.0) [
+              | inl agree ↦ inl ((knows j).1 (is.0, before, λ all. is.2 (none_after is.0 (symmetric p is.0 agree) all)))
+              | inr differ ↦ inr differ
+            ];
+          }))
+    ]
+
+    conflicts_now : (j : Identity) → Contains found j → Conflicts fs j
+    conflicts_now j at = elim ((now j).0 at) [
+      | inl was ↦ (
+        was.other,
+        still j was.other was.at,
+        λ all. elim was.why [
+          | inl before ↦
+              let had = (knows j).0 before in
+              had.2 (subst (ClashesWithNone es) (one_patch es j j was.other had.0 refl was.at had.1) (none_before was.other all))
+          | inr differ ↦ differ (symmetric was.other p (all i p more.here))
+        ],
+      )
+      | inr same ↦ (p, subst (λ k. fs k ≡ Some p) (sym same) more.here, clashes_now)
+    ]
+
+    pub conflicts_found : (j : Identity) → Contains found j ↔ Conflicts fs j
+    conflicts_found j = (conflicts_now j, known_from j)
+
+    pub unclashed_now : (others : List Document) → AreOthers es found others → AreUnclashed fs others
+    unclashed_now others are q = (
+      λ at.
+          let was = (are q).0 at in
+          ((was.0, still was.0 q was.1), λ k r at_k w differ. was.2 (known_from was.0 (q, still was.0 q was.1, λ all. all k r at_k w differ))),
+      λ has. elim (new_or_old has.0.0 q has.0.1) [
+        | inl same ↦ absurd (clashes_now (subst (ClashesWithNone fs) same has.1))
+        | inr before ↦ (are q).1 (
+          has.0.0,
+          before,
+          λ at.
+              let is = conflicts_now has.0.0 at in
+              is.2 (subst (ClashesWithNone fs) (one_patch fs has.0.0 has.0.0 q is.0 refl has.0.1 is.1) has.1),
+        )
+      ],
+    )
+
+-- the patches under identities that are not known to conflict clash with none
+pub quiet_clash_with_none : (stored : Stored) (known : List Identity) (j : Identity) (q : Document) → ((j : Identity) → Contains known j ↔ Conflicts stored j)
+    → stored j ≡ Some q → ¬ Contains known j → ClashesWithNone stored q
+quiet_clash_with_none stored known j q knows at out k r at_k w clash = out ((knows j).1 (q, at, λ all. all k r at_k w clash))
+
+pub others_are_apart : (stored : Stored) (i : Identity) (p : Document) (known found : List Identity) → ((j : Identity) → Contains known j ↔ Conflicts stored j) → AreConflictingWith stored i p known found
+    → (j k : Identity) (q r : Document) → stored j ≡ Some q → stored k ≡ Some r → ¬ Contains found j → ¬ Contains found k → Compatible q r
+others_are_apart stored i p known found knows now j k q r at_j at_k out_j out_k =
+    quiet_clash_with_none stored known j q knows at_j (λ at. out_j ((now j).1 (inl (record { other = q; at = at_j; why = inl at })))) k r at_k
+
+-- what is compatible with each patch is so with their join
+fits_join : (laws : MergeLaws) (ds : List Document) (m : Option Document) (p : Document) → IsJoinOf ds m → ((q : Document) → Contains ds q → Compatible p q) → IfSome m (Compatible p)
+fits_join laws ds None p is each = tt
+fits_join laws ds (Some k) p is each = λ w clash. let one = (laws.clash_with_a_join ds k p w is).0 clash in each one.0 one.1 w one.2
+
+module _ (laws : MergeLaws) (stored : Stored) (known : List Identity) (others : List Document) (m : Option Document) (p : Document)
+    (good : IfSome m IsDocument) (knows : (j : Identity) → Contains known j ↔ Conflicts stored j) (are : AreUnclashed stored others) (joined : HasJoined m None others) where
+  -- a patch that is compatible with the join and with those that conflict clashes with none
+  pub clashes_with_none : IfSome m (Compatible p) → FitsAll stored known p → ClashesWithNone stored p
+  clashes_with_none fits each j q at w clash =
+      let out : ¬ Contains known j = λ here. each j q here at w clash in
+      fits_each laws others m p (join_of laws others m good joined) fits q ((are q).1 ((j, at), quiet_clash_with_none stored known j q knows at out)) w clash
+
+  -- and one that clashes with none is
+  pub fits_if_none : ClashesWithNone stored p → IfSome m (Compatible p)
+  fits_if_none none = fits_join laws others m p (join_of laws others m good joined) (λ q at. let place = ((are q).0 at).0 in none place.0 q place.1)
+
+pub fits_all_if_none : (stored : Stored) (known : List Identity) (p : Document) → ClashesWithNone stored p → FitsAll stored known p
+fits_all_if_none stored known p none j q here at = none j q at
+
+-- ---- all that is known
+
+pub none_known : (laws : MergeLaws) (es : List (Identity × Doc)) (known : List Identity) (join : HeldJoin) → es ≡ [] → known ≡ [] → join.joined ≡ None → join.pending ≡ None → KnowsConflicts es known join
+none_known laws es known join no_patch none no_join settled = record {
+  ascending = rw no_patch none_ascending;
+  conflicting = λ i. (
+    λ at. absurd (Contains-nil i (subst (λ (l : List Identity). Contains l i) none at)),
+    λ is. absurd (let never : None ≡ Some is.0 = subst (λ l. stored_in l i ≡ Some is.0) no_patch is.1 in cc),
+  );
+  others = [];
+  unclashed = λ p. (λ at. absurd (Contains-nil p at), λ has. absurd (let never : None ≡ Some p = subst (λ l. stored_in l has.0.0 ≡ Some p) no_patch has.0.1 in cc));
+  joined = rw (no_join, settled) (joined_none laws);
+}
+
+pub knows_still : {es : List (Identity × Doc)} {known : List Identity} {before now : HeldJoin} → KnowsConflicts es known before → JoinsStay before now → KnowsConflicts es known now
+knows_still knows stays = record {
+  ascending = knows.ascending;
+  conflicting = knows.conflicting;
+  others = knows.others;
+  unclashed = knows.unclashed;
+  joined = joined_still knows.others knows.joined stays;
+}
+
+joined_now : {es : List (Identity × Doc)} {known : List Identity} {before : HeldJoin} → (knows : KnowsConflicts es known before) → before.pending ≡ None → HasJoined (option_map document before.joined) None knows.others
+joined_now {before = before} knows settled = subst (λ o. HasJoined (option_map document before.joined) (option_map document o) knows.others) settled knows.joined
+
+-- one more patch d is stored under i
+module _ (laws : MergeLaws) {es fs : List (Identity × Doc)} {i : Identity} (d : Doc) {known : List Identity} {before : HeldJoin} (knows : KnowsConflicts es known before)
+    (absent : stored_in es i ≡ None) (more : StoresAlso (stored_in es) i (document d) (stored_in fs)) (ascending : IsStrictlySortedBy identity_cmp (keys_of fs)) (settled : before.pending ≡ None) where
+  pub knows_more : {now : HeldJoin} → IfSome (option_map document before.joined) (Compatible (document d)) → FitsAll (stored_in es) known (document d)
+      → SameJoins (option_map document before.joined) (Some (document d)) (option_map document now.joined) (option_map document now.pending) → KnowsConflicts fs known now
+  knows_more fits each stays =
+      let p = document d in
+      let held = option_map document before.joined in
+      let none = clashes_with_none laws (stored_in es) known knows.others held p (documents before.joined) knows.conflicting knows.unclashed (joined_now knows settled) fits each in
+      record {
+        ascending = ascending;
+        conflicting = λ j. (
+          λ at. (conflicts_still (stored_in es) (stored_in fs) i p absent more none j).0 ((knows.conflicting j).0 at),
+          λ is. (knows.conflicting j).1 ((conflicts_still (stored_in es) (stored_in fs) i p absent more none j).1 is),
+        );
+        others = knows.others ++ p ∷ [];
+        unclashed = unclashed_more (stored_in es) (stored_in fs) i p absent more none knows.others knows.unclashed;
+        joined = joined_on laws knows.others held p (IsDocument-document d) (documents before.joined) (joined_now knows settled) fits stays;
+      }
+
+  pub knows_conflict : {found : List Identity} {now : HeldJoin} → ¬ (IfSome (option_map document before.joined) (Compatible (document d)) × FitsAll (stored_in es) known (document d))
+      → AreConflictingWith (stored_in es) i (document d) known found → JoinsOthers (stored_in es) found now → KnowsConflicts fs found now
+  knows_conflict {found} some found_are others =
+      let p = document d in
+      let clash : ¬ ClashesWithNone (stored_in es) p = λ none. some (
+        fits_if_none laws (stored_in es) known knows.others (option_map document before.joined) p (documents before.joined) knows.conflicting knows.unclashed (joined_now knows settled) none,
+        fits_all_if_none (stored_in es) known p none,
+      ) in
+      record {
+        ascending = ascending;
+        conflicting = conflicts_found (stored_in es) (stored_in fs) i p absent more laws (IsDocument-document d) clash known found knows.conflicting found_are;
+        others = others.0;
+        unclashed = unclashed_now (stored_in es) (stored_in fs) i p absent more laws (IsDocument-document d) clash known found knows.conflicting found_are others.0 others.1;
+        joined = others.2;
+      }
+
+-- ---- walks over the entries
+
+-- of the entries so far those that conflict with p, or were known to conflict
+pub record IsFoundIn (passed : List (Identity × Doc)) (p : Document) (known : List Identity) (i : Identity) : Type 0 where
+  pub entry : Doc
+  pub at : Contains passed (i, entry)
+  pub why : Contains known i ⊎ (¬ Compatible p (document entry))
+
+abbrev pub AreFoundIn : List (Identity × Doc) → Document → List Identity → List Identity → Type 0
+AreFoundIn passed p known found = (i : Identity) → Contains found i ↔ IsFoundIn passed p known i
+
+pub none_found : (p : Document) (known : List Identity) → AreFoundIn [] p known []
+none_found p known i = (λ at. absurd (Contains-nil i at), λ is. absurd (Contains-nil (i, is.entry) is.at))
+
+found_on : (passed : List (Identity × Doc)) (e : Identity × Doc) (p : Document) (known : List Identity) (i : Identity) → IsFoundIn passed p known i → IsFoundIn (passed ++ e ∷ []) p known i
+found_on passed e p known i is = record { entry = is.entry; at = Contains-append_left passed (e ∷ []) (i, is.entry) is.at; why = is.why }
+
+pub one_found : (passed : List (Identity × Doc)) (p : Document) (known found : List Identity) (i : Identity) (d : Doc) → Contains known i ⊎ (¬ Compatible p (document d)) → AreFoundIn passed p known found
+    → AreFoundIn (passed ++ (i, d) ∷ []) p known (found ++ i ∷ [])
+one_found passed p known found i d why are j = (
+  λ at. elim (Contains-push_cases found i j at) [
+    | inl before ↦ found_on passed (i, d) p known j ((are j).0 before)
+    | inr same ↦ subst (IsFoundIn (passed ++ (i, d) ∷ []) p known) same (record { entry = d; at = Contains-push passed (i, d); why = why })
+  ],
+  λ is. elim (Contains-push_cases passed (i, d) (j, is.entry) is.at) [
+    | inl before ↦ Contains-append_left found (i ∷ []) j ((are j).1 (record { entry = is.entry; at = before; why = is.why }))
+    | inr same ↦ subst (Contains (found ++ i ∷ [])) (ap (λ e. e.0) same) (Contains-push found i)
+  ],
+)
+
+pub none_more_found : (passed : List (Identity × Doc)) (p : Document) (known found : List Identity) (i : Identity) (d : Doc) → ¬ Contains known i → Compatible p (document d) → AreFoundIn passed p known found
+    → AreFoundIn (passed ++ (i, d) ∷ []) p known found
+none_more_found passed p known found i d out agree are j = (
+  λ at. found_on passed (i, d) p known j ((are j).0 at),
+  λ is. elim (Contains-push_cases passed (i, d) (j, is.entry) is.at) [
+    | inl before ↦ (are j).1 (record { entry = is.entry; at = before; why = is.why })
+    | inr same ↦ elim is.why [
+      | inl here ↦ absurd (out (subst (Contains known) (sym (ap (λ e. e.0) same)) here))
+      | inr clash ↦ absurd (clash (subst (λ e. Compatible p (document e)) (ap (λ e. e.1) same) agree))
+    ]
+  ],
+)
+
+-- all entries are passed, and the new identity is added
+pub all_found : (es : List (Identity × Doc)) (p : Document) (known found : List Identity) (i : Identity) → IsStrictlySortedBy identity_cmp (keys_of es) → AreFoundIn es p known found
+    → AreConflictingWith (stored_in es) i p known (found ++ i ∷ [])
+all_found es p known found i ascending are j = (
+  λ at. elim (Contains-push_cases found i j at) [
+    | inl before ↦
+        let is = (are j).0 before in
+        inl (record { other = document is.entry; at = stored_entry es j is.entry ascending is.at; why = is.why })
+    | inr same ↦ inr (sym same)
+  ],
+  λ is. elim is [
+    | inl was ↦
+        let entry = entry_stored es j was.other was.at in
+        Contains-append_left found (i ∷ []) j ((are j).1 (record {
+          entry = entry.0;
+          at = entry.1;
+          why = subst (λ q. Contains known j ⊎ (¬ Compatible p q)) (sym entry.2) was.why;
+        }))
+    | inr same ↦ subst (Contains (found ++ i ∷ [])) (sym same) (Contains-push found i)
+  ],
+)
+
+-- a patch of the entries so far that is not among those that conflict
+pub record IsOther (passed : List (Identity × Doc)) (conflicting : List Identity) (p : Document) : Type 0 where
+  pub identity : Identity
+  pub entry : Doc
+  pub at : Contains passed (identity, entry)
+  pub is : document entry ≡ p
+  pub out : ¬ Contains conflicting identity
+
+-- the join of those
+pub record JoinsThose (passed : List (Identity × Doc)) (conflicting : List Identity) (join : HeldJoin) : Type 0 where
+  pub patches : List Document
+  pub are : (p : Document) → Contains patches p ↔ IsOther passed conflicting p
+  pub joined : IsJoined join patches
+
+pub none_of_those : (laws : MergeLaws) (conflicting : List Identity) (join : HeldJoin) → join.joined ≡ None → join.pending ≡ None → JoinsThose [] conflicting join
+none_of_those laws conflicting join no_join settled = record {
+  patches = [];
+  are = λ p. (λ at. absurd (Contains-nil p at), λ other. absurd (Contains-nil (other.identity, other.entry) other.at));
+  joined = rw (no_join, settled) (joined_none laws);
+}
+
+other_on : (passed : List (Identity × Doc)) (e : Identity × Doc) (conflicting : List Identity) (p : Document) → IsOther passed conflicting p → IsOther (passed ++ e ∷ []) conflicting p
+other_on passed e conflicting p other = record { identity = other.identity; entry = other.entry; at = Contains-append_left passed (e ∷ []) (other.identity, other.entry) other.at; is = other.is; out = other.out }
+
+-- one that conflicts is passed over
+pub one_over : (passed : List (Identity × Doc)) (i : Identity) (d : Doc) (conflicting : List Identity) (join : HeldJoin) → Contains conflicting i → JoinsThose passed conflicting join → JoinsThose (passed ++ (i, d) ∷ []) conflicting join
+one_over passed i d conflicting join here joins = record {
+  patches = joins.patches;
+  are = λ p. (
+    λ at. other_on passed (i, d) conflicting p ((joins.are p).0 at),
+    λ other. elim (Contains-push_cases passed (i, d) (other.identity, other.entry) other.at) [
+      | inl before ↦ (joins.are p).1 (record { identity = other.identity; entry = other.entry; at = before; is = other.is; out = other.out })
+      | inr same ↦ absurd (other.out (subst (Contains conflicting) (ap (λ e. e.0) same) here))
+    ],
+  );
+  joined = joins.joined;
+}
+
+module _ (laws : MergeLaws) (es passed : List (Identity × Doc)) (i : Identity) (d copy : Doc) (conflicting : List Identity) (join : HeldJoin) (ascending : IsStrictlySortedBy identity_cmp (keys_of es))
+    (within : (e : Identity × Doc) → Contains (passed ++ (i, d) ∷ []) e → Contains es e) (equal : document copy ≡ document d) (out : ¬ Contains conflicting i) (settled : join.pending ≡ None)
+    (apart : (j k : Identity) (p q : Document) → stored_in es j ≡ Some p → stored_in es k ≡ Some q → ¬ Contains conflicting j → ¬ Contains conflicting k → Compatible p q)
+    (joins : JoinsThose passed conflicting join) where
+  joined_here : HasJoined (option_map document join.joined) None joins.patches
+  joined_here = subst (λ o. HasJoined (option_map document join.joined) (option_map document o) joins.patches) settled joins.joined
+
+  agrees : (q : Document) → Contains joins.patches q → Compatible (document copy) q
+  agrees q at =
+      let other = (joins.are q).0 at in
+      let here = stored_entry es i d ascending (within (i, d) (Contains-push passed (i, d))) in
+      let there = stored_entry es other.identity other.entry ascending (within (other.identity, other.entry) (Contains-append_left passed ((i, d) ∷ []) (other.identity, other.entry) other.at)) in
+      subst (λ p. Compatible p q) (sym equal) (subst (Compatible (document d)) other.is (apart i other.identity (document d) (document other.entry) here there out other.out))
+
+  -- one more fits
+  pub other_fits : IfSome (option_map document join.joined) (Compatible (document copy))
+  other_fits = fits_join laws joins.patches (option_map document join.joined) (document copy) (join_of laws joins.patches (option_map document join.joined) (documents join.joined) joined_here) agrees
+
+  -- and is joined
+  pub one_other : (now : HeldJoin) → SameJoins (option_map document join.joined) (Some (document copy)) (option_map document now.joined) (option_map document now.pending) → JoinsThose (passed ++ (i, d) ∷ []) conflicting now
+  one_other now stays = record {
+    patches = joins.patches ++ document copy ∷ [];
+    are = λ p. (
+      λ at. elim (Contains-push_cases joins.patches (document copy) p at) [
+        | inl before ↦ other_on passed (i, d) conflicting p ((joins.are p).0 before)
+        | inr same ↦ record { identity = i; entry = d; at = Contains-push passed (i, d); is = sym equal ∙ same; out = out }
+      ],
+      λ other. elim (Contains-push_cases passed (i, d) (other.identity, other.entry) other.at) [
+        | inl before ↦ Contains-append_left joins.patches (document copy ∷ []) p ((joins.are p).1 (record { identity = other.identity; entry = other.entry; at = before; is = other.is; out = other.out }))
+        | inr same ↦ subst (Contains (joins.patches ++ document copy ∷ [])) (equal ∙ ap (λ e. document e.1) same ∙ other.is) (Contains-push joins.patches (document copy))
+      ],
+    );
+    joined = joined_on laws joins.patches (option_map document join.joined) (document copy) (IsDocument-document copy) (documents join.joined) joined_here other_fits stays;
+  }
+
+-- all entries are passed
+pub joins_others : (es : List (Identity × Doc)) (conflicting : List Identity) (join : HeldJoin) → IsStrictlySortedBy identity_cmp (keys_of es) → JoinsThose es conflicting join → JoinsOthers (stored_in es) conflicting join
+joins_others es conflicting join ascending joins = (
+  joins.patches,
+  λ p. (
+    λ at.
+        let other = (joins.are p).0 at in
+        (other.identity, stored_entry es other.identity other.entry ascending other.at ∙ ap Some other.is, other.out),
+    λ has.
+        let entry = entry_stored es has.0 p has.1 in
+        (joins.are p).1 (record { identity = has.0; entry = entry.0; at = entry.1; is = entry.2; out = has.2 }),
+  ),
+  joins.joined,
+)
+
+-- what was passed and what comes next are entries
+pub within_entries : {es left more : List (Identity × Doc)} {e : Identity × Doc} {Holds : List (Identity × Doc) → Type 0} → (passed : Passed es left Holds) → left ≡ e ∷ more
+    → (x : Identity × Doc) → Contains (passed.passed ++ e ∷ []) x → Contains es x
+within_entries {more = more} {e = e} passed next x at =
+    subst (λ l. Contains l x) (sym (Passed-next passed next ∙ sym (append_assoc passed.passed (e ∷ []) more))) (Contains-append_left (passed.passed ++ e ∷ []) more x at)

@@ -1,0 +1,33 @@
+-- Texts of a patch log: the pairs that conflict.
+use Rattle.std.specs.Prelude.{◌≡◌, ◌++◌, ℕ, pos, List, [], ◌∷◌, codes}
+use Rattle.mp_tree.specs.Document.{Document, list, item, no_items, whole}
+use Rattle.mp_tree.specs.Text.{text as compact}
+use Rattle.mp_texts.specs.Answers.{places_list}
+use Rattle.mp_replica.specs.PatchLog.{AreAllPairs, Pair, Stored}
+use Rattle.mp_replica.specs.declared.message.Identity.{Identity}
+
+-- an array of the sender and the number
+abbrev pub identity_document : Identity → Document
+identity_document i = list (item (whole (pos i.sender)) (item (whole (pos i.number)) no_items))
+
+-- an object of both identities, and of the places as an array of pointers
+abbrev pub pair_text : Pair → List ℕ
+pair_text pair =
+    codes "{\"first\":" ++ compact (identity_document pair.first) ++ codes ",\"second\":"
+    ++ compact (identity_document pair.second) ++ codes ",\"places\":" ++ compact (places_list pair.places) ++ codes "}"
+
+-- each after a comma
+abbrev pub more_pairs_text : List Pair → List ℕ
+more_pairs_text [] = []
+more_pairs_text (pair ∷ pairs) = codes "," ++ pair_text pair ++ more_pairs_text pairs
+
+-- an array of the pairs
+abbrev pub pairs_text : List Pair → List ℕ
+pairs_text [] = codes "[]"
+pairs_text (pair ∷ pairs) = codes "[" ++ pair_text pair ++ more_pairs_text pairs ++ codes "]"
+
+-- the text of all pairs that conflict
+pub record IsConflictsText (stored : Stored) (answer : List ℕ) : Type 0 where
+  pub pairs : List Pair
+  pub are_all : AreAllPairs stored pairs
+  pub is : answer ≡ pairs_text pairs

@@ -1,0 +1,158 @@
+-- What a patch log stores, which of that conflicts, what it shows, and what it begins once it is decided.
+use Rattle.std.specs.Prelude.{◌≡◌, ◌≢◌, ◌+◌, ◌^◌, ◌<◌, ◌≤◌, ◌↔◌, ℕ, List, Option, None, Some, map, take, slice_get, option_map, ⊤}
+use Rattle.std.specs.List.{All, Contains}
+use Rattle.std.specs.List.Sorted.{IsStrictlySortedBy}
+use Rattle.std.specs.Ordering.{nat_cmp, ordering_then}
+use Rattle.std.specs.declared.cmp.Ordering.{Ordering}
+use Rattle.std.specs.declared.cmp.Ordering.TheVariants.{Less}
+use Rattle.std.specs.BTreeMap.{is_at}
+use Rattle.std.specs.Map.{lookup}
+use Rattle.mp_tree.specs.Document.{Document}
+use Rattle.mp_tree.specs.Look.{Path}
+use Rattle.mp_tree.specs.View.{document}
+use Rattle.mp_tree.specs.declared.doc.Doc.{Doc}
+use Rattle.mp_merge.specs.Clash.{Compatible, AreConflictsOfPair}
+use Rattle.mp_merge.specs.Outcome.{IsOutcome}
+use Rattle.mp_replica.specs.declared.fault.DecideFault.{DecideFault}
+use Rattle.mp_replica.specs.declared.fault.DecideFault.TheVariants.{NotReceived, Conflict, LastEpoch, OutOfMemory}
+use Rattle.mp_replica.specs.declared.message.Identity.{Identity}
+use Rattle.mp_replica.specs.declared.pairs.ConflictingPair.{ConflictingPair}
+
+-- ---- what is stored
+
+-- by the sender, and then by the number
+abbrev pub identity_cmp : Identity → Identity → Ordering
+identity_cmp i j = ordering_then (nat_cmp i.sender j.sender) (nat_cmp i.number j.number)
+
+-- the number of the start, the start, and each patch that arrived for it, in the order of identities
+pub record HeldLog : Type 0 where
+  pub epoch : ℕ
+  pub start : Doc
+  pub stored : List (Identity × Doc)
+
+-- under each identity the patch that is stored there, if one is
+abbrev pub Stored : Type 0
+Stored = Identity → Option Document
+
+abbrev pub stored_in : List (Identity × Doc) → Stored
+stored_in patches i = option_map document (lookup (is_at (identity_cmp i)) patches)
+
+abbrev pub stored_of : HeldLog → Stored
+stored_of log = stored_in log.stored
+
+abbrev pub start_of : HeldLog → Document
+start_of log = document log.start
+
+-- the patch is stored under this identity, and under each other what was there before
+pub record StoresAlso (before : Stored) (i : Identity) (p : Document) (now : Stored) : Type 0 where
+  pub here : now i ≡ Some p
+  pub others : (j : Identity) → j ≢ i → now j ≡ before j
+
+-- a patch is stored under each of these identities
+abbrev pub HaveArrived : Stored → List Identity → Type 0
+HaveArrived stored chosen = (i : Identity) → Contains chosen i → stored i ≢ None
+
+-- two patch logs with one start and the same patches, each under its identity, in whatever order they arrived
+pub record AreAlike (one other : HeldLog) : Type 0 where
+  pub epoch : one.epoch ≡ other.epoch
+  pub start : start_of one ≡ start_of other
+  pub stored : (i : Identity) → stored_of one i ≡ stored_of other i
+
+-- ---- what conflicts
+
+-- the patches that are stored under the two clash
+pub record DoClash (stored : Stored) (i j : Identity) : Type 0 where
+  pub one : Document
+  pub other : Document
+  pub at_first : stored i ≡ Some one
+  pub at_second : stored j ≡ Some other
+  pub clash : ¬ Compatible one other
+
+-- a pair of identities, and places
+pub record Pair : Type 0 where
+  pub first : Identity
+  pub second : Identity
+  pub places : List Path
+
+abbrev pub seen : ConflictingPair → Pair
+seen found = record { first = found.first; second = found.second; places = found.places.items }
+
+-- the patches that are stored under the two clash, the first identity is below the second, and these are all their
+-- conflicts
+pub record IsClashing (stored : Stored) (pair : Pair) : Type 0 where
+  pub one : Document
+  pub other : Document
+  pub at_first : stored pair.first ≡ Some one
+  pub at_second : stored pair.second ≡ Some other
+  pub in_order : identity_cmp pair.first pair.second ≡ Less
+  pub conflicts : AreConflictsOfPair one other pair.places
+
+-- by the first, and then by the second
+abbrev pub pair_cmp : Identity × Identity → Identity × Identity → Ordering
+pair_cmp a b = ordering_then (identity_cmp a.0 b.0) (identity_cmp a.1 b.1)
+
+abbrev pub identities_of : Pair → Identity × Identity
+identities_of pair = (pair.first, pair.second)
+
+-- each two stored patches that clash, once, in the order of pairs
+pub record AreAllPairs (stored : Stored) (pairs : List Pair) : Type 0 where
+  pub rising : IsStrictlySortedBy pair_cmp (map identities_of pairs)
+  pub each : All (IsClashing stored) pairs
+  pub all : (i j : Identity) → identity_cmp i j ≡ Less → DoClash stored i j → Contains (map identities_of pairs) (i, j)
+
+-- ---- what is shown
+
+-- the patch is compatible with each that is stored
+abbrev pub ClashesWithNone : Stored → Document → Type 0
+ClashesWithNone stored p = (i : Identity) (q : Document) → stored i ≡ Some q → Compatible p q
+
+-- these are the stored patches that clash with none
+abbrev pub AreUnclashed : Stored → List Document → Type 0
+AreUnclashed stored patches =
+    (p : Document) → Contains patches p ↔ (((i : Identity) × (stored i ≡ Some p)) × ClashesWithNone stored p)
+
+-- the outcome of the start and of those alone
+pub record Shows (start : Document) (stored : Stored) (shown : Document) : Type 0 where
+  pub patches : List Document
+  pub unclashed : AreUnclashed stored patches
+  pub outcome : IsOutcome start patches shown
+
+-- ---- what is decided
+
+-- these are the patches with the chosen identities
+abbrev pub AreChosen : Stored → List Identity → List Document → Type 0
+AreChosen stored chosen patches =
+    (p : Document) → Contains patches p ↔ ((i : Identity) × Contains chosen i × (stored i ≡ Some p))
+
+-- all that was chosen has arrived, the new start is the outcome of the old one and of those, and nothing has arrived for it
+pub record Begins (before : HeldLog) (chosen : List Identity) (now : HeldLog) : Type 0 where
+  pub arrived : HaveArrived (stored_of before) chosen
+  pub patches : List Document
+  pub are_chosen : AreChosen (stored_of before) chosen patches
+  pub start : IsOutcome (start_of before) patches (start_of now)
+  pub epoch : now.epoch ≡ before.epoch + 1
+  pub forgotten : (i : Identity) → stored_of now i ≡ None
+
+-- no patch is stored under the identity, and it is the first of those that were chosen
+pub record IsFirstMissing (stored : Stored) (chosen : List Identity) (i : Identity) : Type 0 where
+  pub k : ℕ
+  pub at : slice_get chosen k ≡ Some i
+  pub missing : stored i ≡ None
+  pub before : HaveArrived stored (take k chosen)
+
+-- both were chosen and clash, and no two that were chosen and clash come before them in the order of pairs
+pub record IsFirstPair (stored : Stored) (chosen : List Identity) (pair : Pair) : Type 0 where
+  pub chosen_first : Contains chosen pair.first
+  pub chosen_second : Contains chosen pair.second
+  pub clashing : IsClashing stored pair
+  pub least : (i j : Identity) → Contains chosen i → Contains chosen j → identity_cmp i j ≡ Less → DoClash stored i j
+      → pair_cmp (i, j) (identities_of pair) ≢ Less
+
+-- why no new start is begun: the first of these that holds; out of memory says nothing of it
+abbrev pub IsDecideFault : DecideFault → HeldLog → List Identity → Type 0
+IsDecideFault LastEpoch log chosen = 2 ^ 64 ≤ log.epoch + 1
+IsDecideFault (NotReceived i) log chosen = (log.epoch + 1 < 2 ^ 64) × IsFirstMissing (stored_of log) chosen i
+IsDecideFault (Conflict first second places) log chosen =
+    (log.epoch + 1 < 2 ^ 64) × HaveArrived (stored_of log) chosen
+    × IsFirstPair (stored_of log) chosen (record { first = first; second = second; places = places.items })
+IsDecideFault OutOfMemory log chosen = ⊤

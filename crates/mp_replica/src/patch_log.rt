@@ -1,0 +1,168 @@
+//! A replica that keeps the patches themselves, each with its identity: it can follow a decision where patches conflict.
+ghost use Rattle.std.specs.Prelude.{◌≡◌, ◌≢◌, ◌∷◌, ◌++◌, ◌<◌, ℕ, List, [], None, map, Ok, IfOk, IfErr, OnOk, OnErr};
+ghost use Rattle.mp_tree.specs.Document.{Document};
+ghost use Rattle.mp_tree.specs.View.{document};
+ghost use Rattle.mp_replica.specs.Messages.{LogFollows, Sent, sent};
+ghost use Rattle.mp_replica.specs.PatchLog.{AreAllPairs, Begins, IsDecideFault, Shows, StoresAlso, seen, start_of, stored_of};
+
+use crate::fault::DecideFault;
+use crate::message::{Arrival, Identity, Message};
+use crate::pairs::ConflictingPair;
+use crate::stored_patches::StoredPatches;
+use mp_tree::Doc;
+use std::alloc::{AllocError, Global};
+use std::marker::Model;
+
+/// A start and its number, and the patches that arrived for it, each under its identity. It shows the outcome of the start and
+/// of the patches that conflict with no other, reports the others, and follows a decision, which begins a new start.
+///
+/// Receiving a patch that conflicts with nothing costs what the patch costs, times the logarithm of the number of patches that
+/// are stored and of the number of names around each of its values; it is compared with each patch that conflicts with
+/// another, too. One that conflicts may cost what is stored. What is held is the start, the patches, and the join of those
+/// that conflict with no other.
+#[derive(Drop)]
+pub struct PatchLog {
+    /// The number of the start.
+    epoch: u64,
+    /// The document that the log began with.
+    start: Doc,
+    /// The patches of this start.
+    stored: StoredPatches,
+}
+
+impl Model for PatchLog {
+    ghost use Rattle.std.specs.Coded.{codes};
+    ghost use Rattle.mp_tree.specs.contracts.doc.Doc.{the_row};
+    ghost use Rattle.mp_replica.specs.PatchLog.{HeldLog};
+
+    ghost Value = { HeldLog };
+
+    ghost view = { λ r. record { epoch = r.epoch; start = r.start; stored = r.stored } };
+
+    ghost coded = { Prim.hlevel (codes, the_row.coded) };
+}
+
+impl PatchLog {
+    /// A log that begins with this start, and to which nothing has arrived.
+    ///
+    /// ```text
+    /// let mut log = PatchLog::new(alloc, 7, read_doc(alloc, b"{\"a\":1}")?);
+    /// ```
+    pub fn new(alloc: Global, epoch: u64, start: Doc) -> PatchLog
+        ensures start { result.start ≡ start }
+        ensures epoch { result.epoch ≡ epoch }
+        ensures stored { (i : Identity) → stored_of result i ≡ None }
+        ensures received { LogFollows epoch (document start) [] result }
+    {
+        PatchLog {
+            epoch,
+            start,
+            stored: StoredPatches::new(alloc),
+        }
+    }
+
+    /// The number of its start: a decision is of one start, so it is handed on to `decide` while this is its number.
+    pub fn epoch(&self) -> u64
+        ensures { result ≡ self.now.epoch }
+    {
+        self.epoch
+    }
+
+    /// Receives a message. A patch of this start is stored, once, whether it conflicts with others or not.
+    ///
+    /// `Late` and `Early` exactly if the message is of an earlier or of a later start, `Repeat` exactly if a patch with its
+    /// identity is stored already: nothing changes then. `AllocError` if memory ran out: nothing has changed.
+    ///
+    /// ```text
+    /// let identity = Identity { sender: 1, number: 1 };
+    /// log.receive(alloc, &Message { epoch: 7, identity, patch })  // Arrival::Stored, and Arrival::Repeat if it comes again
+    /// ```
+    pub fn receive(&mut self, alloc: Global, message: &Message) -> Result<Arrival, AllocError>
+        ensures stored { message.now.epoch ≡ self.old.epoch
+            → stored_of self.old message.now.identity ≡ None → IfOk result (λ what.
+            (what ≡ Arrival.Stored) × StoresAlso (stored_of self.old) message.now.identity
+            (document message.now.patch) (stored_of self.new)) }
+        ensures repeat { message.now.epoch ≡ self.old.epoch
+            → stored_of self.old message.now.identity ≢ None
+            → (result ≡ Ok Arrival.Repeat) × (self.new ≡ self.old) }
+        ensures late { message.now.epoch < self.old.epoch
+            → (result ≡ Ok Arrival.Late) × (self.new ≡ self.old) }
+        ensures early { self.old.epoch < message.now.epoch
+            → (result ≡ Ok Arrival.Early) × (self.new ≡ self.old) }
+        ensures start { self.new.start ≡ self.old.start }
+        ensures epoch { self.new.epoch ≡ self.old.epoch }
+        ensures received { IfOk result (λ _. (epoch : ℕ) (start : Document) (messages : List Sent)
+            → LogFollows epoch start messages self.old
+            → LogFollows epoch start (messages ++ sent message.now ∷ []) self.new) }
+        ensures unchanged { OnErr result (self.new ≡ self.old) }
+    {
+        if message.epoch < self.epoch {
+            return Ok(Arrival::Late);
+        }
+        if message.epoch > self.epoch {
+            return Ok(Arrival::Early);
+        }
+        if self.stored.has(message.identity) {
+            return Ok(Arrival::Repeat);
+        }
+        let patch = message.patch.copy(alloc)?;
+        self.stored.insert(alloc, message.identity, patch)?;
+        Ok(Arrival::Stored)
+    }
+
+    /// The document that the log shows: the outcome of its start and of the patches that conflict with no other. It costs what
+    /// the start and the join of those patches cost. `AllocError` if memory ran out.
+    pub fn document(&self, alloc: Global) -> Result<Doc, AllocError>
+        ensures { IfOk result (λ shown.
+            Shows (start_of self.now) (stored_of self.now) (document shown)) }
+    {
+        self.stored.outcome(alloc, &self.start)
+    }
+
+    /// Each two patches that conflict, once: what is reported to the decider. The lower identity comes first, and the pairs
+    /// are in the order of the first and then of the second. Only patches that conflict with another are compared.
+    /// `AllocError` if memory ran out.
+    ///
+    /// ```text
+    /// log.conflicts(alloc)  // /a of 1:1 and 2:1 after {"a":1} and {"a":2}
+    /// ```
+    pub fn conflicts(&self, alloc: Global) -> Result<Vec<ConflictingPair>, AllocError>
+        ensures { IfOk result (λ pairs.
+            AreAllPairs (stored_of self.now) (map seen pairs.items)) }
+    {
+        self.stored.conflicts(alloc)
+    }
+
+    /// Begins the new start, with which the old one ends by these patches; all others are forgotten, and one that is still
+    /// wanted is made anew by its sender. The order in which they are named does not count, nor do repeats.
+    ///
+    /// In this order: `LastEpoch` if no number is left for a start; `NotReceived` with the first of the identities under which
+    /// no patch is stored; `Conflict` with the first pair of [`PatchLog::conflicts`] that was chosen. `OutOfMemory` may come
+    /// at any point. Then nothing is changed.
+    ///
+    /// ```text
+    /// log.decide(alloc, &[Identity { sender: 1, number: 1 }])  // the start with that patch, and epoch 8
+    /// ```
+    pub fn decide(&mut self, alloc: Global, chosen: &[Identity]) -> Result<(), DecideFault>
+        ensures begins { OnOk result (Begins self.old chosen.now self.new) }
+        ensures refused { IfErr result (λ fault. IsDecideFault fault self.old chosen.now) }
+        ensures unchanged { OnErr result (self.new ≡ self.old) }
+    {
+        let Some(epoch) = self.epoch.checked_add(1) else {
+            return Err(DecideFault::LastEpoch);
+        };
+        if let Some(identity) = self.stored.first_missing(chosen) {
+            return Err(DecideFault::NotReceived(identity));
+        }
+        if let Some(pair) = self.stored.first_conflict(alloc, chosen)? {
+            return Err(DecideFault::Conflict {
+                first: pair.first,
+                second: pair.second,
+                places: pair.places,
+            });
+        }
+        let start = self.stored.after(alloc, &self.start, chosen)?;
+        *self = PatchLog::new(alloc, epoch, start);
+        Ok(())
+    }
+}

@@ -1,0 +1,99 @@
+//! A log of patches, over texts.
+ghost use Rattle.std.specs.Prelude.{◌≡◌, ◌≢◌, ◌∷◌, ◌++◌, ◌<◌, ℕ, List, [], None, Ok, IfOk, IfErr, OnErr, MatchResult, string_bytes};
+ghost use Rattle.mp_tree.specs.Document.{Document, IsDocument};
+ghost use Rattle.mp_tree.specs.Text.{document_in, text as compact};
+ghost use Rattle.mp_replica.specs.Faults.{IsOutOfMemory, IsUnread};
+ghost use Rattle.mp_replica.specs.LogTexts.{IsConflictsText};
+ghost use Rattle.mp_replica.specs.Messages.{LogFollows, Becomes, Sent};
+ghost use Rattle.mp_replica.specs.PatchLog.{Shows, start_of, stored_of};
+
+use crate::fault::LiveFault;
+use crate::message::{Arrival, Identity, Message};
+use crate::pairs_texts::write_pairs;
+use crate::patch_log::PatchLog;
+use crate::reading::document_of;
+use mp_tree::write_doc;
+use std::alloc::Global;
+
+impl PatchLog {
+    /// A log that begins with the document of this text, and to which nothing has arrived.
+    ///
+    /// `Document` if the text is not a document; `OutOfMemory` may come at any point.
+    ///
+    /// ```text
+    /// let mut log = PatchLog::from_text(alloc, 7, b"{\"a\":1}")?;
+    /// ```
+    pub fn from_text(alloc: Global, epoch: u64, start: &[u8]) -> Result<PatchLog, LiveFault>
+        ensures start { MatchResult result (λ log. document_in start.now ≡ Ok (start_of log))
+            (λ fault. IsUnread fault start.now) }
+        ensures epoch { IfOk result (λ log. log.epoch ≡ epoch) }
+        ensures stored { IfOk result (λ log. (i : Identity) → stored_of log i ≡ None) }
+        ensures received { IfOk result (λ log. LogFollows epoch (start_of log) [] log) }
+    {
+        let start = document_of(alloc, start)?;
+        Ok(PatchLog::new(alloc, epoch, start))
+    }
+
+    /// Receives a message whose patch is this text, as [`PatchLog::receive`] does. The text is read first, so that one that is
+    /// no document is reported whatever was received before, and for whichever start it is.
+    ///
+    /// `Document` if the text is not a document; `OutOfMemory` if memory ran out. Then nothing is changed.
+    ///
+    /// ```text
+    /// log.receive_text(alloc, 7, Identity { sender: 1, number: 1 }, b"{\"b\":2}")  // Arrival::Stored
+    /// ```
+    pub fn receive_text(
+        &mut self,
+        alloc: Global,
+        epoch: u64,
+        identity: Identity,
+        patch: &[u8],
+    ) -> Result<Arrival, LiveFault>
+        ensures read { IfOk result (λ _. (p : Document) × (document_in patch.now ≡ Ok p)) }
+        ensures receives { IfOk result (λ what. (p : Document) → document_in patch.now ≡ Ok p
+            → Becomes what (record { epoch = epoch; identity = identity; patch = p })
+            self.old self.new) }
+        ensures received { IfOk result (λ _. (start : Document) (messages : List Sent) (n : ℕ)
+            → LogFollows n start messages self.old → (p : Document)
+            → document_in patch.now ≡ Ok p → LogFollows n start
+            (messages ++ record { epoch = epoch; identity = identity; patch = p } ∷ []) self.new) }
+        ensures fault { IfErr result (λ fault. IsUnread fault patch.now) }
+        ensures unchanged { OnErr result (self.new ≡ self.old) }
+    {
+        let patch = document_of(alloc, patch)?;
+        let message = Message {
+            epoch,
+            identity,
+            patch,
+        };
+        Ok(self.receive(alloc, &message)?)
+    }
+
+    /// The compact text of the document that the log shows, as [`PatchLog::document`] gives it. `OutOfMemory` if memory ran out.
+    ///
+    /// ```text
+    /// log.document_text(alloc)  // {"a":1,"b":2}
+    /// ```
+    pub fn document_text(&self, alloc: Global) -> Result<String, LiveFault>
+        ensures { MatchResult result (λ text. (d : Document) × IsDocument d
+            × Shows (start_of self.now) (stored_of self.now) d × (string_bytes text ≡ compact d))
+            IsOutOfMemory }
+    {
+        let document = self.document(alloc)?;
+        Ok(write_doc(alloc, &document)?)
+    }
+
+    /// Each two patches that conflict, as [`PatchLog::conflicts`] gives them, as a JSON array of objects: `first` and `second`
+    /// are arrays of the sender and the number, and `places` is an array of pointers. `OutOfMemory` if memory ran out.
+    ///
+    /// ```text
+    /// log.conflicts_text(alloc)  // [{"first":[1,1],"second":[2,1],"places":["/a"]}]
+    /// ```
+    pub fn conflicts_text(&self, alloc: Global) -> Result<String, LiveFault>
+        ensures { MatchResult result
+            (λ text. IsConflictsText (stored_of self.now) (string_bytes text)) IsOutOfMemory }
+    {
+        let pairs = self.conflicts(alloc)?;
+        Ok(write_pairs(alloc, pairs.as_slice())?)
+    }
+}

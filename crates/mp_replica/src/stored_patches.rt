@@ -1,0 +1,234 @@
+//! The patches of one start, each under its identity, and what is known of those that conflict.
+ghost use Rattle.std.specs.Prelude.{◌≡◌, ◌≢◌, ◌↔◌, ◌⊎◌, ℕ, List, [], None, Some, IsTrue, IfOk, MatchOption, OnErr, OnOk, map, option_map};
+ghost use Rattle.std.specs.List.{Contains};
+ghost use Rattle.mp_tree.specs.Document.{Document};
+ghost use Rattle.mp_tree.specs.View.{document};
+ghost use Rattle.mp_merge.specs.Clash.{Compatible};
+ghost use Rattle.mp_merge.specs.Outcome.{IsOutcome};
+ghost use Rattle.mp_replica.specs.PatchLog.{AreAllPairs, AreChosen, HaveArrived, IsFirstMissing, IsFirstPair, Shows, StoresAlso, seen, stored_in};
+ghost use Rattle.mp_replica.specs.Private.StoredPatches.{AreApart, AreConflictingWith, FitsAll, JoinsOthers};
+
+use crate::laws::{merge_laws, text_laws};
+use crate::live_join::LiveJoin;
+use crate::message::Identity;
+use crate::pairs::{ConflictingPair, all_pairs, ascending, first_pair, is_among};
+use mp_merge::{compatible, merge_into};
+use mp_tree::Doc;
+use std::alloc::{AllocError, Global};
+use std::collections::BTreeMap;
+use std::marker::Model;
+
+// Each patch is stored under its identity.
+#[derive(Drop)]
+pub(crate) struct StoredPatches {
+    patches: BTreeMap<Identity, Doc>,
+    // The identities of those that conflict with another, in any order.
+    conflicting: Vec<Identity>,
+    // The join of all others.
+    join: LiveJoin,
+}
+
+impl Model for StoredPatches {
+    ghost use Rattle.std.specs.Prelude.{List};
+    ghost use Rattle.std.specs.Coded.{codes};
+    ghost use Rattle.mp_tree.specs.declared.doc.Doc.{Doc};
+    ghost use Rattle.mp_tree.specs.contracts.doc.Doc.{the_row};
+    ghost use Rattle.mp_replica.specs.declared.message.Identity.{Identity};
+    ghost use Rattle.mp_replica.specs.Private.StoredPatches.{KnowsConflicts};
+
+    ghost Value = { List (Identity × Doc) };
+
+    ghost view = { λ r. r.patches.entries };
+
+    ghost coded = { Prim.hlevel (codes, the_row.coded) };
+
+    ghost invariant = { λ r. KnowsConflicts r.patches.entries r.conflicting.items r.join };
+}
+
+impl StoredPatches {
+    pub(crate) fn new(alloc: Global) -> StoredPatches
+        ensures { result ≡ [] }
+    {
+        merge_laws();
+        StoredPatches {
+            patches: BTreeMap::new(alloc),
+            conflicting: Vec::new(alloc),
+            join: LiveJoin::new(),
+        }
+    }
+
+    pub(crate) fn has(&self, identity: Identity) -> bool
+        ensures { IsTrue result ↔ (stored_in self.now identity ≢ None) }
+    {
+        self.patches.contains_key(&identity)
+    }
+
+    // Stores a patch under an identity that has none. If memory runs out, nothing is changed.
+    pub(crate) fn insert(
+        &mut self,
+        alloc: Global,
+        identity: Identity,
+        patch: Doc,
+    ) -> Result<(), AllocError>
+        requires { stored_in self.old identity ≡ None }
+        ensures stored { OnOk result
+            (StoresAlso (stored_in self.old) identity (document patch) (stored_in self.new)) }
+        ensures unchanged { OnErr result (self.new ≡ self.old) }
+    {
+        merge_laws();
+        if !self.join.settle(alloc) {
+            return Err(AllocError);
+        }
+        if self.join.fits(&patch) && fits_all(&patch, self.conflicting.as_slice(), &self.patches) {
+            let copy = patch.copy(alloc)?;
+            self.patches.insert(identity, patch)?;
+            self.join.put(copy);
+            let _settled = self.join.settle(alloc);
+            return Ok(());
+        }
+        let known = self.conflicting.as_slice();
+        let conflicting = conflicting_with(alloc, identity, &patch, known, &self.patches)?;
+        let join = join_of_others(alloc, conflicting.as_slice(), &self.patches)?;
+        self.patches.insert(identity, patch)?;
+        self.conflicting = conflicting;
+        self.join = join;
+        Ok(())
+    }
+
+    // The outcome of the start and of the patches that conflict with no other.
+    pub(crate) fn outcome(&self, alloc: Global, start: &Doc) -> Result<Doc, AllocError>
+        ensures { IfOk result (λ shown.
+            Shows (document start.now) (stored_in self.now) (document shown)) }
+    {
+        text_laws();
+        let mut shown = start.copy(alloc)?;
+        if let Some(joined) = self.join.joined() {
+            merge_into(alloc, &mut shown, joined)?;
+        }
+        if let Some(patch) = self.join.pending() {
+            merge_into(alloc, &mut shown, patch)?;
+        }
+        Ok(shown)
+    }
+
+    // Each two patches that conflict.
+    pub(crate) fn conflicts(&self, alloc: Global) -> Result<Vec<ConflictingPair>, AllocError>
+        ensures { IfOk result (λ pairs. AreAllPairs (stored_in self.now) (map seen pairs.items)) }
+    {
+        let known = self.conflicting.as_slice();
+        let identities = ascending(alloc, &self.patches, known, known)?;
+        all_pairs(alloc, identities.as_slice(), &self.patches)
+    }
+
+    // The first of the chosen identities under which no patch is stored.
+    pub(crate) fn first_missing(&self, chosen: &[Identity]) -> Option<Identity>
+        ensures { MatchOption result (HaveArrived (stored_in self.now) chosen.now)
+            (IsFirstMissing (stored_in self.now) chosen.now) }
+    {
+        for identity in chosen {
+            if !self.has(*identity) {
+                return Some(*identity);
+            }
+        }
+        None
+    }
+
+    // The first two of the chosen patches that conflict.
+    pub(crate) fn first_conflict(
+        &self,
+        alloc: Global,
+        chosen: &[Identity],
+    ) -> Result<Option<ConflictingPair>, AllocError>
+        ensures { IfOk result (λ found. MatchOption found (AreApart (stored_in self.now) chosen.now)
+            (λ pair. IsFirstPair (stored_in self.now) chosen.now (seen pair))) }
+    {
+        let known = self.conflicting.as_slice();
+        let identities = ascending(alloc, &self.patches, known, chosen)?;
+        first_pair(alloc, identities.as_slice(), &self.patches)
+    }
+
+    // The start after the chosen patches.
+    pub(crate) fn after(
+        &self,
+        alloc: Global,
+        start: &Doc,
+        chosen: &[Identity],
+    ) -> Result<Doc, AllocError>
+        requires arrived { HaveArrived (stored_in self.now) chosen.now }
+        requires apart { AreApart (stored_in self.now) chosen.now }
+        ensures { IfOk result (λ end. (patches : List Document)
+            × AreChosen (stored_in self.now) chosen.now patches
+            × IsOutcome (document start.now) patches (document end)) }
+    {
+        merge_laws();
+        let mut end = start.copy(alloc)?;
+        for identity in chosen {
+            if let Some(patch) = self.patches.get(identity) {
+                merge_into(alloc, &mut end, patch)?;
+            }
+        }
+        Ok(end)
+    }
+}
+
+// Whether the patch is compatible with each that is stored under one of the identities.
+fn fits_all(patch: &Doc, identities: &[Identity], patches: &BTreeMap<Identity, Doc>) -> bool
+    ensures { IsTrue result
+        ↔ FitsAll (stored_in patches.now.entries) identities.now (document patch.now) }
+{
+    for identity in identities {
+        if let Some(other) = patches.get(identity) {
+            if !compatible(patch, other) {
+                return false;
+            }
+        }
+    }
+    true
+}
+
+// The identity of the patch, and those of the stored ones that conflict with it or did so before.
+fn conflicting_with(
+    alloc: Global,
+    identity: Identity,
+    patch: &Doc,
+    known: &[Identity],
+    patches: &BTreeMap<Identity, Doc>,
+) -> Result<Vec<Identity>, AllocError>
+    ensures { IfOk result (λ found. AreConflictingWith (stored_in patches.now.entries) identity
+        (document patch.now) known.now found.items) }
+{
+    let mut found = Vec::new(alloc);
+    for (other, stored) in patches.iter() {
+        if is_among(*other, known) || !compatible(patch, stored) {
+            found.push(*other)?;
+        }
+    }
+    found.push(identity)?;
+    Ok(found)
+}
+
+// The join of the patches under all other identities.
+fn join_of_others(
+    alloc: Global,
+    conflicting: &[Identity],
+    patches: &BTreeMap<Identity, Doc>,
+) -> Result<LiveJoin, AllocError>
+    requires { (i j : Identity) (p q : Document) → stored_in patches.now.entries i ≡ Some p
+        → stored_in patches.now.entries j ≡ Some q → ¬ Contains conflicting.now i
+        → ¬ Contains conflicting.now j → Compatible p q }
+    ensures { IfOk result (λ join.
+        JoinsOthers (stored_in patches.now.entries) conflicting.now join) }
+{
+    merge_laws();
+    let mut join = LiveJoin::new();
+    for (identity, patch) in patches.iter() {
+        if !is_among(*identity, conflicting) {
+            let copy = patch.copy(alloc)?;
+            join.put(copy);
+            if !join.settle(alloc) {
+                return Err(AllocError);
+            }
+        }
+    }
+    Ok(join)
+}
