@@ -5,7 +5,8 @@ the numbers in bench/sizes.txt.
     docs/pictures/draw.py DIRECTORY
 
 It writes replicas.svg, clash.svg, reduce.svg, crates.svg and cost.svg into the directory. Each has a ground of its own, so that
-it can be read on a dark page too, and a legend of its colours. checks/pictures draws them again and compares.
+it can be read on a dark page too, and a legend of its colours. tests/pages/test_pictures.py draws them
+again and compares.
 """
 
 import json

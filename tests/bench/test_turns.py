@@ -3,13 +3,12 @@ checkouts are small, and their program of the workloads is a script.
 """
 
 import os
-import pathlib
 import re
-import subprocess
 
+import calls
 import pytest
 
-RUN = pathlib.Path(__file__).resolve().parents[2] / "bench/run"
+RUN = calls.TOP / "bench/run"
 LISTED = (RUN.parent / "workloads.txt").read_text("utf-8").splitlines()
 NAMES = [line.split()[0] for line in LISTED if not line.startswith("#")]
 PROGRAM = "crates/workloads/out/workloads"
@@ -45,8 +44,7 @@ def new_one(tmp_path):
 
 def run(*words):
     """Gives the status of a run and its two streams."""
-    done = subprocess.run([RUN, *words], stdin=subprocess.DEVNULL, capture_output=True, text=True, timeout=60, check=False)
-    return done.returncode, done.stdout, done.stderr
+    return calls.run([RUN, *words])
 
 
 def runs_of(directory):

@@ -2,7 +2,7 @@
 the most that the heap has taken for each byte that is read.
 
 What the C library takes is not counted, since it picks its copies and comparisons of bytes by the processor; the requests that it
-is asked for are kept by checks/work. Environment and arguments are fixed.
+is asked for are kept by tests/allocation. Environment and arguments are fixed.
 """
 
 import concurrent.futures
@@ -12,12 +12,10 @@ import pathlib
 import re
 import struct
 import subprocess
-import sys
 import tempfile
 
-TOP = pathlib.Path(__file__).resolve().parents[2]
-sys.path.insert(0, str(TOP / "checks/common"))
 import table
+from calls import TOP
 from rows import EXPORTS
 
 LIBRARY = TOP / "out/lib/libmergejoin.so.1"
@@ -25,6 +23,8 @@ WORKLOADS = TOP / "crates/workloads/out/workloads"
 RUNS = TOP / "crates/replica_runs/out/replica_runs"
 # The jobs of the benchmark, each with one of its inputs and this seed.
 JOBS, SEED = ("catch-up", "reduce", "receive", "request", "publish", "awkward"), "7"
+# What the number of an export is more by if its call is to be within a limit (tests/common/work.c).
+LIMITED = 100
 # What stays in memory: of each title the job, the bytes of the start, how many patches come before those that are counted, and how
 # many these are.
 LIVE = {
@@ -44,11 +44,11 @@ class Ended(Exception):
     """A run that did not end as it should."""
 
 
-def driver_in(directory):
+def driver_in(directory, library=LIBRARY):
     """Builds the program that makes one call of the library, and gives its path."""
     program = directory / "work"
-    words = ["cc", "-std=gnu11", "-O1", "-Wall", "-Wextra", "-Werror", f"-I{TOP / 'out/include'}", TOP / "checks/c/work.c", LIBRARY]
-    subprocess.run([*words, f"-Wl,-rpath,{LIBRARY.parent}", "-o", program], check=True)
+    words = ["cc", "-std=gnu11", "-O1", "-Wall", "-Wextra", "-Werror", f"-I{TOP / 'out/include'}", TOP / "tests/common/work.c"]
+    subprocess.run([*words, library, f"-Wl,-rpath,{LIBRARY.parent}", "-o", program], check=True)
     return program
 
 
@@ -99,7 +99,9 @@ def of_live(title, _driver):
 
 def input_of(export, texts):
     """What the driver reads: the number of the export, and each text after its length."""
-    return struct.pack("Q", EXPORTS.index(export)) + b"".join(struct.pack("Q", len(text)) + text for text in texts)
+    name, _, within = export.partition(" ")
+    number = EXPORTS.index(name) + (LIMITED if within else 0)
+    return struct.pack("Q", number) + b"".join(struct.pack("Q", len(text)) + text for text in texts)
 
 
 def of_workload(job, _driver):

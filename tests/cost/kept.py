@@ -4,7 +4,6 @@ import pathlib
 import subprocess
 import typing
 
-TOP = pathlib.Path(__file__).resolve().parents[2]
 PATH = pathlib.PurePosixPath("tests/cost/kept.txt")
 WRITES = "tests/cost/keep writes the file anew"
 HEAD = """# Of each call, the instructions of the proved code itself; of a peak, the bytes that the heap has taken for each byte that is read.

@@ -1,15 +1,13 @@
-"""The calls of the library for C whose cost is kept: a title, the export, the texts and the status of the reply.
+"""The calls of the library for C whose cost is kept: a title, the export, with " within" behind it for a call within a limit, the
+texts and the status of the reply.
 
 Each way through the library has a row in which it is a large part of the cost: so a second walk, or a copy that is not needed,
 makes some count a twentieth larger.
 """
 
 import json
-import pathlib
-import sys
 
-sys.path.insert(0, str(pathlib.Path(__file__).resolve().parents[2] / "checks/common"))
-from rows import text_of
+from rows import names, text_of
 
 ANSWERED, CONFLICT, BAD_PATCH = 0, 1, 6  # statuses of a reply
 LISTS = ("join", "replay", "merge")
@@ -39,11 +37,9 @@ def literals(number):
 
 
 LARGE = (flat, long, numbers, literals)
-
-
-def names(count, value):
-    """An object of so many names, each with that value."""
-    return {f"n{number:04}": value for number in range(count)}
+# How the titles begin of the calls that are counted within a limit too.
+WEIGHED = ("join of objects that conflict at 1000", "patch of one operation on a", "patch of 1000", "patch of 200", "rewrite of 1000",
+           "rewrite into nothing of 1000", "patch that sets a literals", "rewrite that sets a literals")
 
 
 def with_value(patch, value):
@@ -131,12 +127,20 @@ def edits():
     yield "patch of 200 moves in a flat document", "patch", [document | {"d": 0}, [there, back] * 100]
 
 
+def limited():
+    """The calls above in which a limit costs most: of them what is made is weighed."""
+    for title, export, *given_to in (*conflicting(), *single(), *edits()):
+        if title.startswith(WEIGHED):
+            yield f"{title}, within a limit", f"{export} within", *given_to
+
+
 def documents():
     yield from distinct()
     yield from repeated()
     yield from conflicting()
     yield from single()
     yield from edits()
+    yield from limited()
 
 
 def rows():

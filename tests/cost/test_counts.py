@@ -1,32 +1,21 @@
 """Each figure is what is kept, but for a twentieth, and a tenth more of memory: a loss shows, and a gain has to be kept."""
 
-import os
-import pathlib
-import shutil
-import sys
-
-import pytest
-
-HERE = pathlib.Path(__file__).resolve().parent
-sys.path[:0] = [str(HERE), str(HERE.parents[1] / "checks/common")]
 import kept
+import pytest
 import table
-from calls import has_library
+from calls import TOP, has_library
 from counting import Ended, driver_in, measured, measures, of_call
 
 TITLES = list(measures())
-KEPT = kept.rows_of((kept.TOP / kept.PATH).read_text("utf-8"))
-NEEDED = {"valgrind": "valgrind", "cc": "gcc"}
+KEPT = kept.rows_of((TOP / kept.PATH).read_text("utf-8"))
 # Two kinds of processors, for all that the C library knows.
 SETTINGS = [{}, {"GLIBC_TUNABLES": "glibc.cpu.hwcaps=-AVX2,-AVX512F,-AVX512VL,-ERMS,-FSRM,-SSSE3,-SSE4_1,-SSE4_2,-BMI2"}]
 
 
 @pytest.fixture(scope="session", name="built")
-def what_is_built():
+def what_is_built(needs):
     """Builds the library, if all is here that counts its calls."""
-    lacking = [package for command, package in NEEDED.items() if not shutil.which(command)]
-    if lacking:
-        (pytest.fail if os.environ.get("MERGEJOIN_ALL_CHECKS") else pytest.skip)(f"not installed: {', '.join(lacking)}")
+    needs("valgrind", "gcc")
     assert has_library(), "bin/library failed"
 
 

@@ -5,18 +5,11 @@ levels up to MOST_PARTS, is answered by the library and by the program with what
 import concurrent.futures
 import json
 import os
-import pathlib
-import subprocess
-import sys
 
 import pytest
-
-HERE = pathlib.Path(__file__).resolve().parent
-sys.path[:0] = [str(HERE), str(HERE.parents[1] / "checks/common")]
-from calls import PROGRAM, has_library, is_proved
-from counting import ENVIRONMENT, driver_in, input_of
-from rows import reply_of, text_of
-from table import names
+from calls import PROGRAM, has_library, is_proved, run
+from counting import driver_in, input_of
+from rows import names, reply_of, text_of
 
 MOST, MOST_PARTS = 130, 70
 NO_ANSWER = 3  # the status of the program where it is out of memory, too
@@ -79,17 +72,15 @@ def wanted(status, document):
 
 def by_library(driver, export, values):
     texts = [text_of(value).encode() for value in values] + ([b""] if export == "get" else [])
-    done = subprocess.run([driver], input=input_of(export, texts), capture_output=True, env=ENVIRONMENT, timeout=60, check=False)
-    return done.returncode, done.stdout.decode()
+    return run([driver], input_of(export, texts))[:2]
 
 
 def by_program(program, export, values):
-    words = [program, export] + ([""] if export == "get" else [])
-    done = subprocess.run(words, input=text_of(values).encode(), capture_output=True, env=ENVIRONMENT, timeout=60, check=False)
-    line = (done.stdout + done.stderr).decode().removesuffix("\n")
-    if done.returncode == NO_ANSWER:
-        return done.returncode, line
-    status, _, _, text = reply_of(line, done.returncode)
+    status, *streams = run([program, export] + ([""] if export == "get" else []), text_of(values))
+    line = "".join(streams).removesuffix("\n")
+    if status == NO_ANSWER:
+        return status, line
+    status, _, _, text = reply_of(line, status)
     return status, text
 
 

@@ -1,25 +1,22 @@
 """What has to hold of the figures that are kept, and that each row which is higher than it was has a reason beside it."""
 
 import os
-import pathlib
 import subprocess
-import sys
 
-import pytest
-
-sys.path.insert(0, str(pathlib.Path(__file__).resolve().parent))
 import kept
+import pytest
+from calls import TOP
 from kept import GONE, Row
 
-FILE = kept.TOP / kept.PATH
+FILE = TOP / kept.PATH
 # A copy without the history says where it is.
-HISTORY = os.environ.get("MERGEJOIN_HISTORY", kept.TOP / ".git")
+HISTORY = os.environ.get("MERGEJOIN_HISTORY", TOP / ".git")
 NOW = {"join": Row(1000, ""), "peak of join": Row(10.0, "")}
 
 
 def test_each_row_that_was_raised_has_a_reason():
     text = FILE.read_text("utf-8")
-    before = kept.before(kept.TOP, text, HISTORY)
+    before = kept.before(TOP, text, HISTORY)
     assert before is not None, f"the file of {kept.commit_of(text)} is not in {HISTORY}: it needs the whole history"
     faults = list(kept.without_reason(kept.rows_of(text), kept.rows_of(before)))
     assert not faults, "\n".join(faults)

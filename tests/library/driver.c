@@ -1,83 +1,96 @@
-// Makes calls of handles as a script says, and prints of each its name, the status, the numbers and the length of the reply, how many
-// requests to the heap were refused meanwhile, how many bytes of stack it took, and its text. Standard input has a command a line:
+// Makes calls as a script says, and prints of each its name, the status, the numbers and the length of the reply, how many requests
+// to the heap were refused meanwhile, how many bytes of stack it took, how many the block has that a helper made, and the text.
+// Standard input has a command a line:
 //
-//   CALL NUMBER xHEX       a call of the handle of this number, with a text in hexadecimal digits; `combine NUMBER OTHER x`
-//   capacity N, limit N    of the calls that follow
-//   refuse N ON            request N of the next call is refused; if ON is not 0, each after it too
-//   blocks                 prints how many blocks were taken and not given back
+//   CALL NUMBER OTHER #N .. xHEX ..   a call of the handle of this number, or of texts, which are in hexadecimal digits, with further
+//                               numbers: of a start and of an identity, or each two of an identity
+//   capacity N, limit N         of the calls that follow
+//   refuse N ON                 request N of the next call is refused; if ON is not 0, each after it too
+//   each ON                     the next call is made with request 1 refused so, with request 2, .. to the first not reached
+//   heap                        prints how many blocks were taken and not given back, their bytes, the most bytes since the last
+//                               such command, and the most memory of the process in kB
 //
-// With the argument `new` the calls are made by the header's helpers, and with `stack` each is made on a stack of its own.
+// With the argument `new` the calls are made by the header's helpers, with `stack` each is made on a stack of its own, and with
+// `exact` the buffer ends where its block does, as each text does.
+#include <malloc.h>
 #include <stdio.h>
 #include <string.h>
+#include <sys/resource.h>
 
 #include "mergejoin.h"
 #include "painted_stack.h"
 #include "refusing_heap.h"
 
-enum { HANDLES = 8, MOST_BYTES = 1 << 24, BEHIND = 32 };
-enum { START, RECEIVE, DOCUMENT, JOINED, GET, ADD, COMBINE, TEXT, KEPT, FROM_KEPT, FREE, DROP, CALLS };
+enum { HANDLES = 8, MOST_TEXTS = 1 << 14, MOST_NUMBERS = 1 << 10, MOST_BYTES = 1 << 24 };
 
-static const char *const names[CALLS] = {"start", "receive", "document", "joined", "get", "add", "combine", "text", "kept", "from", "free", "drop"};
 static mergejoin_replica replicas[HANDLES];
 static mergejoin_patches sets[HANDLES];
+static mergejoin_patch_log logs[HANDLES];
+static mergejoin_text texts[MOST_TEXTS];
+static uint64_t numbers[MOST_NUMBERS];
+static mergejoin_identity *chosen;
 static char line[MOST_BYTES];
-static uint8_t bytes[MOST_BYTES / 2], buffer[MOST_BYTES];
-static size_t capacity = 4096, limit = SIZE_MAX;
-static int is_new, is_stack;
+static uint8_t *buffer;
+static size_t count, given, capacity = 4096, limit = SIZE_MAX, behind = 32;
+static int is_new, is_stack, is_each;
 
 typedef struct call {
-  unsigned which;
-  size_t number, other, length;
+  char name[16];
+  size_t number, other;
+  int is_made;
   mergejoin_reply reply;
   char *made;
 } call;
 
-static mergejoin_reply in_buffer(const call *it) {
+// Each call: its name in a script, its function, and what that is given before the buffer.
+#define TEXT(number) texts[number].bytes, texts[number].length
+#define EACH_CALL(CALL)                                     \
+  CALL(start, replica_start, replica, TEXT(0))              \
+  CALL(receive, replica_receive, replica, TEXT(0))          \
+  CALL(document, replica_document, replica)                 \
+  CALL(joined, replica_joined, replica)                     \
+  CALL(get, replica_get, replica, TEXT(0))                  \
+  CALL(add, patches_add, patches, TEXT(0))                  \
+  CALL(combine, patches_combine, patches, &sets[it->other]) \
+  CALL(text, patches_text, patches)                         \
+  CALL(kept, patches_kept, patches)                         \
+  CALL(from, patches_from_kept, patches, TEXT(0))           \
+  CALL(log_start, patch_log_start, log, *numbers, TEXT(0))  \
+  CALL(log_receive, patch_log_receive, log, *numbers, numbers[1], numbers[2], TEXT(0)) \
+  CALL(log_document, patch_log_document, log)               \
+  CALL(log_conflicts, patch_log_conflicts, log)             \
+  CALL(log_decide, patch_log_decide, log, chosen, given / 2) \
+  CALL(join_of, join, texts, count)                         \
+  CALL(replay_of, replay, TEXT(0), texts + 1, count - 1)    \
+  CALL(merge_of, merge, TEXT(0), texts + 1, count - 1)      \
+  CALL(rewrite_of, rewrite, TEXT(0), TEXT(1))               \
+  CALL(patch_of, patch, TEXT(0), TEXT(1))                   \
+  CALL(get_of, get, TEXT(0), TEXT(1))
+#define MAKE(word, function, ...)                                                      \
+  if (!strcmp(it->name, #word)) {                                                      \
+    it->is_made = 1;                                                                   \
+    if (is_new) it->made = mergejoin_##function##_new(__VA_ARGS__, limit, &it->reply); \
+    else it->reply = mergejoin_##function(__VA_ARGS__, buffer, capacity, limit);       \
+  }
+#define OR_NAMED(word, ...) || !strcmp(name, #word)
+
+static int is_call(const char *name) { return !strcmp(name, "free") || !strcmp(name, "drop") || !strcmp(name, "log_free") EACH_CALL(OR_NAMED); }
+
+static void make(void *made) {
+  call *it = made;
   mergejoin_replica *replica = &replicas[it->number];
   mergejoin_patches *patches = &sets[it->number];
-  switch (it->which) {
-  case START: return mergejoin_replica_start(replica, bytes, it->length, buffer, capacity, limit);
-  case RECEIVE: return mergejoin_replica_receive(replica, bytes, it->length, buffer, capacity, limit);
-  case DOCUMENT: return mergejoin_replica_document(replica, buffer, capacity, limit);
-  case JOINED: return mergejoin_replica_joined(replica, buffer, capacity, limit);
-  case GET: return mergejoin_replica_get(replica, bytes, it->length, buffer, capacity, limit);
-  case ADD: return mergejoin_patches_add(patches, bytes, it->length, buffer, capacity, limit);
-  case COMBINE: return mergejoin_patches_combine(patches, &sets[it->other], buffer, capacity, limit);
-  case TEXT: return mergejoin_patches_text(patches, buffer, capacity, limit);
-  case KEPT: return mergejoin_patches_kept(patches, buffer, capacity, limit);
-  default: return mergejoin_patches_from_kept(patches, bytes, it->length, buffer, capacity, limit);
-  }
-}
-
-static char *by_helper(const call *it, mergejoin_reply *reply) {
-  mergejoin_replica *replica = &replicas[it->number];
-  mergejoin_patches *patches = &sets[it->number];
-  switch (it->which) {
-  case START: return mergejoin_replica_start_new(replica, bytes, it->length, limit, reply);
-  case RECEIVE: return mergejoin_replica_receive_new(replica, bytes, it->length, limit, reply);
-  case DOCUMENT: return mergejoin_replica_document_new(replica, limit, reply);
-  case JOINED: return mergejoin_replica_joined_new(replica, limit, reply);
-  case GET: return mergejoin_replica_get_new(replica, bytes, it->length, limit, reply);
-  case ADD: return mergejoin_patches_add_new(patches, bytes, it->length, limit, reply);
-  case COMBINE: return mergejoin_patches_combine_new(patches, &sets[it->other], limit, reply);
-  case TEXT: return mergejoin_patches_text_new(patches, limit, reply);
-  case KEPT: return mergejoin_patches_kept_new(patches, limit, reply);
-  default: return mergejoin_patches_from_kept_new(patches, bytes, it->length, limit, reply);
-  }
-}
-
-static void make(void *given) {
-  call *it = given;
-  if (it->which == FREE) mergejoin_replica_free(&replicas[it->number]);
-  else if (it->which == DROP) mergejoin_patches_free(&sets[it->number]);
-  else if (it->which < CALLS && is_new) it->made = by_helper(it, &it->reply);
-  else if (it->which < CALLS) it->reply = in_buffer(it);
+  mergejoin_patch_log *log = &logs[it->number];
+  EACH_CALL(MAKE)
+  if (!strcmp(it->name, "free")) mergejoin_replica_free(replica);
+  if (!strcmp(it->name, "drop")) mergejoin_patches_free(patches);
+  if (!strcmp(it->name, "log_free")) mergejoin_patch_log_free(log);
 }
 
 // Whether the buffer has dots after the text, and fields without a meaning are 0.
 static int is_intact(const mergejoin_reply *reply) {
   size_t written = reply->length < capacity ? reply->length : capacity;
-  for (size_t place = written; place < capacity + BEHIND; place += 1) {
+  for (size_t place = written; place < capacity + behind; place += 1) {
     if (buffer[place] != '.') return 0;
   }
   return !reply->spare && !reply->flags;
@@ -87,62 +100,94 @@ static void print(const call *it, size_t stack) {
   const mergejoin_reply *reply = &it->reply;
   size_t shown = reply->length < capacity || it->made ? reply->length : capacity;
   int is_well = it->made ? !it->made[shown] && !reply->spare && !reply->flags : is_intact(reply);
-  if (is_new && it->which < FREE && !it->made != (reply->status == MERGEJOIN_NO_MEMORY)) is_well = 0;
-  printf("%s %u %zu %zu %zu %zu %zu %zu %s ", names[it->which], reply->status, reply->first, reply->second, reply->total,
-         reply->length, refusals, stack, is_well ? "intact" : "spoilt");
+  if (is_new && it->is_made && !it->made != (reply->status == MERGEJOIN_NO_MEMORY)) is_well = 0;
+  printf("%s %u %zu %zu %zu %zu %zu %zu %zu %s ", it->name, reply->status, reply->first, reply->second, reply->total,
+         reply->length, refusals, stack, malloc_usable_size(it->made), is_well ? "intact" : "spoilt");
   fwrite(it->made ? it->made : (const char *)buffer, 1, is_new && !it->made ? 0 : shown, stdout);
   putchar('\n');
 }
 
-static unsigned digit(char it) { return it <= '9' ? (unsigned)(it - '0') : (unsigned)(it - 'a') + 10; }
-
-static size_t read_text(const char *at) {
-  size_t length = 0;
-  if (!strstr(at, " x")) return 0;
-  for (at = strstr(at, " x") + 1; at[1] > ' '; at += 2) bytes[length++] = (uint8_t)(16 * digit(at[1]) + digit(at[2]));
-  return length;
-}
-
-static void run(call *it) {
+static void run(call it) {
   static size_t idle;
-  call none = {.which = CALLS};
+  call none = {.name = ""};
   size_t stack = 0;
-  memset(buffer, '.', capacity + BEHIND);
+  buffer = malloc(capacity + behind);
+  memset(buffer, '.', capacity + behind);
   requests = refusals = 0;
   if (is_stack) {
     if (!idle) idle = stack_of(make, &none);
-    stack = stack_of(make, it) - idle;
+    stack = stack_of(make, &it) - idle;
   } else {
     counting = 1;
-    make(it);
+    make(&it);
     counting = 0;
   }
-  print(it, stack);
+  print(&it, stack);
   counting = 1;
-  free(it->made);
+  free(it.made);
   counting = 0;
-  refused_at = 0, refuses_on = 0;
+  free(buffer);
+}
+
+static unsigned digit(char it) { return it <= '9' ? (unsigned)(it - '0') : (unsigned)(it - 'a') + 10; }
+
+// A text from its digits, in a block of its own that ends where it ends.
+static mergejoin_text text_of(const char *at, size_t length) {
+  uint8_t *bytes = malloc(length);
+  for (size_t place = 0; place < length; place += 1, at += 2) bytes[place] = (uint8_t)(16 * digit(at[0]) + digit(at[1]));
+  return (mergejoin_text){bytes, length};
+}
+
+static void read_texts(const char *at) {
+  for (count = 0; count < MOST_TEXTS && (at = strchr(at, 'x')); count += 1) {
+    size_t digits = strspn(at += 1, "0123456789abcdef");
+    texts[count] = text_of(at, digits / 2);
+    at += digits;
+  }
+}
+
+// Each two numbers as an identity, in a block that ends where the last one ends.
+static void read_numbers(const char *at) {
+  for (given = 0; given < MOST_NUMBERS && (at = strchr(at, '#')); given += 1) numbers[given] = strtoull(at += 1, NULL, 10);
+  chosen = malloc(given / 2 * sizeof *chosen);
+  for (size_t place = 0; place < given / 2; place += 1) chosen[place] = (mergejoin_identity){numbers[2 * place], numbers[2 * place + 1]};
+}
+
+static void answer(call it) {
+  read_texts(line + strlen(it.name));
+  read_numbers(line);
+  do {
+    refused_at += (size_t)is_each;
+    run(it);
+  } while (is_each && refusals);
+  for (size_t number = 0; number < count; number += 1) free((void *)(uintptr_t)texts[number].bytes);
+  free(chosen);
+  refused_at = 0, refuses_on = 0, is_each = 0;
+}
+
+static int show_heap(void) {
+  struct rusage used;
+  getrusage(RUSAGE_SELF, &used);
+  printf("heap %ld %zu %zu %ld\n", live, held, peak, used.ru_maxrss);
+  return peak = held, 1;
 }
 
 static int obey(void) {
-  char name[16];
-  size_t first = 0, second = 0;
-  int found = sscanf(line, "%15s %zu %zu", name, &first, &second);
-  if (found == 2 && !strcmp(name, "capacity") && first < sizeof buffer - BEHIND) return capacity = first, 1;
-  if (found == 2 && !strcmp(name, "limit")) return limit = first, 1;
-  if (found == 3 && !strcmp(name, "refuse")) return refused_at = first, refuses_on = second != 0, 1;
-  if (found == 1 && !strcmp(name, "blocks")) return printf("blocks %ld\n", live), 1;
-  for (unsigned which = 0; found > 1 && which < CALLS && first < HANDLES && second < HANDLES; which += 1) {
-    if (strcmp(name, names[which])) continue;
-    call it = {.which = which, .number = first, .other = second, .length = read_text(line)};
-    return run(&it), 1;
-  }
-  return 0;
+  call it = {.name = ""};
+  int found = sscanf(line, "%15s %zu %zu", it.name, &it.number, &it.other);
+  if (found == 2 && !strcmp(it.name, "capacity")) return capacity = it.number, 1;
+  if (found == 2 && !strcmp(it.name, "limit")) return limit = it.number, 1;
+  if (found == 3 && !strcmp(it.name, "refuse")) return refused_at = it.number, refuses_on = it.other != 0, 1;
+  if (found == 2 && !strcmp(it.name, "each")) return is_each = 1, refuses_on = it.number != 0, 1;
+  if (found == 1 && !strcmp(it.name, "heap")) return show_heap();
+  if (found != 3 || !is_call(it.name) || it.number >= HANDLES || it.other >= HANDLES) return 0;
+  return answer(it), 1;
 }
 
-int main(int count, char **words) {
-  is_new = count == 2 && !strcmp(words[1], "new");
-  is_stack = count == 2 && !strcmp(words[1], "stack");
+int main(int words, char **word) {
+  is_new = words == 2 && !strcmp(word[1], "new");
+  is_stack = words == 2 && !strcmp(word[1], "stack");
+  if (words == 2 && !strcmp(word[1], "exact")) behind = 0;
   while (fgets(line, sizeof line, stdin)) {
     if (!obey()) return printf("what is %s", line), 2;
   }

@@ -1,25 +1,22 @@
-"""Runs driver.c, which makes calls of handles as a script says, and gives their replies."""
+"""Runs driver.c, which makes calls as a script says, gives their replies, and compares them."""
 
 import json
 import os
 import pathlib
 import re
-import shutil
 import subprocess
 import typing
 
-import pytest
+from calls import TOP
 
-TOP = pathlib.Path(__file__).resolve().parents[2]
 HERE = pathlib.Path(__file__).resolve().parent
 HEADER, LIBRARIES = TOP / "out/include/mergejoin.h", TOP / "out/lib"
 STATIC, SHARED = LIBRARIES / "libmergejoin.a", LIBRARIES / "libmergejoin.so.1"
 WARNINGS = ["-Wall", "-Wextra", "-Wpedantic", "-Wconversion", "-Wshadow", "-Werror"]
 WRAPPED = ["-Wl,--wrap=malloc,--wrap=realloc,--wrap=free", "-pthread"]
 MEMCHECK = ["valgrind", "-q", "--error-exitcode=9", "--leak-check=full", "--show-leak-kinds=all", "--errors-for-leak-kinds=all"]
-RESULT, CONFLICT, NO_PATCHES, MISSING, DOCUMENT, PATCH, POINTER, NO_MEMORY, PENDING, TOO_LARGE, NOT_STARTED = 0, 1, 2, 4, 5, 6, 8, 9, 10, 11, 12
-# What is read by a call that changes nothing of what a handle means.
-READS = {"document", "joined", "get", "text", "kept"}
+RESULT, CONFLICT, NO_PATCHES, REFUSED, MISSING, DOCUMENT, PATCH = range(7)
+POINTER, NO_MEMORY, PENDING, TOO_LARGE, NOT_STARTED = range(8, 13)
 
 
 class Reply(typing.NamedTuple):
@@ -31,29 +28,51 @@ class Reply(typing.NamedTuple):
     length: int
     refusals: int
     stack: int
+    block: int
     intact: str
     text: str
 
+    def said(self):
+        return [self.status, self.first, self.second, self.total, self.text]
 
-def needs(*commands):
-    """Skips a test that needs a command that is not there, or fails where all checks are to run."""
-    missing = [command for command in commands if not shutil.which(command)]
-    if missing:
-        (pytest.fail if os.environ.get("MERGEJOIN_ALL_CHECKS") else pytest.skip)(f"not installed: {' '.join(missing)}")
+
+class Heap(typing.NamedTuple):
+    """The blocks and the bytes that were not given back, the most bytes since it was asked before, and the most memory in kB."""
+
+    blocks: int
+    held: int
+    peak: int
+    resident: int
+
+
+def run(words, setting=None, given=""):
+    """Runs words, which have to end well, and gives what they print."""
+    done = subprocess.run([*map(str, words)], input=given, capture_output=True, encoding="utf-8", errors="surrogateescape",
+                          timeout=600, check=False, env={**os.environ, **(setting or {})})
+    assert done.returncode == 0, f"status {done.returncode}\n{done.stdout[-2000:]}{done.stderr[-5000:]}"
+    return done.stdout
 
 
 def compiled(directory, source, *more, compiler=("gcc", "-std=gnu11", "-O1")):
     """Builds a program of tests/library with the static library, and gives its path."""
     program = directory / pathlib.Path(source).stem
-    words = [*compiler, *WARNINGS, f"-I{HEADER.parent}", f"-I{TOP / 'checks/c'}", f"-I{directory}", source, STATIC, *more, "-o", program]
+    words = [*compiler, *WARNINGS, f"-I{HEADER.parent}", f"-I{directory}", source, "-x", "none", STATIC, *more, "-o", program]
     subprocess.run(words, check=True)
     return program
 
 
-def call(name, number=0, text=b"", other=0):
+def call(name, number=0, text=b"", other=0, numbers=()):
     """A line of the script. A text is a document, or bytes as they are."""
-    given = text if isinstance(text, bytes) else written(text).encode()
-    return f"{name} {number} {other} x{given.hex()}"
+    return " ".join([name, str(number), str(other), *(f"#{it}" for it in numbers), f"x{bytes_of(text).hex()}"])
+
+
+def call_of(export, texts):
+    """So is this, of one of the six calls that keep nothing."""
+    return " ".join([f"{export}_of 0 0", *(f"x{bytes_of(text).hex()}" for text in texts)])
+
+
+def bytes_of(text):
+    return text if isinstance(text, bytes) else written(text).encode()
 
 
 def written(document):
@@ -61,28 +80,28 @@ def written(document):
     return json.dumps(document, ensure_ascii=False, separators=(",", ":"), sort_keys=True)
 
 
-def replies(words, lines, seconds=300):
-    """Runs the driver by words on the lines of a script. Gives the reply of each call, and how many blocks were left at each line
-    that asks."""
-    given = "".join(f"{line}\n" for line in lines).encode()
-    done = subprocess.run([*map(str, words)], input=given, capture_output=True, timeout=seconds, check=False, env={**os.environ, "LC_ALL": "C"})
-    assert done.returncode == 0, (done.returncode, done.stdout[-300:], done.stderr[-2000:])
-    found, blocks = [], []
-    for line in done.stdout.decode().split("\n")[:-1]:
-        if line.startswith("blocks "):
-            blocks.append(int(line.split()[1]))
+def script_of(lines):
+    return "".join(f"{line}\n" for line in lines)
+
+
+def replies(words, lines):
+    """Runs the driver by words on the lines of a script. Gives the reply of each call, and the heap at each line that asks."""
+    found, heaps = [], []
+    for line in run(words, {"LC_ALL": "C"}, script_of(lines)).split("\n")[:-1]:
+        if line.startswith("heap "):
+            heaps.append(Heap(*map(int, line.split()[1:])))
             continue
-        name, *numbers, intact, text = re.fullmatch(r"(\w+)" + r" (\d+)" * 7 + r" (\w+) (.*)", line).groups()
+        name, *numbers, intact, text = re.fullmatch(r"(\w+)" + r" (\d+)" * 8 + r" (\w+) (.*)", line).groups()
         found.append(Reply(name, *map(int, numbers), intact, text))
-    return found, blocks
+    assert all(it.intact == "intact" for it in found), next(it for it in found if it.intact != "intact")
+    return found, heaps
 
 
 def each(words, scripts):
     """Runs scripts one after another, each of which begins with nothing and leaves nothing, and gives the replies of each."""
     scripts = list(scripts)
-    found, left = replies(words, [line for script in scripts for line in [*PLAIN, *script, *FREED, "blocks"]])
-    assert set(left) <= {0}, next(script for script, count in zip(scripts, left) if count)
-    assert all(it.intact == "intact" for it in found), next(it for it in found if it.intact != "intact")
+    found, left = replies(words, [line for script in scripts for line in [*PLAIN, *script, *FREED, "heap"]])
+    assert not any(heap.blocks for heap in left), next(script for script, heap in zip(scripts, left) if heap.blocks)
     made, place = [], 0
     for script in scripts:
         size = sum(line.split()[0] not in ("capacity", "limit", "refuse") for line in script)
@@ -97,6 +116,40 @@ def last(words, scripts):
     return [found[-1] for found in each(words, scripts)]
 
 
+def compare(words, rows):
+    """Each row is replied to as it says: the lines before, the call, and the status, the numbers and the text of its reply."""
+    rows = list(rows)
+    found = last(words, ([*before, line] for before, line, *_ in rows))
+    for (_, line, *wanted), reply in zip(rows, found):
+        assert reply.said() == wanted and reply.length == len(wanted[-1].encode()), (line, reply)
+    return found
+
+
+def compare_in_buffers(words, rows, sizes=lambda length: range(length + 3)):
+    """So it is in buffers of these sizes, of which each has the beginning of the text, as far as it goes."""
+    tried = [(capacity, row) for row in rows for capacity in sizes(len(row[-1].encode()))]
+    found = last(words, ([*before, f"capacity {capacity}", line] for capacity, (before, line, *_) in tried))
+    for (capacity, (_, line, *wanted)), reply in zip(tried, found):
+        text = wanted.pop().encode()
+        cut = text[:capacity].decode(errors="surrogateescape")
+        assert reply.said() == [*wanted, cut] and reply.length == len(text), (line, capacity, reply)
+    print(f"{len(found)} calls in buffers")
+
+
+def within(limit, wanted, weight=lambda place: 0):
+    """Gives what is said within a limit, of what is said without one: of a conflict as many of the first places as weigh at most
+    the limit together and make no longer an array, and no text if that of none is longer."""
+    status, *numbers, text = wanted
+    if status == RESULT and limit < len(text.encode()):
+        return [TOO_LARGE, 0, 0, 0, ""]
+    if status == CONFLICT:
+        places = json.loads(text)
+        firsts = (places[:count] for count in range(len(places) + 1))
+        arrays = (written(first) for first in firsts if sum(map(weight, first)) <= limit)
+        text = max(("", *(it for it in arrays if len(it.encode()) <= limit)), key=len)
+    return [status, *numbers, text]
+
+
 # What a script begins with, and what frees each handle that scripts use.
 PLAIN = ["capacity 4096", f"limit {2**64 - 1}"]
-FREED = [call(name, number) for name in ("free", "drop") for number in range(3)]
+FREED = [call(name, number) for name in ("free", "drop", "log_free") for number in range(3)]

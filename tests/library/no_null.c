@@ -39,3 +39,12 @@ ARE_THERE(mergejoin_patches_combine, out, (mergejoin_patches *it, mergejoin_patc
 OF_NONE(mergejoin_patches_text, mergejoin_patches)
 OF_NONE(mergejoin_patches_kept, mergejoin_patches)
 OF_TEXT(mergejoin_patches_from_kept, mergejoin_patches)
+ARE_THERE(mergejoin_patch_log_start, bytes && out, (mergejoin_patch_log *it, uint64_t epoch, const uint8_t *bytes, size_t length, OUT),
+          (it, epoch, bytes, length, out, capacity, limit))
+ARE_THERE(mergejoin_patch_log_receive, bytes && out,
+          (mergejoin_patch_log *it, uint64_t epoch, uint64_t sender, uint64_t number, const uint8_t *bytes, size_t length, OUT),
+          (it, epoch, sender, number, bytes, length, out, capacity, limit))
+OF_NONE(mergejoin_patch_log_document, mergejoin_patch_log)
+OF_NONE(mergejoin_patch_log_conflicts, mergejoin_patch_log)
+ARE_THERE(mergejoin_patch_log_decide, chosen && out, (mergejoin_patch_log *it, const mergejoin_identity *chosen, size_t count, OUT),
+          (it, chosen, count, out, capacity, limit))

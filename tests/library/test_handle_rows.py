@@ -2,15 +2,18 @@
 limit; and buffers of each size. What a call leaves is read by the calls after it.
 """
 
+import json
+
 import pytest
 
 import driving
-from driving import CONFLICT, DOCUMENT, MISSING, NO_PATCHES, NOT_STARTED, PATCH, POINTER, RESULT, TOO_LARGE, call, each, last
+from driving import CONFLICT, DOCUMENT, MISSING, NO_PATCHES, NOT_STARTED, PATCH, POINTER, REFUSED, RESULT, TOO_LARGE, call, compare
+from driving import compare_in_buffers, each, last, within
 
 START, ONE, TWO = {"k": 0, "m": {"x": [1]}}, {"a": {"b": 1}}, {"a": {"b": 2, "c": 3}, "d": None}
 STARTED = [call("start", 0, START)]
 RECEIVED = [*STARTED, call("receive", 0, ONE)]
-REFUSED = [*RECEIVED, call("receive", 0, TWO)]
+REPELLED = [*RECEIVED, call("receive", 0, TWO)]
 ADDED = [call("add", 0, ONE)]
 CONFLICTING = [*ADDED, call("add", 0, TWO)]
 SHOWN, JOINED = '{"a":{"b":1},"k":0,"m":{"x":[1]}}', '{"a":{"b":1}}'
@@ -19,12 +22,14 @@ PLACES = '["/a/b"]'
 WIDE, WIDER = ({f"a long name of a member {number:02}": value for number in range(20)} for value in (1, 2))
 WIDE_PLACES = driving.written([f"/{name}" for name in WIDE])
 DEEP = b"[" * 127 + b"]" * 127
-# What is no document, and the words for it.
-UNREAD = [(b"", "not JSON"), (b"[", "not JSON"), (b"1,2", "not JSON"), (b"[\xff]", "not JSON"), (b"1.5", "number not whole"),
-          (b"18446744073709551616", "number not whole"), (DEEP, "too deep")]
+# What is no document, the words for it, and where it has the value for which it is none.
+UNREAD = [(b"", "not JSON", None), (b"[", "not JSON", None), (b"1,2", "not JSON", None), (b"[\xff]", "not JSON", None),
+          (b"1.5", "number not whole", ""), (b"18446744073709551616", "number not whole", ""), (DEEP, "too deep", "/0" * 126),
+          (b'{"b":1.5,"a/~":[1,{" at ":2.5}]}', "number not whole", "/a~1~0/1/ at "), ('{"z":[0],"é":[[],1e3]}'.encode(), "number not whole", "/é/1")]
 # Pointers that are none: the words and the offset.
 UNPOINTED = [(b"foo", "no slash", 0), (b"/a~2", "bad tilde", 2), (b"/a~", "bad tilde", 2), (b"/a\xff", "not UTF-8", 2), (b"\xff", "not UTF-8", 0)]
-UNKEPT = [(b"!", "not JSON"), (b"![1.5]", "number not whole"), (b"!" + DEEP, "too deep"), *UNREAD[1:]]
+# Of a kept form the words alone are said.
+UNKEPT = [(b"!", "not JSON"), (b"![1.5]", "number not whole"), (b"!" + DEEP, "too deep"), *((text, words) for text, words, _ in UNREAD[1:])]
 UNKEPT += [(text, "not kept patches") for text in (b"![]", b"!5", b'!"/a"', b'!["a"]', b'!["/a",5]', b'!{"/a":1}', b'!["/~2"]')]
 
 
@@ -36,14 +41,15 @@ def rows():
     yield [], call("get", 0, b"foo"), NOT_STARTED, 0, 0, 0, "not started"
     yield [*RECEIVED, call("free")], call("document"), NOT_STARTED, 0, 0, 0, "not started"
     yield [], call("start", 0, START), RESULT, 0, 0, 0, ""
-    for text, words in UNREAD:
-        yield [], call("start", 0, text), DOCUMENT, 0, 0, 0, words
+    for text, words, place in UNREAD:
+        total, said = (0, words) if place is None else (len(words), f"{words} at {place}")
+        yield [], call("start", 0, text), DOCUMENT, 0, 0, total, said
         yield [call("start", 0, text)], call("document"), NOT_STARTED, 0, 0, 0, "not started"
         yield [*RECEIVED, call("start", 0, text)], call("document"), RESULT, 0, 0, 0, SHOWN
-        yield RECEIVED, call("receive", 0, text), PATCH, 0, 0, 0, words
+        yield RECEIVED, call("receive", 0, text), PATCH, 0, 0, total, said
         yield [*RECEIVED, call("receive", 0, text)], call("joined"), RESULT, 0, 0, 0, JOINED
-        yield ADDED, call("add", 0, text), PATCH, 0, 0, 0, words
-        yield CONFLICTING, call("add", 0, text), PATCH, 0, 0, 0, words
+        yield ADDED, call("add", 0, text), PATCH, 0, 0, total, said
+        yield CONFLICTING, call("add", 0, text), PATCH, 0, 0, total, said
         yield [*ADDED, call("add", 0, text)], call("text"), RESULT, 0, 0, 0, JOINED
     yield RECEIVED, call("start", 0, 5), RESULT, 0, 0, 0, ""
     yield [*RECEIVED, call("start", 0, 5)], call("document"), RESULT, 0, 0, 0, "5"
@@ -53,16 +59,18 @@ def rows():
     yield from gathers()
     yield from combines()
     yield from keeps()
+    yield from stores()
+    yield from decides()
 
 
 def receives():
     yield STARTED, call("receive", 0, ONE), RESULT, 0, 0, 0, ""
     yield RECEIVED, call("receive", 0, ONE), RESULT, 0, 0, 0, ""
     yield RECEIVED, call("receive", 0, TWO), CONFLICT, 0, 0, 1, PLACES
-    yield REFUSED, call("receive", 0, TWO), CONFLICT, 0, 0, 1, PLACES
-    yield REFUSED, call("document"), RESULT, 0, 0, 0, SHOWN
-    yield REFUSED, call("joined"), RESULT, 0, 0, 0, JOINED
-    yield [*REFUSED, call("receive", 0, {"a": {"c": 4}})], call("document"), RESULT, 0, 0, 0, SHOWN.replace('"b":1', '"b":1,"c":4')
+    yield REPELLED, call("receive", 0, TWO), CONFLICT, 0, 0, 1, PLACES
+    yield REPELLED, call("document"), RESULT, 0, 0, 0, SHOWN
+    yield REPELLED, call("joined"), RESULT, 0, 0, 0, JOINED
+    yield [*REPELLED, call("receive", 0, {"a": {"c": 4}})], call("document"), RESULT, 0, 0, 0, SHOWN.replace('"b":1', '"b":1,"c":4')
     many = {f"{name}/": {"~": 1, '"': 2} for name in "dbca"}
     other = {name: {"~": 3, '"': 4} for name in many}
     places = [f"/{name}~1/{part}" for name in "abcd" for part in ('"', "~0")]
@@ -139,43 +147,140 @@ def keeps():
         yield [*CONFLICTING, call("from", 0, text)], call("text"), CONFLICT, 0, 0, 1, PLACES
 
 
+# The greatest number, and a log of the start of number 7 with the patches of 1:1 and 2:1, which conflict, and of 1:2, which does not.
+MOST = 2**64 - 1
+LOGGED = [call("log_start", 0, START, numbers=[7])]
+
+
+def message(patch, *numbers):
+    """A message of the start of number 7, or of one whose number is before those of its identity."""
+    return call("log_receive", 0, patch, numbers=[*[7][:3 - len(numbers)], *numbers])
+
+
+def decision(*identities):
+    return call("log_decide", numbers=sum(identities, ()))
+
+
+STORED = [*LOGGED, message(ONE, 1, 1), message(TWO, 2, 1), message({"z": 1}, 1, 2)]
+APART = '{"k":0,"m":{"x":[1]},"z":1}'
+PAIR = '[{"first":[1,1],"second":[2,1],"places":["/a/b"]}]'
+
+
+def stores():
+    for line in (message(b"[", 1, 1), call("log_document"), call("log_conflicts"), decision()):
+        yield [], line, NOT_STARTED, 0, 0, 0, "not started"
+        yield [*STORED, call("log_free")], line, NOT_STARTED, 0, 0, 0, "not started"
+    for text, words, place in UNREAD:
+        total, said = (0, words) if place is None else (len(words), f"{words} at {place}")
+        yield STORED, call("log_start", 0, text, numbers=[7]), DOCUMENT, 0, 0, total, said
+        yield [*STORED, call("log_start", 0, text, numbers=[7])], call("log_document"), RESULT, 0, 0, 0, APART
+        for numbers in ((1, 1), (3, 1), (6, 1, 1), (8, 1, 1)):  # of what would be a repeat, stored, late and early
+            yield STORED, message(text, *numbers), PATCH, 0, 0, total, said
+        yield [*STORED, message(text, 3, 1)], call("log_conflicts"), RESULT, 0, 0, 0, PAIR
+    for numbers, word in (((3, 1), "stored"), ((1, 1), "repeat"), ((6, 3, 1), "late"), ((8, 3, 1), "early"), ((0, 3, 1), "late"),
+                          ((MOST, 3, 1), "early"), ((0, 0), "stored"), ((MOST, MOST), "stored")):
+        yield STORED, message(5, *numbers), RESULT, 0, 0, 0, word
+        if word != "stored":
+            yield [*STORED, message(5, *numbers)], call("log_document"), RESULT, 0, 0, 0, APART
+            yield [*STORED, message(5, *numbers)], call("log_conflicts"), RESULT, 0, 0, 0, PAIR
+    for number in (0, MOST):
+        started = [call("log_start", 0, START, numbers=[number])]
+        yield started, message(ONE, number, 1, 1), RESULT, 0, 0, 0, "stored"
+        yield started, message(ONE, MOST - number, 1, 1), RESULT, 0, 0, 0, "late" if number else "early"
+    yield [], LOGGED[0], RESULT, 0, 0, 0, ""
+    yield STORED, LOGGED[0], RESULT, 0, 0, 0, ""
+    for started in (LOGGED, [*STORED, *LOGGED]):
+        yield started, call("log_document"), RESULT, 0, 0, 0, '{"k":0,"m":{"x":[1]}}'
+        yield started, call("log_conflicts"), RESULT, 0, 0, 0, "[]"
+    yield STORED, call("log_document"), RESULT, 0, 0, 0, APART
+    yield STORED, call("log_conflicts"), RESULT, 0, 0, 0, PAIR
+    last_one = [*STORED, message({"a": 5, "z": 2}, MOST, MOST)]
+    pairs = [PAIR[:-1]] + [f'{{"first":[{sender},{number}],"second":[{MOST},{MOST}],"places":["{place}"]}}'
+                           for sender, number, place in ((1, 1, "/a"), (1, 2, "/z"), (2, 1, "/a"))]
+    in_order = [pairs[0], pairs[1], pairs[2], pairs[3] + "]"]
+    yield last_one, call("log_conflicts"), RESULT, 0, 0, 0, ",".join(in_order)
+    yield last_one, call("log_document"), RESULT, 0, 0, 0, '{"k":0,"m":{"x":[1]}}'
+    long = [*LOGGED, message(WIDE, 1, 1), message(WIDER, 2, 1)]
+    yield long, call("log_conflicts"), RESULT, 0, 0, 0, f'[{{"first":[1,1],"second":[2,1],"places":{WIDE_PLACES}}}]'
+
+
+def decides():
+    one, two, apart, none = (1, 1), (2, 1), (1, 2), (9, 9)
+    for chosen in ([one, apart], [apart, one], [one, apart, one, one]):
+        yield STORED, decision(*chosen), RESULT, 0, 0, 0, ""
+        decided = [*STORED, decision(*chosen)]
+        yield decided, call("log_document"), RESULT, 0, 0, 0, SHOWN[:-1] + ',"z":1}'
+        yield decided, call("log_conflicts"), RESULT, 0, 0, 0, "[]"
+        yield decided, message(TWO, 2, 1), RESULT, 0, 0, 0, "late"
+        yield decided, message(TWO, 8, 1, 1), RESULT, 0, 0, 0, "stored"
+        yield decided, decision(one), MISSING, 0, 0, 0, "missing"
+    yield [*STORED, decision()], call("log_document"), RESULT, 0, 0, 0, '{"k":0,"m":{"x":[1]}}'
+    yield [*STORED, decision()], message(ONE, 9, 1, 1), RESULT, 0, 0, 0, "early"
+    for chosen, number in (([none], 0), ([one, two, none, none], 2), ([one, (1, 3), none], 1), ([(9, 1), none, (9, 1)], 0)):
+        yield STORED, decision(*chosen), MISSING, number, 0, 0, "missing"
+    for chosen, *numbers in (([one, two], 0, 1), ([two, one], 1, 0), ([apart, two, apart, two, one, one], 4, 1)):
+        yield STORED, decision(*chosen), CONFLICT, *numbers, 1, PLACES
+        for line, shown in ((call("log_document"), APART), (call("log_conflicts"), PAIR)):
+            yield [*STORED, decision(*chosen)], line, RESULT, 0, 0, 0, shown
+    # Of several pairs the first in the order of identities.
+    yield [*STORED, message({"z": 3, "a": 1}, 0, 5)], decision(two, apart, one, (0, 5)), CONFLICT, 3, 2, 1, '["/a"]'
+    yield [*LOGGED, message(WIDE, 1, 1), message(WIDER, 2, 1)], decision(two, one), CONFLICT, 1, 0, 20, WIDE_PLACES
+    full = [call("log_start", 0, START, numbers=[MOST]), message(ONE, MOST, 1, 1)]
+    for chosen in ([], [one], [none]):
+        yield full, decision(*chosen), REFUSED, 0, 0, 0, "no number is left for a start"
+    yield [*full, decision(one)], call("log_document"), RESULT, 0, 0, 0, SHOWN
+
+
 ROWS = list(rows())
-
-
-def said(reply):
-    return [reply.status, reply.first, reply.second, reply.total, reply.text]
 
 
 @pytest.mark.parametrize("way", ["buffer", "new"])
 def test_each_row(driver, way):
-    seen = last([driver, way], ([*before, line] for before, line, *_ in ROWS))
-    assert [it for it in zip(ROWS, seen) if said(it[1]) != list(it[0][2:]) or it[1].length != len(it[1].text)] == []
+    compare([driver, way], ROWS)
 
 
 def test_each_status_of_each_call_is_in_a_row():
     seen = {(line.split()[0], status) for _, line, status, *_ in ROWS}
-    assert seen >= {(name, NOT_STARTED) for name in ("receive", "document", "joined", "get")}
+    logs = {f"log_{name}" for name in ("start", "receive", "document", "conflicts", "decide")}
+    assert seen >= {(name, NOT_STARTED) for name in ("receive", "document", "joined", "get", *(logs - {"log_start"}))}
     assert {name for name, status in seen if status == RESULT} == {
-        "start", "receive", "document", "joined", "get", "add", "combine", "text", "kept", "from"}
-    assert {name for name, status in seen if status == CONFLICT} == {"receive", "add", "combine", "text", "from"}
+        "start", "receive", "document", "joined", "get", "add", "combine", "text", "kept", "from", *logs}
+    assert {name for name, status in seen if status == CONFLICT} == {"receive", "add", "combine", "text", "from", "log_decide"}
+    assert {status for name, status in seen if name == "log_decide"} == {RESULT, CONFLICT, REFUSED, MISSING, NOT_STARTED}
+
+
+def test_a_message_is_stored_whatever_the_limit_of_its_reply(driver):
+    """Only the word is left out, and the message that comes again is a repeat."""
+    script = [*LOGGED, "limit 5", message(ONE, 1, 1), "limit 6", message(ONE, 1, 1)]
+    assert [it.said() for it in each([driver], [script])[0][1:]] == [[TOO_LARGE, 0, 0, 0, ""], [RESULT, 0, 0, 0, "repeat"]]
+
+
+def compare_within_limits(words, tried):
+    """Each limit and row: the reply is what is said within the limit."""
+    found = last(words, ([*before, f"limit {limit}", line] for limit, (before, line, *_) in tried))
+    for (limit, (_, line, *wanted)), reply in zip(tried, found):
+        assert reply.said() == within(limit, wanted) and reply.length == len(reply.text.encode()), (line, limit)
 
 
 @pytest.mark.parametrize("way", ["buffer", "new"])
-def test_a_limit_bounds_a_result_and_nothing_else(driver, way):
-    """As long as the text it changes nothing; a byte less is too large; and errors and places are not bounded."""
-    tried = [(limit, row) for row in ROWS for limit in {0, max(len(row[-1]) - 1, 0), len(row[-1])}]
-    seen = last([driver, way], ([*before, f"limit {limit}", line] for limit, (before, line, *_) in tried))
-    for (limit, (_, line, status, *wanted)), reply in zip(tried, seen):
-        is_large = status == RESULT and limit < len(wanted[-1])
-        assert said(reply) == ([TOO_LARGE, 0, 0, 0, ""] if is_large else [status, *wanted]), (line, limit)
-        assert reply.length == len(reply.text)
+def test_a_limit_bounds_results_and_places_and_nothing_else(driver, way):
+    """As long as the text it changes nothing; a byte less is too large, or leaves out a place; and errors are not bounded."""
+    sizes = [(len(row[-1].encode()), row) for row in ROWS]
+    tried = [(limit, row) for size, row in sizes for limit in {0, 1, 2, size // 2, max(size - 1, 0), size}]
+    compare_within_limits([driver, way], tried)
+
+
+@pytest.mark.parametrize("way", ["buffer", "new"])
+def test_a_limit_is_on_both_sides_of_each_place(driver, way):
+    """An array of the first places ends where the next would make it longer than the limit."""
+    wide = [row for row in ROWS if row[2] == CONFLICT and row[-1] == WIDE_PLACES]
+    sizes = [len(driving.written(json.loads(WIDE_PLACES)[:count])) for count in range(21)]
+    compare_within_limits([driver, way], [(limit, row) for row in wide for size in sizes for limit in (size - 1, size)])
+    assert len(wide) >= 6
 
 
 def test_a_buffer_of_each_size_has_the_beginning_of_the_text(driver):
-    tried = [(capacity, row) for row in ROWS for capacity in range(len(row[-1]) + 2)]
-    seen = last([driver], ([*before, f"capacity {capacity}", line] for capacity, (before, line, *_) in tried))
-    for (capacity, (_, line, *wanted)), reply in zip(tried, seen):
-        assert said(reply) == [*wanted[:-1], wanted[-1][:capacity]] and reply.length == len(wanted[-1]), (line, capacity)
+    compare_in_buffers([driver], ROWS)
 
 
 def test_the_helpers_give_a_long_text_as_a_whole(driver):
@@ -183,11 +288,12 @@ def test_the_helpers_give_a_long_text_as_a_whole(driver):
     long = {f"name {number:05}": "x" * 20 for number in range(3000)}
     text, part = driving.written(long), driving.written(long | {"more": 1})
     replica, patches = [call("start", 0, START), call("receive", 0, {"long": long})], [call("add", 0, long), call("add", 0, {"more": 1})]
+    log = [*LOGGED, message({"long": long}, 1, 1)]
     shown = driving.written(START | {"long": long})
     scripts = [[*replica, call("document")], [*replica, call("joined")], [*replica, call("get", 0, b"/long")], [*patches, call("text")],
-               [*patches, call("kept")]]
+               [*patches, call("kept")], [*log, call("log_document")]]
     seen = [(it.status, it.length, it.text) for it in last([driver, "new"], scripts)]
-    assert seen == [(RESULT, len(it), it) for it in (shown, f'{{"long":{text}}}', text, part, part)] and len(text) > 100_000
+    assert seen == [(RESULT, len(it), it) for it in (shown, f'{{"long":{text}}}', text, part, part, shown)] and len(text) > 100_000
 
 
 @pytest.mark.parametrize("way", ["buffer", "new"])
@@ -196,4 +302,4 @@ def test_all_rows_in_one_run_under_valgrind(driver, valgrind, way):
 
 
 def test_a_handle_that_is_not_there_is_freed_twice(driver):
-    assert each([driver], [driving.FREED, [call("start", 0, 5), call("add", 0, 5), *driving.FREED, *driving.FREED]])
+    assert each([driver], [driving.FREED, [call("start", 0, 5), call("add", 0, 5), *LOGGED, *driving.FREED, *driving.FREED]])

@@ -1,42 +1,16 @@
 """Random runs of calls of handles reply what a model replies that has all texts, and makes the six calls over them anew each time."""
 
-import ctypes
+import itertools
 import json
 import random
 
 import pytest
 
 import driving
-from driving import CONFLICT, NO_PATCHES, RESULT, call, each
+from calling import Six
+from driving import CONFLICT, MISSING, NO_PATCHES, RESULT, call, each
 
 RUNS, CALLS = 150, 30
-
-
-class Text(ctypes.Structure):
-    _fields_ = [("bytes", ctypes.c_char_p), ("length", ctypes.c_size_t)]
-
-
-class Reply(ctypes.Structure):
-    _fields_ = [(name, ctypes.c_size_t) for name in ("length", "first", "second", "total", "spare")] + [
-        (name, ctypes.c_uint32) for name in ("status", "flags")]
-
-
-class Six:
-    """The calls that keep nothing: each gives the status, the total and the text."""
-
-    def __init__(self):
-        self.library = ctypes.CDLL(str(driving.SHARED))
-
-    def __call__(self, name, *given):
-        words = []
-        for it in given:
-            words += [it] if isinstance(it, bytes) else [(Text * max(1, len(it)))(*[(text, len(text)) for text in it])]
-            words.append(ctypes.c_size_t(len(it)))
-        buffer = ctypes.create_string_buffer(1 << 16)
-        function = getattr(self.library, f"mergejoin_{name}")
-        function.restype = Reply
-        reply = function(*words, buffer, ctypes.c_size_t(len(buffer)), ctypes.c_size_t(-1 % 2**64))
-        return reply.status, reply.total, buffer.raw[:reply.length]
 
 
 class Replica:
@@ -102,6 +76,45 @@ class Patches:
         return self.said() or (RESULT, 0, b"")
 
 
+class Log:
+    """What a patch log replies: it has the start, its number, and the text of each patch under its identity."""
+
+    def __init__(self, six, epoch, start):
+        self.six, self.epoch, self.given, self.stored = six, epoch, start, {}
+
+    def receive(self, patch, epoch, *identity):
+        word = "late" if epoch < self.epoch else "early" if epoch > self.epoch else "repeat" if identity in self.stored else "stored"
+        if word == "stored":
+            self.stored[identity] = patch
+        return RESULT, 0, word.encode()
+
+    def pairs(self):
+        """Gives each two that conflict in order, and the reply that says where."""
+        for pair in itertools.combinations(sorted(self.stored), 2):
+            status, total, places = self.six("join", [self.stored[it] for it in pair])
+            if status == CONFLICT:
+                yield pair, total, places
+
+    def document(self):
+        conflicting = {it for pair, *_ in self.pairs() for it in pair}
+        return self.six("replay", self.given, [patch for it, patch in self.stored.items() if it not in conflicting])
+
+    def conflicts(self):
+        pairs = (f'{{"first":{list(one)},"second":{list(other)},"places":{places.decode()}}}' for (one, other), _, places in self.pairs())
+        return RESULT, 0, f"[{','.join(pairs)}]".replace(" ", "").encode()
+
+    def decide(self, *chosen):
+        for number, identity in enumerate(chosen):
+            if identity not in self.stored:
+                return MISSING, 0, b"missing", number, 0
+        for pair, total, places in self.pairs():
+            if set(pair) <= set(chosen):
+                return CONFLICT, total, places, *map(chosen.index, pair)
+        status, _, self.given = self.six("replay", self.given, [self.stored[it] for it in chosen])
+        self.epoch, self.stored = self.epoch + 1, {}
+        return status, 0, b"", 0, 0
+
+
 def document(some, depth=3):
     kind = some.random()
     if depth and kind < 0.7:
@@ -141,14 +154,32 @@ def patches_run(six, some):
             yield call(what, one), getattr(models[one], what)()
 
 
+def log_run(six, some):
+    start = text(some)
+    model = Log(six, 5, start)
+    yield call("log_start", 0, start, numbers=[5]), (RESULT, 0, b"")
+    for _ in range(CALLS):
+        what = some.choice(["receive"] * 5 + ["document", "conflicts", "decide"])
+        identity = some.randrange(3), some.randrange(4)
+        if what == "receive":
+            patch, epoch = text(some), model.epoch + some.choice([0, 0, 0, 0, -1, 1])
+            yield call("log_receive", 0, patch, numbers=[epoch, *identity]), model.receive(patch, epoch, *identity)
+        elif what == "decide":
+            chosen = [some.choice(sorted(model.stored) or [identity]) for _ in range(some.randrange(4))] + [identity] * (some.random() < 0.1)
+            yield call("log_decide", numbers=sum(chosen, ())), model.decide(*chosen)
+        else:
+            yield call(f"log_{what}"), getattr(model, what)()
+
+
 @pytest.mark.parametrize("way", ["buffer", "new"])
-@pytest.mark.parametrize("run", [replica_run, patches_run])
+@pytest.mark.parametrize("run", [replica_run, patches_run, log_run])
 def test_a_run_replies_what_the_texts_do(driver, run, way):
     seen, six = set(), Six()
     for seed in range(RUNS):
         made = list(run(six, random.Random(seed)))
         found, = each([driver, way], [[line for line, _ in made]])
         for number, (reply, (line, wanted)) in enumerate(zip(found, made)):
-            assert (reply.status, reply.total, reply.text.encode()) == wanted, (seed, number, line, reply, wanted)
+            said = reply.status, reply.total, reply.text.encode(), reply.first, reply.second
+            assert said[:len(wanted)] == wanted, (seed, number, line, reply, wanted)
             seen.add((reply.name, reply.status))
-    assert len(seen) >= 6 and {status for _, status in seen} >= {RESULT, CONFLICT, NO_PATCHES}
+    assert len(seen) >= 6 and {status for _, status in seen} >= {RESULT, CONFLICT, MISSING if run == log_run else NO_PATCHES}

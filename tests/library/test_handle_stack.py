@@ -1,21 +1,8 @@
 """The stack that each call of a handle takes at the deepest documents is at most what the header says."""
 
-import re
-
 import driving
+from deepest import ARRAYS, OBJECTS, PLACE, WIDE, apart, stack_of_the_header
 from driving import call, each
-
-DEEPEST = 126
-ARRAYS, OBJECTS = "[" * DEEPEST + "]" * DEEPEST, '{"a":' * DEEPEST + "1" + "}" * DEEPEST
-PLACE = "/a" * DEEPEST
-# The member that nests comes after many lower names, or after many higher ones.
-MEMBERS = ",".join(f'"{number:02}":1' for number in range(70))
-WIDE = [f'{{{MEMBERS},"{name}":' * DEEPEST + "1" + "}" * DEEPEST for name in ("z", " ")]
-
-
-def apart(name):
-    """A deep patch with another name at each level than those of other names."""
-    return f'{{"{name}":1,"m":' * (DEEPEST - 1) + f'{{"{name}":1}}' + "}" * (DEEPEST - 1)
 
 
 def scripts():
@@ -26,8 +13,13 @@ def scripts():
         for patch in texts:
             yield [call("start", 0, start), call("receive", 0, patch), call("receive", 0, patch), *reads, call("start", 0, start), call("free")]
             yield [call("add", 0, start), call("add", 0, patch), *gathered, call("add", 1, patch), call("combine", 0, b"", 1), *gathered, call("drop")]
+            stored = [call("log_receive", 0, it, numbers=[0, 1, number]) for number, it in enumerate((patch, start, patch))]
+            read = [call("log_document"), call("log_conflicts"), call("log_decide", numbers=[1, 0, 1, 1])]
+            yield [call("log_start", 0, start, numbers=[0]), *stored, *read, call("log_decide", numbers=[1, 0]), *read, call("log_free")]
     deep = [call("receive", 0, apart(f"k{number}").encode()) for number in range(40)]
     yield [call("start", 0, OBJECTS.encode()), *deep, *reads, call("free")]
+    logged = [call("log_receive", 0, apart(f"k{number}").encode(), numbers=[0, 1, number]) for number in range(40)]
+    yield [call("log_start", 0, OBJECTS.encode(), numbers=[0]), *logged, call("log_document"), call("log_decide", numbers=[1, 0, 1, 39]), call("log_free")]
     other = OBJECTS.replace("1", "2").encode()
     yield [call("start", 0, b"5"), call("receive", 0, OBJECTS.encode()), call("receive", 0, other), *reads, call("free")]
     yield [call("from", 0, OBJECTS.encode()), call("add", 0, other), *gathered, call("from", 1, f'!["{PLACE}"]'.encode()), call("combine", 0, b"", 1)]
@@ -39,6 +31,5 @@ def test_the_stack_is_at_most_what_the_header_says(driver):
     for it in found:
         most[it.name] = max(most.get(it.name, 0), it.stack)
     print(most)
-    says = int(re.search(r"take up to (\d+) KiB of", driving.HEADER.read_text("utf-8"))[1]) * 1024
-    assert max(most.values()) <= says
+    assert max(most.values()) <= stack_of_the_header()
     assert {it.status for it in found} >= {driving.RESULT, driving.CONFLICT}

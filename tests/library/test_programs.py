@@ -1,30 +1,21 @@
-"""Programs that use the library as its users do: threads that share a replica, many patches on a long document, the helpers, what
-C++ has for nothing, and what CMake and pkg-config find.
+"""The library as its users have it: threads that share a replica, many patches on a long document, what the helpers cost, what C++
+has for nothing, and what CMake and pkg-config find.
 """
 
-import json
-import os
 import re
 import shutil
-import subprocess
 
 import pytest
 
+import calls
 import driving
 from counting import instructions
-from driving import HERE, LIBRARIES, MEMCHECK, TOP, needs
+from driving import CONFLICT, HERE, LIBRARIES, MEMCHECK, RESULT, TOP, call, call_of, replies, run
 
 # The instructions of the whole program for each patch of 40 bytes on a document of 0.8 MB.
 MOST_INSTRUCTIONS, LONG, MANY = 45_000, 800_000, 10_000
-# How much more a rewriting by the helper may cost, and the bytes that 100 short results may keep.
-MOST_MORE, MOST_KEPT = 1.05, 1_000_000
-
-
-def run(words, setting=None):
-    """Runs words, which have to end well, and gives what they print."""
-    done = subprocess.run([*map(str, words)], capture_output=True, text=True, timeout=300, check=False, env={**os.environ, **(setting or {})})
-    assert done.returncode == 0, (done.returncode, done.stdout[-500:], done.stderr[-2000:])
-    return done.stdout
+# How much more a rewriting by the helper may cost, and the bytes that a short result may keep.
+MOST_MORE, MOST_KEPT = 1.05, 10_000
 
 
 @pytest.fixture(name="threads", scope="session")
@@ -36,20 +27,10 @@ def threads_program(directory):
     return driving.compiled(directory, HERE / "threads.c", "-pthread", "-g")
 
 
-@pytest.fixture(name="receives", scope="session")
-def receives_program(directory):
-    return driving.compiled(directory, HERE / "receives.c")
-
-
-@pytest.fixture(name="helpers", scope="session")
-def helpers_program(directory):
-    return driving.compiled(directory, HERE / "helpers.c")
-
-
 @pytest.mark.parametrize("under", [[], MEMCHECK, ["valgrind", "-q", "--tool=helgrind", "--error-exitcode=9"]], ids=["alone", "memcheck", "helgrind"])
 def test_four_threads_share_a_replica_by_the_example_of_the_header(threads, valgrind, under):
     wanted = {f"k{number:03}": {"of": number % 4} for number in range(800)}
-    assert run([*under, threads]) == driving.written(wanted) + "\n"
+    assert run([*under, threads]) == 2 * (driving.written(wanted) + "\n")
 
 
 def test_helgrind_sees_a_thread_without_the_lock(directory, valgrind):
@@ -59,21 +40,41 @@ def test_helgrind_sees_a_thread_without_the_lock(directory, valgrind):
     (directory / "unlocked/example.h").write_text(re.sub(r".*pthread_mutex.*\n", "", example), "utf-8")
     program = driving.compiled(directory / "unlocked", HERE / "threads.c", "-pthread", "-g")
     words = ["valgrind", "-q", "--tool=helgrind", "--error-exitcode=9", program]
-    assert "Possible data race" in subprocess.run(words, capture_output=True, text=True, timeout=300, check=False).stderr
+    assert "Possible data race" in calls.run(words, limit=300)[2]
+
+
+def receiving(size, count):
+    """Gives a start of so many bytes, and so many patches, of 40 bytes each."""
+    members = ",".join(f'"member{number:07}":"{number:021}"' for number in range(size // 40))
+    return f"{{{members}}}".encode(), [f'{{"service{number:07}":"{number:019}"}}'.encode() for number in range(count)]
+
+
+def one_by_one(size, count):
+    """The script by which a replica receives these patches, and shows its document."""
+    start, patches = receiving(size, count)
+    received = [call("receive", 0, patch) for patch in patches]
+    return ["capacity 0", call("start", 0, start), *received, "capacity 2000000", call("document")]
 
 
 @pytest.mark.parametrize("size,count", [(0, 0), (0, 100), (8_000, 100), (LONG, MANY)])
-def test_patches_one_by_one_make_what_one_replay_makes(receives, size, count):
-    live, replayed = (run([receives, how, size, count]) for how in ("live", "replay"))
-    assert live == replayed and live.count("service") == count
+def test_patches_one_by_one_make_what_one_replay_makes(driver, size, count):
+    start, patches = receiving(size, count)
+    (*taken, live, replayed), _ = replies([driver], [*one_by_one(size, count), call_of("replay", [start, *patches])])
+    assert {it.status for it in taken} == {RESULT}
+    assert live.said() == replayed.said() and live.status == RESULT and live.text.count("service") == count
 
 
-def test_many_patches_leave_nothing(receives, valgrind):
-    assert run([*MEMCHECK, receives, "live", LONG, MANY]).count("service") == MANY
+def test_many_patches_leave_nothing(driver, valgrind):
+    (*_, live, _), (heap,) = replies([*MEMCHECK, driver], [*one_by_one(LONG, MANY), call("free"), "heap"])
+    assert live.text.count("service") == MANY and not heap.blocks
 
 
-def test_a_patch_costs_little_on_a_long_document(receives, valgrind):
-    none, all_of_them = (instructions([receives, "live", str(LONG), str(count)], None) for count in (0, MANY))
+def instructions_of(words, lines):
+    return instructions(words, None, given=driving.script_of(lines).encode())
+
+
+def test_a_patch_costs_little_on_a_long_document(driver, valgrind):
+    none, all_of_them = (instructions_of([driver], one_by_one(LONG, count)) for count in (0, MANY))
     assert (all_of_them - none) / MANY <= MOST_INSTRUCTIONS
 
 
@@ -91,37 +92,58 @@ REWRITINGS = {
 
 
 @pytest.mark.parametrize("title", REWRITINGS)
-def test_a_rewriting_by_the_helper_is_not_made_twice(helpers, valgrind, directory, title):
-    files = [directory / "document", directory / "patch"]
-    for file, document in zip(files, REWRITINGS[title]):
-        file.write_text(json.dumps(document), "utf-8")
-    lengths = [int(run([helpers, how, *files])) for how in ("plain", "new")]
-    assert lengths[0] == lengths[1] > 0
-    none, plain, new = (instructions([helpers, how, *map(str, files)], None) for how in ("none", "plain", "new"))
-    assert (new - none) / (plain - none) <= MOST_MORE
+def test_a_rewriting_by_the_helper_is_not_made_twice(driver, valgrind, title):
+    line = call_of("rewrite", REWRITINGS[title])
+    (plain,), (new,) = (replies([driver, way], ["capacity 1000000", line])[0] for way in ("buffer", "new"))
+    assert plain.said() == new.said() and plain.status == RESULT and plain.length > 0
+    none = instructions_of([driver], ["capacity 0", line.replace("rewrite_of", "drop")])
+    plainly, by_helper = (instructions_of([driver, way], [f"capacity {plain.length}", line]) for way in ("buffer", "new"))
+    assert (by_helper - none) / (plainly - none) <= MOST_MORE
 
 
-def test_short_results_keep_little(helpers):
-    kept = list(map(int, run([helpers, "kept"]).split()))
-    assert len(kept) == 6 and max(kept) <= MOST_KEPT
+# An export and what it takes besides a document of 1 MB, of which its result is short.
+SHORT = [("get", b"/b"), ("merge", 7), ("replay", 7), ("patch", [{"op": "replace", "path": "", "value": 7}]), ("rewrite", {}), ("join", 7)]
 
 
-# Programs that give null, and how each is compiled.
-GIVE_NULL = [(source, compiler, level) for source, compilers in (("empty.cc", ("g++ -std=c++17", "clang++ -std=c++17")), ("header.c", ("gcc -std=c11", "clang -std=c11")))
-             for compiler in compilers for level in ("-O0", "-O2")] + [("empty.cc", "g++ -std=c++17", "-O2 -flto")]
+@pytest.mark.parametrize("export,more", SHORT)
+def test_a_short_result_keeps_little(driver, export, more):
+    (reply,), _ = replies([driver, "new"], [call_of(export, [{"a": "0" * (1 << 20), "b": 5}, more])])
+    assert reply.status == (CONFLICT if export == "join" else RESULT)
+    assert reply.length <= 16 and 0 < reply.block <= MOST_KEPT
 
 
-@pytest.mark.parametrize("source,compiler,level", GIVE_NULL, ids=map(" ".join, GIVE_NULL))
-def test_no_export_is_given_null(directory, valgrind, source, compiler, level):
-    """What C++ has for nothing can be given, and null with a length of 0: no_null.c stands between."""
+# Many patches, of which a handle holds much for each of their bytes.
+NESTED = ['{"":' * depth + "{}" + "}" * depth for depth in (0, 1, 120)]
+HELD = {"apart": [f'{{"{number}":{it}}}' for number in range(200) for it in NESTED], "conflicting": [f'{{"a":{number}}}' for number in range(600)],
+        "short": ["0"] * 600, "short and conflicting": [str(number % 10) for number in range(600)], "conflicting objects": [f'{{"a":{{"b":{number},"c":{{}}}}}}' for number in range(300)]}
+
+
+@pytest.mark.parametrize("title", HELD)
+def test_a_handle_holds_what_the_header_says(driver, title):
+    words = re.sub(r"\s+\*\s+", " ", driving.HEADER.read_text("utf-8"))
+    most, = map(int, re.findall(r"of its patches, and up to (\d+) for many small objects", words))
+    texts = [it.encode() for it in HELD[title]]
+    of_log = [call("log_receive", 0, it, numbers=[0, 0, number]) for number, it in enumerate(texts)]
+    for start, lines in ((call("start", 0, b"0"), [call("receive", 0, it) for it in texts]), (call("log_start", 0, b"0"), of_log)):
+        _, (before, after) = replies([driver], [start, "heap", *lines, "heap"])
+        assert after.held - before.held <= most * sum(map(len, texts))
+
+
+# How header.c is compiled, which gives null: with a length of 0, and as what C++ has for nothing.
+COMPILERS = ("gcc -std=c11", "clang -std=c11", "g++ -std=c++17 -x c++", "clang++ -std=c++17 -x c++")
+GIVE_NULL = [f"{compiler} {level}" for compiler in COMPILERS for level in ("-O0", "-O2")] + ["g++ -std=c++17 -x c++ -O2 -flto"]
+
+
+@pytest.mark.parametrize("compiler", GIVE_NULL)
+def test_no_export_is_given_null(needs, directory, valgrind, compiler):
+    """no_null.c stands between."""
     needs(compiler.split()[0])
     exports = re.findall(r"^mergejoin_reply (\w+)\(", driving.HEADER.read_text("utf-8"), re.M)
     between = directory / "no_null.o"
     run(["gcc", "-std=gnu11", *driving.WARNINGS, f"-I{driving.HEADER.parent}", "-c", HERE / "no_null.c", "-o", between])
-    assert len(exports) == run(["nm", between]).count(" T __wrap_") == 16
+    assert len(exports) == run(["nm", between]).count(" T __wrap_") == 21
     wrapped = f"-Wl,{','.join(f'--wrap={name}' for name in exports)}"
-    path = HERE / source if source.startswith("empty") else TOP / "checks/c" / source
-    program = driving.compiled(directory, path, between, wrapped, compiler=[*compiler.split(), *level.split()])
+    program = driving.compiled(directory, HERE / "header.c", between, wrapped, compiler=compiler.split())
     run([*MEMCHECK, program])
     assert "__wrap_mergejoin_join" in run(["nm", program])
 
@@ -135,18 +157,18 @@ def fresh_directory(directory):
 
 
 def project(directory, installed, version):
-    """A project for CMake of checks/c/header.c, and how it is configured for a version of the package."""
+    """A project for CMake of header.c, and how its configuration ends for a version of the package."""
     directory.mkdir(exist_ok=True)
-    shutil.copy2(TOP / "checks/c/header.c", directory / "replica.c")
-    shutil.copy2(TOP / "checks/c/CMakeLists.txt", directory)
+    shutil.copy2(HERE / "header.c", directory / "replica.c")
+    shutil.copy2(HERE / "CMakeLists.txt", directory)
     words = ["cmake", "--log-level=ERROR", "-S", directory, "-B", directory / "build", f"-DCMAKE_PREFIX_PATH={installed}", f"-DWANTED={version}"]
-    return subprocess.run([*map(str, words)], capture_output=True, text=True, timeout=300, check=False)
+    return calls.run(words, limit=300)
 
 
-def test_cmake_finds_the_library_wherever_it_is(directory, installed):
+def test_cmake_finds_the_library_wherever_it_is(needs, directory, installed):
     needs("cmake")
-    done = project(directory / "found", installed, version_of_the_changes().rsplit(".", 1)[0])
-    assert done.returncode == 0, done.stderr
+    status, _, err = project(directory / "found", installed, version_of_the_changes().rsplit(".", 1)[0])
+    assert status == 0, err
     run(["cmake", "--build", directory / "found/build"])
     for kind in ("mergejoin", "static"):
         run([directory / f"found/build/replica-{kind}"])
@@ -155,22 +177,21 @@ def test_cmake_finds_the_library_wherever_it_is(directory, installed):
 
 
 @pytest.mark.parametrize("version,is_found", [("0.3.0", True), ("0.3", True), ("0.2", False), ("0.4", False), ("0.3.1", False), ("1.0", False)])
-def test_cmake_finds_a_version_that_serves(directory, installed, version, is_found):
+def test_cmake_finds_a_version_that_serves(needs, directory, installed, version, is_found):
     needs("cmake")
-    done = project(directory / f"version {version}", installed, version)
-    assert (done.returncode == 0) == is_found, done.stderr
-    assert is_found or "0.3.0" in done.stderr
+    status, _, err = project(directory / f"version {version}", installed, version)
+    assert (status == 0) == is_found, err
+    assert is_found or "0.3.0" in err
 
 
 @pytest.mark.parametrize("static", [False, True])
-def test_pkg_config_finds_the_library_wherever_it_is(directory, installed, static):
+def test_pkg_config_finds_the_library_wherever_it_is(needs, directory, installed, static):
     needs("pkg-config")
-    setting = {"PKG_CONFIG_LIBDIR": str(installed / "lib/pkgconfig")}
     shutil.copytree(installed, directory / "prefix", dirs_exist_ok=True)  # no space, at which words are split
     setting = {"PKG_CONFIG_LIBDIR": str(directory / "prefix/lib/pkgconfig")}
     words = run(["pkg-config", "--cflags", "--libs", "mergejoin"], setting).split()
     words += ["-Wl,-Bstatic", "-lmergejoin", "-Wl,-Bdynamic"] if static else []
-    run(["gcc", TOP / "checks/c/header.c", *words, "-o", directory / "by-pkg-config"])
+    run(["gcc", HERE / "header.c", *words, "-o", directory / "by-pkg-config"])
     run([directory / "by-pkg-config"], {"LD_LIBRARY_PATH": str(directory / "prefix/lib")})
 
 

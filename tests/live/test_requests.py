@@ -4,14 +4,13 @@ hold. requests.txt keeps the numbers, and `tests/live/test_requests.py --write` 
 """
 
 import pathlib
-import subprocess
 import sys
 import tempfile
 
 import pytest
 
 HERE = pathlib.Path(__file__).resolve().parent
-sys.path[:0] = [str(HERE.parent / "cost"), str(HERE.parents[1] / "checks/heap"), str(HERE.parents[1] / "checks/common")]
+sys.path[:0] = [str(HERE.parent / part) for part in ("common", "cost")]
 from counting import RUNS
 from failing import Heap
 
@@ -37,11 +36,6 @@ def lines(heap):
 
 # The bytes that are held for each byte of the texts, for patches of so many bytes that nest two objects each, and how many.
 MOST_HELD, APART, PATCHES = 60, 33, 100_000
-
-
-@pytest.fixture(name="heap", scope="session")
-def counting_heap(tmp_path_factory):
-    return Heap(tmp_path_factory.mktemp("heap"))
 
 
 @pytest.mark.parametrize("call", CALLS)

@@ -1,5 +1,5 @@
-"""Each row of docs/PROMISES.md that says "proved" names its contract and a mutant that the prover refused; each row that says
-"tested" names its test; and what is named is there.
+"""Each row of docs/PROMISES.md that says "proved" names its contract and a mutant, which tests/tools/test_must_fail.py looks for among
+the refused; each row that says "tested" names its test; and what is named is there.
 """
 
 import pathlib
@@ -9,12 +9,10 @@ import pytest
 
 TOP = pathlib.Path(__file__).resolve().parents[2]
 PAGE = TOP / "docs/PROMISES.md"
-LOG = TOP / "out/gate.log"  # of `rt ci`, which bin/test writes
 FEWEST = 100  # rows
 NOT_WRITTEN = 5  # rows that may say why no mutant can be written
 MUTANTS = {path.stem for path in TOP.glob("crates/*/must-fail/*.edit")}
 QUOTED = re.compile(r"`([^`]+)`")
-TRIED = re.compile(r"^(?:rt: )?must-fail \w+/([\w.-]+)\.edit: (.*)$", re.M)
 
 
 def rows():
@@ -28,22 +26,16 @@ def rows():
 
 
 def words_of_sources():
-    """Gives every word of the sources, definitions, checks and tests, and the names of their files."""
+    """Gives every word of the sources, definitions and tests, but of pages, and the names of their files."""
     words = set()
-    for directory in ("crates", "checks", "tests", "bindings"):
+    for directory in ("crates", "tests", "tools", "bindings"):
         for path in (TOP / directory).rglob("*"):
             if {"out", "target", "__pycache__"} & set(path.relative_to(TOP).parts):
                 continue
             words |= {str(path.relative_to(TOP)), path.name}
-            if path.is_file():
+            if path.is_file() and path.suffix != ".md":
                 words |= set(re.findall(r"[^\W\d]\w*", path.read_text("utf-8", "replace")))
     return words
-
-
-def unrefused(log, mutants):
-    """Gives those of the mutants that the log of `rt ci` does not say were refused."""
-    tried = dict(TRIED.findall(log))
-    return sorted(name for name in mutants if not tried.get(name, "").startswith("refused"))
 
 
 def clauses_of_functions():
@@ -107,15 +99,3 @@ def test_a_tested_row_names_its_test(row):
     tests = QUOTED.findall(row[2])
     assert tests, "it names no test"
     assert [name for name in last_words(tests) if name not in WORDS] == [], "a test that is not there"
-
-
-def test_each_mutant_that_is_named_was_refused():
-    if not LOG.is_file():
-        pytest.skip(f"{LOG.relative_to(TOP)} is not there, which bin/test writes")
-    named = {name for row in PROVED for name in QUOTED.findall(row[2]) if name in MUTANTS}
-    assert unrefused(LOG.read_text("utf-8", "replace"), named) == []
-
-
-def test_what_a_log_does_not_say_was_not_refused():
-    log = "must-fail mp_tree/copies-few.edit: refused, as it should be: ..\nmust-fail mp_c/is-empty.edit: NOT REFUSED\n"
-    assert unrefused(log, {"copies-few", "is-empty", "is-gone"}) == ["is-empty", "is-gone"]

@@ -1,22 +1,18 @@
 """The crate for Rust in a directory of its own, over the library that bin/library has made."""
 
 import os
-import pathlib
 import shutil
 import subprocess
 
 import pytest
+from calls import TOP
 
-TOP = pathlib.Path(__file__).resolve().parents[3]
 LIBRARY = TOP / "out/lib"
 
 
 @pytest.fixture(scope="session", name="crate")
-def crate_of_its_own(tmp_path_factory):
-    if not shutil.which("cargo"):
-        (pytest.fail if os.environ.get("MERGEJOIN_ALL_CHECKS") else pytest.skip)("not installed: cargo")
-    if subprocess.run([TOP / "bin/library"], stdin=subprocess.DEVNULL, check=False).returncode:
-        pytest.fail("bin/library failed")
+def crate_of_its_own(needs, library, tmp_path_factory):
+    needs("cargo")
     place = tmp_path_factory.mktemp("crate") / "rust"
     shutil.copytree(TOP / "bindings/rust", place, ignore=shutil.ignore_patterns("target", "Cargo.lock"))
     return place

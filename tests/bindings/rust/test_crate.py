@@ -3,19 +3,17 @@ and rustdoc have nothing to say of it.
 """
 
 import json
-import pathlib
 import re
 import shutil
-import subprocess
 
 import pytest
+from calls import TOP, run
 
-TOP = pathlib.Path(__file__).resolve().parents[3]
 OUT = TOP / "out"
 
 
 def test_with_the_archive(cargo):
-    assert cargo("test").count("test result: ok.") == 4
+    assert cargo("test").count("test result: ok.") == 5
 
 
 @pytest.fixture(name="shared")
@@ -30,8 +28,7 @@ def test_with_the_shared_library_that_pkg_config_knows(cargo, shared):
     setting = {"MERGEJOIN_LIB": "", "PKG_CONFIG_PATH": str(shared / "pkgconfig"), "LD_LIBRARY_PATH": str(shared)}
     assert cargo("test", "--test", "live", "--test", "texts", **setting).count("test result: ok.") == 2
     program = program_of(cargo, "live", **setting)
-    needed = subprocess.run(["readelf", "-dW", program], capture_output=True, text=True, check=True).stdout
-    assert "libmergejoin.so.1" in needed
+    assert "libmergejoin.so.1" in run(["readelf", "-dW", program])[1]
 
 
 def program_of(cargo, name, **setting):
@@ -44,9 +41,8 @@ def program_of(cargo, name, **setting):
 @pytest.mark.parametrize("name", ["live", "texts"])
 def test_nothing_is_lost(cargo, name):
     valgrind = ["valgrind", "-q", "--error-exitcode=9", "--leak-check=full", "--errors-for-leak-kinds=definite,indirect"]
-    words = [*valgrind, program_of(cargo, name), "--test-threads=1"]
-    done = subprocess.run(words, capture_output=True, text=True, timeout=600, check=False)
-    assert done.returncode == 0, done.stdout + done.stderr
+    status, out, err = run([*valgrind, program_of(cargo, name), "--test-threads=1"], limit=600)
+    assert status == 0, out + err
 
 
 def test_the_program_of_the_page_prints_what_it_shows(cargo, crate):

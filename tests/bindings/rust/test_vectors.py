@@ -2,12 +2,7 @@
 shows the line of the program.
 """
 
-import json
-import pathlib
-import sys
-
-sys.path.insert(0, str(pathlib.Path(__file__).resolve().parents[3] / "checks/common"))
-from rows import ROWS, vector_rows
+from rows import ROWS, line_of, vector_rows
 
 PROGRAM = """\
 use mergejoin::{get, join, merge, patch, replay, rewrite};
@@ -33,17 +28,6 @@ fn each_row_is_answered() {
 
 const ROWS: &[(&str, &[&[u8]], &[u8])] = &[
 """
-
-
-def line_of(status, first, second, text):
-    """Gives the text of a result, or the line of the program that has what a reply says."""
-    if status == 1:
-        places = ", ".join(json.dumps(place, ensure_ascii=False) for place in json.loads(text))
-        return f"conflict: patches {first} and {second} at {places}"
-    at = "" if text == "no slash" else f" at {first}"
-    of_operation = text if text == "not an array" else f"operation {first}: {text}"
-    return {3: of_operation, 5: f"document: {text}", 6: f"patch {first}: {text}", 7: of_operation,
-            8: f"pointer: {text}{at}"}.get(status, text)
 
 
 def is_given(export, texts):

@@ -1,0 +1,272 @@
+"""bin/package makes the packages twice, by other masks, times and directories, and they have the same bytes. Each .deb and the
+.tar.gz are unpacked into fresh roots, where what was installed is run with nothing of the repository on the PATH. With the library
+of each a program in C is linked by what pkg-config and CMake find of it, and run. The wheel is installed in a virtual environment,
+where its functions are called, the extension for PostgreSQL is run in a server of its own, and lintian looks at each .deb.
+"""
+
+import gzip
+import os
+import pathlib
+import re
+import shutil
+import typing
+
+import calls
+import pytest
+from calls import PROGRAM, TOP
+from installed import INSTALLED, copies
+from package import VERSION, WHEEL, environment, lacks
+from server import config, lacking, running
+
+PACKAGE, SHARED = TOP / "bin/package", TOP / "out/lib/libmergejoin.so.1"
+TREE = f"mergejoin-{VERSION}"  # in the .tar.gz
+# The library, and where its files and the link to it are below the prefix of the .tar.gz.
+LIBRARY = {"include/mergejoin.h": "bindings/c/mergejoin.h", **{f"lib/{name}": f"out/lib/{name}" for name in (
+    "libmergejoin.a", "libmergejoin.so.1", "pkgconfig/mergejoin.pc", "cmake/mergejoin/mergejoin-config.cmake",
+    "cmake/mergejoin/mergejoin-config-version.cmake")}}
+LINKED = {"lib/libmergejoin.so": "libmergejoin.so.1"}
+CALLS = """import mergejoin
+print(mergejoin.__file__.split("/env/")[1].split("/site-packages/")[1])
+print(mergejoin.replay('{"title": "Notes"}', ['{"author": "Ada"}', '{"title": null}']))"""
+# Debian's directory of the libraries of this machine, below /usr.
+FOLDER = "lib/x86_64-linux-gnu"
+# Each .deb and what it needs.
+NEEDS = {
+    "mergejoin": "libc6 (>= 2.34), python3",
+    "libmergejoin1": "libc6 (>= 2.14)",
+    "libmergejoin-dev": f"libmergejoin1 (= {VERSION})",
+}
+# The extension, if what makes it is there.
+EXTENSION = None
+if not lacking("includedir-server"):
+    SERVER = "postgresql-" + re.findall(r"^PostgreSQL (\d+)", config("version"))[0]
+    EXTENSION = f"{SERVER}-mergejoin"
+    NEEDS[EXTENSION] = f"{SERVER}, libc6 (>= 2.14)"
+DEBS, TAR = {name: f"{name}_{VERSION}_amd64.deb" for name in NEEDS}, f"mergejoin_{VERSION}_amd64.tar.gz"
+# What bin/package makes, in the order in which it is reported.
+MADE = [*DEBS.values(), "SHA256SUMS"]
+MADE[3:3] = [TAR] if lacks() else [TAR, WHEEL]
+
+
+def is_made(ended, directory):
+    """What was run has made all packages in a directory. It may wait for another build, and say what it lacks."""
+    status, out, err = ended
+    reported = "".join(f"made {directory}/{name}\n" for name in MADE)
+    assert (status, out, re.sub(r"^(mergejoin: waiting for|package: no) .*\n", "", err, flags=re.M)) == (0, reported, "")
+
+
+@pytest.fixture(name="packed", scope="module")
+def what_bin_package_ends_with(program, library, needs, tmp_path_factory):
+    """A directory in which bin/package has made the packages by a narrow mask, and how it ended."""
+    needs("dpkg-deb")
+    directory = tmp_path_factory.mktemp("packages")
+    return directory / "one", calls.run(f"umask 077; {PACKAGE} one", shell=True, cwd=directory)
+
+
+@pytest.fixture(name="one", scope="module")
+def directory_of_the_packages(packed):
+    return packed[0]
+
+
+def test_the_packages_are_made_and_the_sums_are_theirs(packed, run):
+    one, ended = packed
+    is_made(ended, one)
+    assert run(["sha256sum", "-c", "SHA256SUMS"], cwd=one) == (0, "".join(f"{name}: OK\n" for name in MADE[:-1]), "")
+
+
+def test_the_sums_name_the_commit_and_the_toolchain(one, run):
+    first, second = (one / "SHA256SUMS").read_text().splitlines()[:2]
+    commit = run(["git", "-C", TOP, "rev-parse", "HEAD"])[1].strip() or "unknown"
+    assert first.removesuffix(", with changes") == f"# commit {commit}"
+    assert second == f"# toolchain {run(['rt', 'version'])[1].strip()}"
+
+
+def test_made_again_the_packages_have_the_same_bytes(one, run, tmp_path):
+    """By another mask, in another place and time and in a directory with a space. Nothing else is left."""
+    again = {"TZ": "Asia/Tokyo", "TMPDIR": str(tmp_path), "SOURCE_DATE_EPOCH": "1", "CDPATH": "/"}
+    other = one.parent / "a b"
+    is_made(run(f"umask 0; {PACKAGE} 'a b'", shell=True, setting=again, cwd=one.parent), other)
+    assert [name for name in MADE if (one / name).read_bytes() != (other / name).read_bytes()] == []
+    assert not list(tmp_path.iterdir())
+
+
+def unpack(package, root):
+    """Unpacks a .deb or the .tar.gz into a directory."""
+    words = ["dpkg-deb", "-x", package, root] if package.suffix == ".deb" else ["tar", "-C", root, "-xzf", package]
+    assert calls.run(words) == (0, "", "")
+
+
+def files_of_debs():
+    """Gives the files of each .deb that are in the sources and in the library."""
+    placed = {name.replace("lib/", f"{FOLDER}/"): data for name, data in {**copies(LIBRARY), **LINKED}.items()}
+    asked, found = f"{FOLDER}/pkgconfig/mergejoin.pc", f"{FOLDER}/cmake/mergejoin/mergejoin-config.cmake"
+    placed[asked] = placed[asked].replace(b"${pcfiledir}/../..", b"/usr").replace(b"${prefix}/lib", b"${prefix}/" + FOLDER.encode())
+    placed[found] = placed[found].replace(b"/../include", b"/../../include")
+    files = {"mergejoin": copies({name: source for name, source in INSTALLED.items() if source != "LICENSE"}),
+             "libmergejoin1": {f"{FOLDER}/libmergejoin.so.1": placed.pop(f"{FOLDER}/libmergejoin.so.1")},
+             "libmergejoin-dev": {**placed, **copies({"share/doc/libmergejoin-dev/LIBRARIES.md": "docs/LIBRARIES.md"})}}
+    if EXTENSION:
+        directory = config("sharedir").removeprefix("/usr/") + "/extension"
+        parts = [path for path in (TOP / "bindings/postgresql").iterdir() if path.suffix in (".control", ".sql")]
+        pages = {f"share/doc/{EXTENSION}/POSTGRESQL.md": "docs/POSTGRESQL.md"}
+        files[EXTENSION] = copies({f"{directory}/{path.name}": path for path in parts} | pages)
+    return files
+
+
+def others_of(name):
+    """Gives the files of a .deb that are made for Debian alone, or built of the extension's sources."""
+    yield from (f"share/doc/{name}/changelog.gz", f"share/doc/{name}/copyright")
+    if name in ("mergejoin", "libmergejoin1"):
+        yield f"share/lintian/overrides/{name}"
+    if name == EXTENSION:
+        yield config("pkglibdir").removeprefix("/usr/") + "/mergejoin.so"
+
+
+def has_files(below, wanted, others):
+    """What is below a directory is the bytes that are wanted, links to what is wanted, and these other files."""
+    seen = {}
+    for path in below.rglob("*"):
+        name = str(path.relative_to(below))
+        if path.is_symlink():
+            seen[name] = os.readlink(path)
+        elif path.is_file():
+            seen[name.replace(".1.gz", ".1")] = gzip.decompress(path.read_bytes()) if name.endswith(".1.gz") else path.read_bytes()
+    assert set(seen) - set(wanted) == set(others)
+    assert [name for name in wanted if seen.get(name) != wanted[name]] == []
+
+
+@pytest.mark.parametrize("name", NEEDS)
+def test_a_deb_has_its_part_and_says_what_it_needs(one, run, tmp_path, name):
+    assert run(["dpkg-deb", "-f", one / DEBS[name], "Depends"]) == (0, f"{NEEDS[name]}\n", "")
+    unpack(one / DEBS[name], tmp_path)
+    has_files(tmp_path / "usr", files_of_debs()[name], others_of(name))
+
+
+def test_the_tar_has_all_of_it(one, tmp_path):
+    unpack(one / TAR, tmp_path)
+    pages = {"share/doc/mergejoin/LIBRARIES.md": "docs/LIBRARIES.md"}
+    has_files(tmp_path / TREE, {**copies({**INSTALLED, **LIBRARY, **pages}), **LINKED}, ())
+
+
+class Unpacked(typing.NamedTuple):
+    below: pathlib.Path  # what is installed
+    libraries: pathlib.Path
+    setting: dict  # for pkg-config
+
+
+@pytest.fixture(name="unpacked", scope="module", params=["deb", "tar"])
+def root_with_what_is_installed(request, one, tmp_path_factory):
+    """A root in which all .deb are unpacked, or the .tar.gz."""
+    root = tmp_path_factory.mktemp("root")
+    for package in DEBS.values() if request.param == "deb" else [TAR]:
+        unpack(one / package, root)
+    if request.param == "tar":
+        return Unpacked(root / TREE, root / TREE / "lib", {})
+    return Unpacked(root / "usr", root / "usr" / FOLDER, {"PKG_CONFIG_SYSROOT_DIR": str(root)})
+
+
+def test_the_program_and_its_scripts_run(unpacked, run, tmp_path):
+    setting = {"PATH": f"{unpacked.below}/bin:/usr/bin:/bin"}
+    for file, text in (("first", '{"n":{"m":1}}'), ("second", '{"n":{"m":2}}')):
+        (tmp_path / file).write_text(text)
+    assert run("mergejoin-feed first second | mergejoin merge", shell=True, setting=setting) == (0, '{"n":{"m":2}}\n', "")
+    line = "mergejoin-feed first second | mergejoin join 2>line; mergejoin-locate join first second <line"
+    assert run(line, shell=True, setting=setting) == (0, 'first: at "/n/m" it has 1\nsecond: at "/n/m" it has 2\n', "")
+
+
+def test_the_man_page_is_shown(needs, unpacked, run):
+    needs("man")
+    page = f"man -l {next(unpacked.below.rglob('mergejoin.1*'))} | grep -c 'JSON Merge Patch'"
+    assert run(page, shell=True, setting={"MANWIDTH": "200"}) == (0, "1\n", "")
+
+
+@pytest.fixture(name="shown")
+def what_the_page_shows(tmp_path):
+    """The output that docs/LIBRARIES.md shows of its program in C, which becomes replica.c."""
+    page = (TOP / "docs/LIBRARIES.md").read_text("utf-8")
+    source, shown = (re.search(rf"^```{kind}\n(.*?)^```$", page, re.M | re.S)[1] for kind in ("c", "text"))
+    (tmp_path / "replica.c").write_text(source, "utf-8")
+    return shown
+
+
+@pytest.mark.parametrize("kind", ["shared", "static"])
+def test_a_program_is_linked_as_pkg_config_says(needs, unpacked, run, shown, kind):
+    needs("cc", "pkg-config")
+    below, libraries, setting = unpacked
+    setting = {"PKG_CONFIG_PATH": "", "PKG_CONFIG_LIBDIR": f"{libraries}/pkgconfig", **setting}
+    asked = run(["pkg-config", "--cflags", "--libs", "mergejoin"], setting=setting)[1].split()
+    assert [os.path.normpath(word[2:]) for word in asked if word[:2] in ("-I", "-L")] == [f"{below}/include", str(libraries)]
+    words = asked if kind == "shared" else [f"-I{below}/include", f"{libraries}/libmergejoin.a"]
+    assert run(["cc", "replica.c", *words, "-o", kind]) == (0, "", "")
+    assert run(f"./{kind}", shell=True, setting={"LD_LIBRARY_PATH": str(libraries) if kind == "shared" else ""}) == (0, shown, "")
+
+
+def test_a_program_is_linked_with_both_targets_of_cmake(needs, unpacked, run, shown, tmp_path):
+    needs("cc", "cmake")
+    shutil.copy2(TOP / "tests/library/CMakeLists.txt", tmp_path)
+    for words in (["-S", ".", "-B", "build", f"-Dmergejoin_DIR={unpacked.libraries}/cmake/mergejoin"], ["--build", "build"]):
+        status, out, err = run(["cmake", *words])
+        assert (status, err) == (0, ""), out
+    for kind in ("mergejoin", "static"):
+        assert run([tmp_path / f"build/replica-{kind}"]) == (0, shown, "")
+
+
+def test_the_program_runs_with_the_c_library_alone(one, run, tmp_path):
+    unpack(one / DEBS["mergejoin"], tmp_path)
+    for library in re.findall(r"(/\S+) \(0x", run(["ldd", PROGRAM])[1]):
+        (tmp_path / library[1:]).parent.mkdir(parents=True, exist_ok=True)
+        shutil.copy(library, tmp_path / library[1:])
+    enter = ["chroot"] if os.geteuid() == 0 else ["unshare", "--map-root-user", "chroot"]
+    if run([*enter[:-1], "true"])[0] != 0:
+        pytest.skip("this user can't make a place where there is nothing but the C library")
+    assert run([*enter, tmp_path, "/usr/bin/mergejoin", "merge"], '[{"a":1},{"a":null,"b":2}]') == (0, '{"b":2}\n', "")
+
+
+def test_the_wheel_runs_in_an_environment_of_its_own(needs, one, run, tmp_path):
+    needs(lacking=lacks())
+    words = [environment(tmp_path, one / WHEEL), "-I", "-B", "-c", CALLS]
+    assert run(words, setting={"PATH": "/usr/bin:/bin"}) == (0, 'mergejoin/__init__.py\n{"author":"Ada"}\n', "")
+
+
+def test_the_extension_runs_in_a_server_into_whose_directory_it_is_unpacked(needs, one):
+    needs("pg_virtualenv", lacking=lacking())
+    with running() as server:
+        unpack(one / DEBS[EXTENSION], server.root)
+        given = "CREATE EXTENSION mergejoin;\nSELECT mergejoin_agg(patch) FROM (VALUES ('1'::json), ('1')) AS log (patch);\n"
+        assert server.ask(given) == "1\n"
+
+
+def test_lintian_finds_no_error(needs, one, run):
+    needs("lintian")
+    assert run(["lintian", "--allow-root", "--fail-on", "error", *DEBS.values()], cwd=one, limit=600) == (0, "", "")
+
+
+@pytest.mark.parametrize("path,enough", [(PROGRAM, 34), (SHARED, 14)], ids=["program", "library"])
+def test_the_c_library_that_a_package_needs_is_enough(program, library, path, enough):
+    assert max(int(minor) for minor in re.findall(rb"GLIBC_2\.([0-9]+)", path.read_bytes())) <= enough
+
+
+def test_a_library_that_was_replaced_is_not_packed(needs, program, library, run, tmp_path):
+    """A byte is added to it after bin/library has made it."""
+    needs("dpkg-deb")
+    top = tmp_path / "copy"
+    for name in ("bin", "bindings", "docs", "crates", "out/lib", "out/include"):
+        shutil.copytree(TOP / name, top / name, ignore=shutil.ignore_patterns("out", "target"))
+    for name in ("README.md", "LICENSE", "CHANGELOG.md", "crates.txt", "HANDLES",
+                 "out/library.sum", "out/mergejoin", "out/mergejoin.sum"):
+        shutil.copy2(TOP / name, top / name)
+    (top / "bin/library").write_text(f"#!/bin/sh\nprintf x >>'{top}/out/lib/libmergejoin.so.1'\n")
+    says = f"package: the library in {top}/out is not what was built there: its checksums differ\n"
+    assert run([top / "bin/package", "packed"]) == (125, "", says)
+    assert not (tmp_path / "packed").exists()
+
+
+@pytest.mark.parametrize("words", [["a", "b"], [""], ["-x"]], ids=repr)
+def test_wrong_words_are_refused(run, words):
+    assert run([PACKAGE, *words]) == (2, "", "usage: bin/package [FOLDER]\n")
+
+
+@pytest.mark.parametrize("word", ["--help", "-h"])
+def test_help(run, word):
+    status, out, err = run([PACKAGE, word])
+    assert (status, err) == (0, "") and out.startswith("Makes packages")

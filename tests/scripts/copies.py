@@ -1,0 +1,68 @@
+"""A copy of the scripts with a toolchain that proves nothing (kit.sh), and what they say there."""
+
+import hashlib
+import os
+import pathlib
+import re
+import shutil
+
+from calls import TOP, run
+
+CRATES = ["mp_tree", "mp_pointer", "mp_patch", "mp_merge", "mp_cli", "mergejoin"]
+UNPROVED = """\
+mergejoin: this answer comes from the sources as they are, not from the proved program, and takes a minute or two; \
+bin/prove proves and builds it in some 15 minutes, and later calls take 12 ms
+"""
+
+
+def built(count=6):
+    """What bin/prove reports when it has built so many crates."""
+    each = [f"mergejoin: {crate}, {number} of 6 ..\nmergejoin: {crate} took N s, N s in all\n" for number, crate in enumerate(CRATES, 1)]
+    return "mergejoin: proving and building 6 crates, which takes some minutes on first use ..\n" + "".join(each[:count])
+
+
+def tried(words, given=b""):
+    """What the toolchain prints of a try with words and an input."""
+    return "".join(f"<{word}>" for word in words) + f" {len(given)} {hashlib.md5(given).hexdigest()[:8]}\n"
+
+
+class Copy:
+    def __init__(self, directory):
+        self.directory, self.top, self.workspace = directory, directory / "a copy", directory / "workspace"
+        self.log, self.kit = directory / "log", directory / "kit"
+        self.setting = {"PATH": f"{self.kit}:{os.environ['PATH']}", "LOG": str(self.log), "TMPDIR": str(self.workspace)}
+        for made in (self.top, self.workspace, self.kit):
+            made.mkdir()
+        shutil.copy(pathlib.Path(__file__).with_name("kit.sh"), self.kit / "rt")
+        shutil.copytree(TOP / "bin", self.top / "bin")
+        shutil.copy(TOP / "crates.txt", self.top)
+        for crate in CRATES:
+            for file, text in (("src/lib.rt", "//! One.\n"), ("specs/Lib.antt", "-- One.\n"), ("args", "merge\n")):
+                self.write(f"crates/{crate}/{file}", text)
+
+    def write(self, name, text, mode=0o644):
+        path = self.top / name
+        path.parent.mkdir(parents=True, exist_ok=True)
+        path.write_text(text)
+        path.chmod(mode)
+
+    def run(self, words, more=None, **how):
+        """Runs a script of the copy, or a line of the shell in which it is $0, and gives the status and both streams: seconds are
+        reported as N s, and the directory of the copy as TOP.
+        """
+        words = [self.top / words[0], *words[1:]] if isinstance(words, list) else ["bash", "-c", words, self.top / "bin/mergejoin"]
+        status, out, err = run(words, setting={**self.setting, **(more or {})}, **{"cwd": self.directory, **how})
+        return status, out, re.sub(r"\b[0-9]+ s\b", "N s", err).replace(str(self.top), "TOP")
+
+    def join(self, *words):
+        return self.run(["bin/mergejoin", "join", *words])
+
+    def asked(self):
+        """What the toolchain was asked for since this was last asked."""
+        lines = self.log.read_text().splitlines() if self.log.exists() else []
+        self.log.unlink(missing_ok=True)
+        return lines
+
+
+# How `bin/mergejoin join` ends in a copy.
+PROVED, NOT_PROVED = (0, "proved join\n", ""), (0, tried(["join"]), UNPROVED)
