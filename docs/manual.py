@@ -4,6 +4,7 @@ those of the scripts, which are their help.
 
     docs/manual.py >docs/mergejoin.1
     docs/manual.py feed >docs/mergejoin-feed.1
+    docs/manual.py conflicts >docs/mergejoin-conflicts.1
     docs/manual.py locate >docs/mergejoin-locate.1
 
 The program is the proved one, out/mergejoin. tests/program/test_help.py prints them again and compares.
@@ -65,6 +66,7 @@ printf \\(aq%s\\(aq \\(aq[{"k":0},{"k":null},{"a":{"x":1}},{"k":null}]\\(aq | me
 .fi
 .SH SEE ALSO
 .BR mergejoin\\-feed (1),
+.BR mergejoin\\-conflicts (1),
 .BR mergejoin\\-locate (1),
 .BR jq (1)"""
 
@@ -85,6 +87,7 @@ mergejoin\\-{name} \\- {about}
 # The arguments of each script, and the page to see also.
 SCRIPTS = {
     "feed": ("FILE..", "mergejoin"),
+    "conflicts": ("FILE..", "mergejoin"),
     "locate": ("SUBCOMMAND FILE.. <REFUSAL", "mergejoin"),
 }
 

@@ -37,9 +37,10 @@ def test_what_was_installed_runs(run, tmp_path):
     assert run([INSTALL, "to"])[0] == 0
     setting = {"PATH": f"{tmp_path / 'to/bin'}:/usr/bin:/bin"}
     pipe = "mergejoin-feed one two | mergejoin replay 2>refusal; mergejoin-locate replay one two <refusal"
-    (tmp_path / "one").write_text('{"n":1}')
-    (tmp_path / "two").write_text('{"n":1.5}')
+    for name, text in ("one", '{"n":1}'), ("two", '{"n":1.5}'), ("three", '{"n":3}'):
+        (tmp_path / name).write_text(text)
     assert run(pipe, shell=True, setting=setting) == (0, 'two: no whole number: 1.5, at "/n"\n', "")
+    assert run("mergejoin-conflicts one three", shell=True, setting=setting) == (1, 'one\tthree\t"/n"\n', "")
     assert run(["mergejoin", "merge"], "[5]", setting=setting) == (0, "5\n", "")
 
 

@@ -94,7 +94,8 @@ SUBCOMMANDS = {
     ),
 }
 
-PAGES = {"docs/mergejoin.1": [], "docs/mergejoin-feed.1": ["feed"], "docs/mergejoin-locate.1": ["locate"]}
+PAGES = {"docs/mergejoin.1": [], "docs/mergejoin-feed.1": ["feed"], "docs/mergejoin-conflicts.1": ["conflicts"],
+         "docs/mergejoin-locate.1": ["locate"]}
 
 
 @pytest.fixture(name="prints")

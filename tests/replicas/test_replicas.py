@@ -17,6 +17,7 @@ import time
 import typing
 
 import pytest
+from model import merged, places
 
 NAMES, EPOCHS, SECONDS = ["r0", "r1", "r2", "r3"], 12, 240
 TIMES, LINES = 3, 25  # how often each process is killed, and after how many more lines of its log
@@ -127,19 +128,6 @@ def same(logs, kind, epoch):
     return first
 
 
-def merged(target, patch):
-    """RFC 7396, section 2."""
-    if not isinstance(patch, dict):
-        return patch
-    target = dict(target) if isinstance(target, dict) else {}
-    for name, value in patch.items():
-        if value is None:
-            target.pop(name, None)
-        else:
-            target[name] = merged(target.get(name), value)
-    return target
-
-
 @each_epoch
 def test_all_end_a_start_with_the_same_patches_and_show_what_they_make_of_it(logs, epoch):
     (start,), (_, patches, status), (after,) = same(logs, "start", epoch), same(logs, "ends", epoch), same(logs, "start", epoch + 1)
@@ -147,13 +135,6 @@ def test_all_end_a_start_with_the_same_patches_and_show_what_they_make_of_it(log
     for text in random.Random(epoch).sample(patches, len(patches)):
         document = merged(document, json.loads(text))
     assert (status, json.loads(after)) == (0, document)
-
-
-def places(one, other, place=""):
-    """Where two merge patches disagree, of which the names need no escapes."""
-    if isinstance(one, dict) and isinstance(other, dict):
-        return [it for name in sorted({*one} & {*other}) for it in places(one[name], other[name], f"{place}/{name}")]
-    return [] if one == other else [place]
 
 
 def expected(start, patches):
