@@ -58,14 +58,6 @@ built_sum() {
   { read -r _ && read -r sum _; } <"$1" && printf '%s\n' "$sum"
 }
 
-# The text of a file of the sources' checksum, which is given, and that of the libraries that are in the crates: each has a file
-# of the checksums of its others.
-gate_sums() (
-  CDPATH='' cd -- "$top" || exit
-  printf '%s  sources\n' "$1"
-  printf '%s  libraries\n' "$(find crates -path 'crates/*/out/rlib/*.rlib/format' -print0 | LC_ALL=C sort -z | xargs -0r sha256sum | sum_of)"
-)
-
 # Whether such a file has the checksum of the sources as they are, and that of what was built.
 has_sums() {
   local from built
