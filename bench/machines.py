@@ -1,34 +1,56 @@
 #!/usr/bin/env python3
-"""Prints the table of docs/MANY-MACHINES.md: the processor's time for each patch of a log in files, of all keys at once in
-one process and by mergejoin.dask in two, where each document's patches lie in one file and where they lie in all:
+"""Prints the table of docs/MANY-MACHINES.md: what join_by_key of mergejoin.dask takes on clusters of 1, 2 and 4 processes, next
+to a plain loop that joins the texts of each document in one process:
 
-    PYTHONPATH=FOLDER /usr/bin/python3 bench/machines.py [PATCHES]
+    PYTHONPATH=FOLDER /usr/bin/python3 bench/machines.py [PATCHES [FILES]]
 
-FOLDER has the package mergejoin (`pip install --target FOLDER` of its wheel). Each figure is the least of three runs, and has
-the time of all processes, but for what it takes to start them.
+FOLDER has the package mergejoin (`pip install --target FOLDER` of its wheel). Four logs of so many patches, of 30 to 40 bytes each,
+are in so many files; 2,000,000 and 16 without it:
+
+    spread  1,000 documents, each with patches in all files
+    keys    a document for each 2 patches, in any files
+    hot     as spread, but one document has half of the patches
+    same    1,000 documents, each with all patches in one file
+
+A figure is the least of three runs. It has the reading of the files, and ends when the joins are there, in the workers or in the
+loop. The time of the processor is that of all workers and of the scheduler, but not of their start. The ideal is the time of the
+loop shared among the workers; but if the joining of one document takes longer, it is that. Memory is the most that was resident
+in a worker in all of its runs. Each result is compared with that of the loop. Below the table are what a worker has before, and
+how long a task takes that moves nothing. Nothing else should run on the machine.
 """
 
+import contextlib
 import pathlib
 import random
-import resource
 import sys
 import tempfile
+import time
 
 import dask.bag
+from dask.distributed import Client, LocalCluster, wait
 
 import mergejoin
 from mergejoin.dask import join_by_key
 
-FILES, DOCUMENTS, RUNS = 16, 1_000, 3
-FEW = 1_000  # patches that take no time next to the start
+DOCUMENTS, RUNS, WORKERS = 1_000, 3, (1, 2, 4)
+PATCHES, FILES = 2_000_000, 16
+EMPTY = 100  # partitions and shares without texts
 
 
-def written(directory, count, is_sharded):
-    """Writes the log, a key and a patch of some 33 bytes a line, and gives its files."""
-    chance, files = random.Random(1), [[] for _ in range(FILES)]
-    for number in range(count):
-        document = chance.randrange(DOCUMENTS)
-        file = document % FILES if is_sharded else chance.randrange(FILES)
+def documents_of(kind, count, chance):
+    """Gives the number of the document of each patch of a log."""
+    if kind == "keys":
+        numbers = [number // 2 for number in range(count)]
+        chance.shuffle(numbers)
+        return numbers
+    return [0 if kind == "hot" and number % 2 else chance.randrange(DOCUMENTS) for number in range(count)]
+
+
+def written(directory, kind, count, file_count):
+    """Writes a log, a key and a patch a line, and gives its files."""
+    chance, files = random.Random(1), [[] for _ in range(file_count)]
+    for number, document in enumerate(documents_of(kind, count, chance)):
+        file = document % file_count if kind == "same" else chance.randrange(file_count)
         files[file].append(f'doc{document}\t{{"k{number}":{{"name":"value","n":{number}}}}}\n')
     directory.mkdir()
     for number, lines in enumerate(files):
@@ -41,47 +63,99 @@ def keyed(line):
     return key, text
 
 
-def at_once(paths):
-    texts = {}
+def all_keyed(lines):
+    return map(keyed, lines)
+
+
+def nothing(items):
+    return []
+
+
+def plain(paths):
+    """Gives the joins, and the most seconds that one of them took."""
+    texts, joins, longest = {}, {}, 0.0
     for path in paths:
         with open(path, encoding="utf-8") as lines:
             for key, text in map(keyed, lines):
                 texts.setdefault(key, []).append(text)
-    return {key: mergejoin.join(given) for key, given in texts.items()}
+    for key, given in texts.items():
+        begun = time.perf_counter()
+        joins[key] = mergejoin.join(given)
+        longest = max(longest, time.perf_counter() - begun)
+    return joins, longest
 
 
-def by_dask(paths):
-    return dict(join_by_key(dask.bag.read_text(paths).map(keyed)).compute(scheduler="processes", num_workers=2))
-
-
-def used():
-    return sum(it.ru_utime + it.ru_stime for it in map(resource.getrusage, (resource.RUSAGE_SELF, resource.RUSAGE_CHILDREN)))
-
-
-def least(call, paths):
-    """Gives the least time of some runs, and what they gave."""
-    times = []
+def of_loop(paths):
+    """Gives the least seconds of the plain loop: of the processor, of the clock, and of its longest join; and the joins."""
+    runs = []
     for _ in range(RUNS):
-        begun = used()
-        result = call(paths)
-        times.append(used() - begun)
-    return min(times), result
+        begun, clock = time.process_time(), time.perf_counter()
+        joins, longest = plain(paths)
+        runs.append((time.process_time() - begun, time.perf_counter() - clock, longest))
+    return [min(them) for them in zip(*runs)], joins
 
 
-def main(count):
-    print("| a document's patches lie in | `join` of each document's texts, in one process | `join_by_key` |")
-    print("|---|---:|---:|")
-    with tempfile.TemporaryDirectory() as name:
-        few = written(pathlib.Path(name) / "few", FEW, True)
-        starts = [least(call, few)[0] for call in (at_once, by_dask)]
-        for is_sharded, words in ((True, "one file"), (False, f"{FILES} files")):
-            paths = written(pathlib.Path(name) / words, count, is_sharded)
-            (one, wanted), (many, seen) = least(at_once, paths), least(by_dask, paths)
-            if seen != wanted:
+def resident():
+    """Gives the most bytes that were resident in this process."""
+    status = pathlib.Path("/proc/self/status").read_text("utf-8")
+    return 1024 * int(status.split("VmHWM:")[1].split()[0])
+
+
+@contextlib.contextmanager
+def cluster_of(workers):
+    with LocalCluster(n_workers=workers, threads_per_worker=1, processes=True, dashboard_address=None) as cluster, \
+            Client(cluster) as client:
+        yield client
+
+
+def of_cluster(paths, workers, joins):
+    """Gives the least seconds of a cluster, of the processor and of the clock, and the most bytes of a worker."""
+    times = []
+    with cluster_of(workers) as client:
+        for _ in range(RUNS):
+            before = time.process_time() + sum(client.run(time.process_time).values())
+            clock = time.perf_counter()
+            kept = join_by_key(dask.bag.read_text(paths).map_partitions(all_keyed)).persist()
+            wait(kept)
+            clock = time.perf_counter() - clock
+            times.append((time.process_time() + sum(client.run(time.process_time).values()) - before, clock))
+            most = max(client.run(resident).values())
+            seen = kept.compute()
+            if len(seen) != len(joins) or dict(seen) != joins:
                 sys.exit("join_by_key gives another result")
-            reported = [f"{(time - start) / count * 1e6:.0f} us" for time, start in zip((one, many), starts)]
-            print(f"| {words} | {' | '.join(reported)} |")
+            del kept, seen
+    return [min(them) for them in zip(*times)], most
+
+
+def of_nothing():
+    """Gives the most bytes of a worker that has joined one text, and the seconds of the clock of a task that moves nothing."""
+    with cluster_of(max(WORKERS)) as client:
+        join_by_key(dask.bag.from_sequence([("a", "{}")])).compute()
+        most = max(client.run(resident).values())
+        bag = join_by_key(dask.bag.from_sequence([()] * EMPTY, npartitions=EMPTY).map_partitions(nothing), EMPTY)
+        clock = time.perf_counter()
+        wait(bag.persist())
+        return most, (time.perf_counter() - clock) / len(dict(bag.dask))
+
+
+def main(count, file_count):
+    print("| log | workers | us of the processor for a patch | over the loop | seconds | over the ideal | MB of a worker |")
+    print("|---|---:|---:|---:|---:|---:|---:|")
+    with tempfile.TemporaryDirectory() as name:
+        for kind in ("spread", "keys", "hot", "same"):
+            paths = written(pathlib.Path(name) / kind, kind, count, file_count)
+            (loop, clock, longest), joins = of_loop(paths)
+            print(f"| {kind} | the loop | {loop / count * 1e6:.1f} | | {clock:.1f} | | |", flush=True)
+            for workers in WORKERS:
+                (used, seconds), most = of_cluster(paths, workers, joins)
+                over = [used / loop, seconds / max(clock / workers, longest)]
+                print(f"| {kind} | {workers} | {used / count * 1e6:.1f} | {over[0]:.2f} | {seconds:.1f} | {over[1]:.2f} "
+                      f"| {most / 1e6:.0f} |", flush=True)
+    most, seconds = of_nothing()
+    print(f"\nA worker has {most / 1e6:.0f} MB before. A task that moves nothing takes {seconds * 1e3:.2f} ms, "
+          f"with {max(WORKERS)} workers.")
 
 
 if __name__ == "__main__":
-    main(int(sys.argv[1]) if sys.argv[1:] else 100_000)
+    given = [int(word) for word in sys.argv[1:3]]
+    main(*given, *(PATCHES, FILES)[len(given):])

@@ -14,8 +14,8 @@ import sys
 import dask.bag
 from dask.distributed import Client, get_worker
 
-from mergejoin.dask import join_by_key
-from logs import log_of, wanted_of
+from mergejoin.dask import conflicts_by_key, join_by_key
+from logs import log_of, pairs_of, wanted_of
 
 FILES = 8
 
@@ -45,10 +45,12 @@ def main(address, directory, *hosts):
         parts = [client.submit(read, path, workers=workers[host], pure=False) for path in paths for host in hosts]
         readers = collections.Counter(client.gather([client.submit(lambda part: part[1], part) for part in parts]))
         bag = dask.bag.from_delayed([client.submit(lambda part: part[0], part) for part in parts])
-        seen = client.compute(join_by_key(bag, split_every=2)).result(timeout=100)
-    wanted = wanted_of(log)
-    print(f"{len(log)} patches of {len(wanted)} documents, each read on {len(readers)} hosts: {'one result' if dict(seen) == wanted else 'another'}")
-    return 0 if dict(seen) == wanted and readers == {host: FILES for host in hosts} else 1
+        made = [join_by_key(bag), join_by_key(bag, 5, 2), conflicts_by_key(bag, 4)]
+        seen = [sorted(future.result(timeout=100)) for future in client.compute(made)]
+    joins, pairs = sorted(wanted_of(log).items()), sorted(pairs_of(log).items())
+    is_same = seen == [joins, joins, pairs]
+    print(f"{len(log)} patches of {len(joins)} documents, each read on {len(readers)} hosts: {'one result' if is_same else 'another'}")
+    return 0 if is_same and readers == {host: FILES for host in hosts} else 1
 
 
 if __name__ == "__main__":

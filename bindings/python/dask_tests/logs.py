@@ -1,10 +1,26 @@
 """Logs of patches of several documents, and what is to be made of them."""
 
+import collections
 import json
+from decimal import Decimal
+from fractions import Fraction
 
 import mergejoin
 
 NAMES = "abcdefgh"
+
+
+class Name(str):
+    """A str of a kind of its own."""
+
+
+# Keys of all kinds: those of a row are equal.
+ALIKE = [
+    ["doc", Name("doc")], ["", Name()], ["\ud800"], ["caf\u00e9 \U0001f600"],
+    [1, 1.0, True, Decimal(1), Fraction(1), 1 + 0j], [0, -0.0, False, Decimal("-0")], [-1, Decimal("-1.0")], [-2, -2.0],
+    [0.5, Decimal("0.5"), Fraction(1, 2)], [2**70, float(2**70), Fraction(2**70)], [float("inf"), Decimal("inf")],
+    [None], [b"doc"], [()], [("doc", 1), (Name("doc"), True)], [("doc", None)], [frozenset(["doc", 1]), frozenset([1.0, "doc"])],
+]
 
 
 def log_of(chance, count, keys=12):
@@ -19,14 +35,40 @@ def log_of(chance, count, keys=12):
     return log
 
 
+def log_of_kinds(chance, count):
+    """Gives such a log with keys of all kinds, and texts that are str or bytes."""
+    log = []
+    for key, text in log_of(chance, count, len(ALIKE)):
+        alike = ALIKE[int(key[len("doc"):])]
+        log.append((chance.choice(alike), chance.choice([text, text.encode("utf-8")])))
+    return log
+
+
+def texts_of(log):
+    """Gives the texts of each key."""
+    texts = collections.defaultdict(list)
+    for key, text in log:
+        texts[key].append(text)
+    return texts
+
+
 def wanted_of(log):
     """Gives the join of each key's texts, all at once in one process, or None if two conflict."""
-    texts, wanted = {}, {}
-    for key, text in log:
-        texts.setdefault(key, []).append(text)
-    for key, given in texts.items():
+    wanted = {}
+    for key, given in texts_of(log).items():
         try:
             wanted[key] = mergejoin.join(given)
         except mergejoin.Conflict:
             wanted[key] = None
+    return wanted
+
+
+def pairs_of(log):
+    """Gives the pairs of each key of which two patches conflict, in order, with all places."""
+    wanted = {}
+    for key, given in texts_of(log).items():
+        texts = sorted({text if isinstance(text, str) else text.decode("utf-8") for text in given})
+        pairs = [(texts[first], texts[second], places) for first, second, places in mergejoin.conflicts(texts)]
+        if pairs:
+            wanted[key] = pairs
     return wanted

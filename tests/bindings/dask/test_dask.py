@@ -1,6 +1,7 @@
 """Patches are joined by Dask, the distribution's own, in an environment with the package: the tests of bindings/python/dask_tests
-pass, among them a cluster of processes of which one worker is killed, and the examples of docs/MANY-MACHINES.md. And on a cluster
-of two hosts, each a network namespace of its own, where the machine allows that, each part of a log is read twice.
+pass, among them a cluster of processes with hash seeds that differ, of which one worker is killed, and the examples of
+docs/MANY-MACHINES.md. And on a cluster of two hosts, each a network namespace of its own, where the machine allows that, each part of a
+log is read twice.
 """
 
 import contextlib
@@ -51,7 +52,7 @@ def two_hosts(needs):
 
 
 def test_a_log_that_two_hosts_read_is_joined_as_one_process_joins_it(python, hosts, tmp_path):
-    """A scheduler and a worker are on one host, a worker on the other."""
+    """A scheduler and a worker are on one host, a worker on the other. The pairs that conflict are found there too."""
     address = f"tcp://{HOSTS['one']}:{PORT}"
     lines = [("one", "scheduler", "--port", str(PORT))]
     lines += [(host, "worker", address, "--no-nanny", "--nthreads", "1", "--local-directory", tmp_path / host) for host in HOSTS]
