@@ -9,18 +9,21 @@ time is the least of some runs, of the processor. A memory is what the heap take
 measures it, without the texts and the buffer. Nothing else should run on the machine.
 """
 
+import ctypes
 import pathlib
 import sys
 import tempfile
 import time
 
 TOP = pathlib.Path(__file__).resolve().parents[1]
-sys.path[:0] = [str(TOP / "tests" / part) for part in ("common", "cost")]
+sys.path[:0] = [str(TOP / "tests" / part) for part in ("common", "cost", "library")]
 import mergejoin
+from calling import SIZE_MAX, Reply, Text
 from counting import driver_in, peak
-from mergejoin import _library
+from driving import RESULT, SHARED
 from values import printed
 
+LIBRARY = ctypes.CDLL(str(SHARED))
 RUNS, LEAST = 5, 0.2  # runs of a measure, and the seconds that each takes at least
 
 
@@ -50,17 +53,23 @@ def shapes():
     yield "1,000 patches of records, on a start", "replay", ["{}", *(printed(record(number)) for number in range(1_000))]
 
 
+def words_of(call, texts):
+    """Gives the parameters of a call that the texts are."""
+    def borrowed(some):
+        return [(Text * len(some))(*[(text, len(text)) for text in some]), ctypes.c_size_t(len(some))]
+
+    if call == "join":
+        return borrowed(texts)
+    first = [texts[0], ctypes.c_size_t(len(texts[0]))]
+    return first + ([b"", ctypes.c_size_t(0)] if call == "get" else borrowed(texts[1:]))
+
+
 def called(call, texts, buffer):
     """Makes one call, and wants a result."""
-    if call == "join":
-        reply = _library.JOIN(_library.borrowed(texts), len(texts), buffer, len(buffer), _library.NO_LIMIT)
-    elif call == "get":
-        reply = _library.GET(texts[0], len(texts[0]), b"", 0, buffer, len(buffer), _library.NO_LIMIT)
-    else:
-        function = {"merge": _library.MERGE, "replay": _library.REPLAY}[call]
-        reply = function(texts[0], len(texts[0]), _library.borrowed(texts[1:]), len(texts) - 1, buffer, len(buffer),
-                         _library.NO_LIMIT)
-    assert reply.status == _library.Status.RESULT, reply.status
+    function = getattr(LIBRARY, f"mergejoin_{call}")
+    function.restype = Reply
+    reply = function(*words_of(call, texts), buffer, ctypes.c_size_t(len(buffer)), ctypes.c_size_t(SIZE_MAX))
+    assert reply.status == RESULT, reply.status
 
 
 def least(work):
@@ -84,9 +93,9 @@ def of_calls(driver):
     for what, call, values in shapes():
         texts = [text.encode() for text in values]
         length = sum(map(len, texts))
-        buffer = _library.ctypes.create_string_buffer(2 * length + 64)
+        buffer = ctypes.create_string_buffer(2 * length + 64)
         seconds = least(lambda: called(call, texts, buffer))
-        held = peak(call, texts + [b""] * (call == "get"), _library.Status.RESULT, driver)
+        held = peak(call, texts + [b""] * (call == "get"), RESULT, driver)
         print(f"| {what} | `{call}` | {length:,} | {seconds / length * 1e9:.0f} | {held * length / 1000:,.0f} | {held:.0f} |", flush=True)
 
 

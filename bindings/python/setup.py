@@ -1,50 +1,54 @@
-"""Puts the shared library into the wheel: that of out/lib, where bin/library makes it, or of the directory that MERGEJOIN_LIB
-names. What else there is to say of the package stands in pyproject.toml.
+"""Builds the extension module of the package, with the library for C in it: libmergejoin.a of out/lib, where bin/library makes it, or of
+the directory that MERGEJOIN_LIB names. What else there is to say of the package stands in pyproject.toml.
 """
 
 import os
 import pathlib
+import platform
 
-from setuptools import Distribution, setup
-from setuptools.command.build_py import build_py
+from setuptools import Extension, setup
+from setuptools.command.build_ext import build_ext
 
 try:
-    from setuptools.command.bdist_wheel import bdist_wheel
+    import setuptools.command.bdist_wheel
 except ImportError:  # before setuptools 70
-    from wheel.bdist_wheel import bdist_wheel
+    try:
+        import wheel.bdist_wheel
+    except ImportError:
+        raise SystemExit("what makes a wheel is not installed: pip install wheel") from None
 
-NAME = "libmergejoin.so.1"
 HERE = pathlib.Path(__file__).resolve().parent
+LIBRARY, HEADER = "libmergejoin.a", "mergejoin.h"
+LIBRARIES = pathlib.Path(os.environ.get("MERGEJOIN_LIB") or HERE / "../../out/lib").resolve()
+# Where the header is next to the library: as bin/library makes it, or as it is installed.
+HEADERS = [LIBRARIES.parent / "include", LIBRARIES.parents[1] / "include"]
 
 
-class WithLibrary(build_py):
-    """Lays the library next to the modules."""
+class WithLibrary(build_ext):
+    """Looks first that the library and its header are there."""
 
     def run(self):
+        for name, places in ((LIBRARY, [LIBRARIES]), (HEADER, HEADERS)):
+            if not any((place / name).is_file() for place in places):
+                raise SystemExit(f"there is no {name}: bin/library makes it, and MERGEJOIN_LIB may name the directory of {LIBRARY}")
         super().run()
-        library = pathlib.Path(os.environ.get("MERGEJOIN_LIB") or HERE / "../../out/lib") / NAME
-        if not library.is_file():
-            raise SystemExit(f"there is no {NAME}: bin/library makes it, and MERGEJOIN_LIB may name the directory where it is")
-        if not getattr(self, "editable_mode", False):  # which setuptools has from 64 on
-            self.copy_file(str(library), os.path.join(self.build_lib, "mergejoin", NAME))
 
 
-class ForAnyPython(bdist_wheel):
-    """The library is for one kind of machine, and not for one Python."""
+MODULE = Extension(
+    "mergejoin._library",
+    sources=sorted(str(path.relative_to(HERE)) for path in (HERE / "c").glob("*.c")),
+    depends=[str(LIBRARIES / LIBRARY)],
+    include_dirs=[str(place) for place in HEADERS],
+    extra_objects=[str(LIBRARIES / LIBRARY)],
+    py_limited_api=True,
+    # No path of the machine is in it, and no name of the library is seen by others.
+    extra_compile_args=["-std=gnu11", "-fvisibility=hidden", "-g0"],
+    extra_link_args=["-Wl,--exclude-libs,ALL", "-Wl,-s"],
+)
 
-    def finalize_options(self):
-        super().finalize_options()
-        self.root_is_pure = False
-
-    def get_tag(self):
-        return "py3", "none", "linux_x86_64"
-
-
-class OfOneMachine(Distribution):
-    """It is installed where packages for one kind of machine are."""
-
-    def has_ext_modules(self):
-        return True
-
-
-setup(cmdclass={"build_py": WithLibrary, "bdist_wheel": ForAnyPython}, distclass=OfOneMachine)
+setup(
+    cmdclass={"build_ext": WithLibrary},
+    ext_modules=[MODULE],
+    # It needs Python 3.10 and later, and glibc 2.17.
+    options={"bdist_wheel": {"py_limited_api": "cp310", "plat_name": f"manylinux_2_17_{platform.machine()}"}},
+)

@@ -1,8 +1,10 @@
 """The package for Python, made with the library that is in out/lib, environments in which it is installed, and its tests there."""
 
 import importlib.util
+import pathlib
 import re
 import shutil
+import sysconfig
 
 import calls
 from calls import TOP
@@ -11,7 +13,7 @@ from calls import TOP
 PYTHON = "/usr/bin/python3"
 SOURCES = TOP / "bindings/python"
 VERSION = re.findall(r"^## ([\d.]+) ", (TOP / "CHANGELOG.md").read_text("utf-8"), re.M)[0]
-WHEEL = f"mergejoin-{VERSION}-py3-none-linux_x86_64.whl"
+WHEEL = f"mergejoin-{VERSION}-cp310-abi3-manylinux_2_17_x86_64.whl"
 SETTING = {"PATH": "/usr/bin:/bin", "PIP_DISABLE_PIP_VERSION_CHECK": "1", "PIP_ROOT_USER_ACTION": "ignore",
            "MERGEJOIN_LIB": str(TOP / "out/lib")}
 
@@ -19,6 +21,8 @@ SETTING = {"PATH": "/usr/bin:/bin", "PIP_DISABLE_PIP_VERSION_CHECK": "1", "PIP_R
 def lacks(*more):
     """Gives which packages are not there that a test of the package needs, with those of more modules; or nothing."""
     missing = [f"python3-{name}" for name in ("pip", "venv", "setuptools", "wheel", *more) if not importlib.util.find_spec(name)]
+    if not pathlib.Path(sysconfig.get_path("include"), "Python.h").exists():
+        missing.append("python3-dev")
     return f"not installed: {', '.join(missing)}" if missing else None
 
 
@@ -27,9 +31,14 @@ def run(directory, *words, **setting):
     return calls.run(words, cwd=directory, setting={**SETTING, **setting}, limit=300)
 
 
+def copied(directory):
+    """Copies the sources into a directory."""
+    shutil.copytree(SOURCES, directory / "source", ignore=shutil.ignore_patterns("build", "*.egg-info", "__pycache__"))
+
+
 def make_wheel(directory, **setting):
     """Makes the wheel of a copy of the sources, in a directory, and gives how that ended."""
-    shutil.copytree(SOURCES, directory / "source", ignore=shutil.ignore_patterns("build", "*.egg-info", "__pycache__"))
+    copied(directory)
     how = ["--quiet", "--no-deps", "--no-index", "--no-build-isolation", "--wheel-dir", "made"]
     return run(directory, PYTHON, "-m", "pip", "--isolated", "wheel", *how, "./source", **setting)
 

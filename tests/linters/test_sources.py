@@ -2,6 +2,8 @@
 the Rattle, `rt ci` holds the layout of `rt fmt`.
 """
 
+import sysconfig
+
 import pytest
 from calls import TOP, run
 
@@ -48,10 +50,10 @@ def what_runs_a_linter(needs):
     return says
 
 
-@pytest.fixture(name="server", scope="session")
-def headers_of_a_server(says):
-    """Where the headers of a PostgreSQL server are."""
-    return ["-isystem", says("pg_config", "--includedir-server").strip()]
+@pytest.fixture(name="headers", scope="session")
+def headers_of_a_server_and_of_python(says):
+    """Where the headers of a PostgreSQL server and of Python are."""
+    return ["-isystem", says("pg_config", "--includedir-server").strip(), "-isystem", sysconfig.get_path("include")]
 
 
 def test_shellcheck(says):
@@ -85,10 +87,10 @@ def test_mypy(says, types, name):
 
 @pytest.mark.parametrize("compiler", ["gcc", "clang"])
 @pytest.mark.parametrize("path", of_kind(".c"), ids=lambda path: str(path.relative_to(TOP)))
-def test_compilers_warn_of_nothing(says, server, path, compiler):
-    assert says(compiler, *C, *server, f"-I{path.parent}", "-fsyntax-only", path) == ""
+def test_compilers_warn_of_nothing(says, headers, path, compiler):
+    assert says(compiler, *C, *headers, f"-I{path.parent}", "-fsyntax-only", path) == ""
 
 
 @pytest.mark.parametrize("path", of_kind(".c"), ids=lambda path: str(path.relative_to(TOP)))
-def test_clang_tidy(says, server, path):
-    assert says("clang-tidy", "--quiet", f"--checks={CLANG}", path, "--", *C, *server, f"-I{path.parent}") == ""
+def test_clang_tidy(says, headers, path):
+    assert says("clang-tidy", "--quiet", f"--checks={CLANG}", path, "--", *C, *headers, f"-I{path.parent}") == ""

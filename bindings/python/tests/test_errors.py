@@ -9,7 +9,7 @@ import time
 import unittest
 
 import mergejoin
-from mergejoin import Conflict, InputError, Malformed, MergejoinError, Missing, NoPatches, Refused
+from mergejoin import Conflict, InputError, Malformed, MergejoinError, Missing, NoPatches, Pending, Refused, TooLarge
 
 ALL = [
     (Conflict(0, 2, ["/a", "/é"]), 'conflict: patches 0 and 2 at "/a", "/é"'),
@@ -19,6 +19,10 @@ ALL = [
     (Malformed(0, "not an array"), "not an array"),
     (Malformed(2, "no path"), "operation 2: no path"),
     (Missing(), "missing"),
+    (Missing(3), "missing"),
+    (TooLarge(4), "too large"),
+    (Pending(), "pending"),
+    (Conflict(0, 1, ["/a"], 5), 'conflict: patches 0 and 1 at "/a", 4 more'),
     (InputError("document", 0, "not JSON"), "document: not JSON"),
     (InputError("patch", 5, "too deep"), "patch 5: too deep"),
     (InputError("pointer", 5, "bad tilde"), "pointer: bad tilde at 5"),
@@ -95,7 +99,15 @@ class Errors(unittest.TestCase):
             self.assertRaises(TypeError, call, *words)
 
     def test_texts_may_come_from_a_generator(self):
-        self.assertEqual(mergejoin.join(text for text in ("{}", b"{}")), "{}")
+        self.assertEqual(mergejoin.join(text for text in ("{}", b"{}", bytearray(b"{}"), memoryview(b" {} ")[1:])), "{}")
+
+    def test_an_error_of_a_generator_is_its_own(self):
+        def texts():
+            yield "{}"
+            raise KeyError("mine")
+
+        self.assertRaises(KeyError, mergejoin.join, texts())
+        self.assertRaises(KeyError, mergejoin.conflicts, texts())
 
     def test_a_long_call_gives_up_the_lock(self):
         """In one of ten calls: a busy machine may keep both threads waiting as long."""

@@ -114,7 +114,11 @@ class Groups(unittest.TestCase):
             patches.add(f'{{"n{number}": [{number}]}}')
         self.assertEqual(patches.__reduce__()[2], patches.text())
         self.assertLess(len(pickle.dumps(patches)), len(patches.text()) + 100)
-        self.assertEqual(pickle.loads(pickle.dumps(patches)).text(), patches.text())
+        again = pickle.loads(pickle.dumps(patches))
+        self.assertEqual((again.text(), again), (patches.text(), patches))
+        self.assertNotEqual(again, Patches())
+        self.assertEqual((repr(again)[:28], repr(Patches())), ('<mergejoin.Patches {"n0":[0]', "<mergejoin.Patches of no patches>"))
+        self.assertRaises(InputError, again.__setstate__, "[")
 
     def test_pairs_that_conflict(self):
         chance, found = random.Random(7), 0
@@ -139,11 +143,6 @@ class Growth(unittest.TestCase):
 
     sizes = (100, 1_000, 10_000)
 
-    def test_bytes(self):
-        """The bytes that the library reads for each byte of a patch, which no other work of the machine changes."""
-        for size in self.sizes:
-            self.assertLess(self.read(size), 5)
-
     def test_time(self):
         """The least time of 10,000 patches by each size, of rounds until the least are within a factor of two."""
         least = dict.fromkeys(self.sizes, 1e9)
@@ -156,25 +155,10 @@ class Growth(unittest.TestCase):
         self.assertLessEqual(max(least.values()), 2 * min(least.values()))
 
     @staticmethod
-    def texts(size):
-        return [f'{{"k{number}":{{"name":"value","n":{number}}}}}' for number in range(size)]
-
-    def time(self, size):
-        texts, patches = self.texts(size), Patches()
+    def time(size):
+        texts, patches = [f'{{"k{number}":{{"name":"value","n":{number}}}}}' for number in range(size)], Patches()
         begun = time.process_time()
         for text in texts:
             patches.add(text)
         patches.text()
         return time.process_time() - begun
-
-    def read(self, size):
-        texts, patches, lengths = self.texts(size), Patches(), []
-        borrowed = mergejoin._library.borrowed
-        mergejoin._library.borrowed = lambda given: lengths.append(sum(map(len, given))) or borrowed(given)
-        try:
-            for text in texts:
-                patches.add(text)
-            patches.text()
-        finally:
-            mergejoin._library.borrowed = borrowed
-        return sum(lengths) / sum(map(len, texts))

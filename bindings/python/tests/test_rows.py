@@ -55,6 +55,8 @@ class Rows(unittest.TestCase):
             call, wanted = getattr(mergejoin, export), (status, first, second, text)
             with self.subTest(export=export, texts=texts):
                 self.assertEqual(seen(call, *given(export, texts)), wanted)
+                for form in (bytearray, memoryview):
+                    self.assertEqual(seen(call, *given(export, [form(it) for it in texts])), wanted)
                 if decoded(texts) is not None:
                     self.assertEqual(seen(call, *given(export, decoded(texts))), wanted)
         self.assertGreaterEqual(len(self.rows), 220)

@@ -21,32 +21,36 @@ merge patch with the effect of all:
 ...     print(conflict.first, conflict.second, conflict.places)
 0 2 ['/author']
 
-Each document and each patch is a JSON text of its own, a str or bytes of UTF-8. Results are compact, with names in the order
-of their UTF-8 bytes. Numbers are whole, from -2**63 to 2**64 - 1; a text with another is refused, and so is one of more than
-126 levels. mergejoin.objects has the same functions over dict, list and so on.
+Each document and each patch is a JSON text of its own: a str, or UTF-8 in bytes, a bytearray or a memoryview. Results are compact,
+with names in the order of their UTF-8 bytes. Numbers are whole, from -2**63 to 2**64 - 1; a text with another is refused, and so is
+one of more than 126 levels. mergejoin.objects has the same functions over dict, list and so on.
 
-join(), replay(), merge(), rewrite(), patch() and get() are those of the shared library in this package, whose answers are
-proved; the package itself is tested alone. A call gives up the interpreter's lock while it runs, can't be cancelled, and needs
-256 KiB of stack, which threading.stack_size() should leave. It takes mostly 10 to 100 bytes of memory for each byte that it
-reads, and never more than 360 in addition to what copies and the answer take.
+A program that keeps a document has a Replica: it stays in memory, so that receiving a patch costs what the patch costs. Patches joins
+patches as they come, and a PatchLog also stores those that conflict, until it is decided which of them count.
+
+The calls are those of the library for C in this package, whose answers are proved; the package itself is tested alone. A call gives up
+the interpreter's lock while it runs, can't be cancelled, and needs 256 KiB of stack, which threading.stack_size() should leave. It takes
+mostly 10 to 100 bytes of memory for each byte that it reads, and never more than 360 in addition to what copies and the answer take.
 
 A short text can ask for all memory: a JSON Patch doubles a document with each copy, and two patches may conflict at very many places.
-The library's calls have a limit, and those of this package do not yet. So pass the texts of strangers in a process of its own, under
-ulimit -d or in a cgroup, and no JSON Patch with more than a few copies.
+So call with the texts of strangers and a limit, in bytes: TooLarge is raised if the result, or what is made on the way, would take more.
 """
 
-from . import objects
-from ._conflicts import conflicts
-from ._errors import Conflict, InputError, Malformed, MergejoinError, Missing, NoPatches, Refused
-from ._patches import Patches
-from ._texts import get, join, merge, patch, replay, rewrite
+from . import _library, objects
+from ._errors import Conflict, InputError, Malformed, MergejoinError, Missing, NoPatches, Pending, Refused, TooLarge
+from ._live import Arrival, ConflictingPair, Identity, Patches, PatchLog, Replica
+from ._texts import conflicts, get, join, merge, patch, replay, rewrite
 
 __all__ = [
-    "join", "replay", "merge", "rewrite", "patch", "get", "conflicts", "Patches", "objects",
-    "MergejoinError", "Conflict", "NoPatches", "Refused", "Malformed", "Missing", "InputError",
+    "join", "replay", "merge", "rewrite", "patch", "get", "conflicts", "Replica", "Patches", "PatchLog", "Identity", "Arrival",
+    "ConflictingPair", "objects", "MergejoinError", "Conflict", "NoPatches", "Refused", "Malformed", "Missing", "InputError", "TooLarge",
+    "Pending",
 ]
 
+__version__ = _library.VERSION
+
 # They are shown, and pickled, by the name that users know.
-for _it in (Patches, MergejoinError, Conflict, NoPatches, Refused, Malformed, Missing, InputError):
+for _it in (Replica, Patches, PatchLog, Identity, Arrival, ConflictingPair, MergejoinError, Conflict, NoPatches, Refused, Malformed,
+            Missing, InputError, TooLarge, Pending):
     _it.__module__ = __name__
 del _it

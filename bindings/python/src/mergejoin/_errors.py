@@ -1,7 +1,9 @@
 """Why there is no text."""
 
 import json
-from typing import Any, List, Optional, Union
+from typing import Any, List, Optional, Tuple, Union
+
+from . import _library
 
 
 class MergejoinError(Exception):
@@ -17,20 +19,25 @@ class Conflict(MergejoinError):
     first and second are the numbers of the two: second is the least number of a patch that conflicts with an earlier one,
     and first the least of those. places are all places at which these two conflict, as JSON Pointers, in the order of paths.
 
-    Patches.text() keeps no numbers, so there they are None.
+    Replica and Patches keep no numbers, so there they are None. If a limit was given, places are the first ones that fit, and total
+    says how many there are in all.
     """
 
     first: Union[int, Any]
     second: Union[int, Any]
     places: List[str]
+    total: int
 
-    def __init__(self, first: Optional[int], second: Optional[int], places: List[str]) -> None:
-        super().__init__(first, second, places)
-        self.first, self.second, self.places = first, second, places
+    def __init__(self, first: Optional[int], second: Optional[int], places: List[str], total: Optional[int] = None) -> None:
+        total = len(places) if total is None else total
+        super().__init__(first, second, places, total)
+        self.first, self.second, self.places, self.total = first, second, places, total
 
     def __str__(self) -> str:
         which = "two patches" if self.first is None else f"patches {self.first} and {self.second}"
-        return f"conflict: {which} at " + ", ".join(json.dumps(place, ensure_ascii=False) for place in self.places)
+        places = [json.dumps(place, ensure_ascii=False) for place in self.places]
+        more = [f"{self.total - len(places):,} more"] if self.total > len(places) else []
+        return f"conflict: {which} at {', '.join(places + more)}"
 
 
 class NoPatches(MergejoinError):
@@ -76,10 +83,42 @@ class Malformed(MergejoinError):
 
 
 class Missing(MergejoinError, LookupError):
-    """The document has no part where the pointer points."""
+    """The document has no part where the pointer points.
+
+    Of PatchLog.decide(): no patch is stored under an identity, and number is which of the chosen ones it is.
+    """
+
+    number: int
+
+    def __init__(self, number: int = 0) -> None:
+        super().__init__(number)
+        self.number = number
 
     def __str__(self) -> str:
         return "missing"
+
+
+class TooLarge(MergejoinError):
+    """The result, or something that is made on the way to it, is larger than the limit.
+
+    number is, of patch(), that of the operation whose result weighs more; of rewrite(), how many of its operations fit; and else 0.
+    """
+
+    number: int
+
+    def __init__(self, number: int = 0) -> None:
+        super().__init__(number)
+        self.number = number
+
+    def __str__(self) -> str:
+        return "too large"
+
+
+class Pending(MergejoinError):
+    """A Replica has received the patch, and memory ran out before it could be shown. It is not lost: the next call shows it."""
+
+    def __str__(self) -> str:
+        return "pending"
 
 
 class InputError(MergejoinError, ValueError):
@@ -116,3 +155,28 @@ class InputError(MergejoinError, ValueError):
         else:
             which = f"patch {self.number}" if self.what == "patch" else self.what
         return f"{which}: {self.why}" + ("" if self.place is None else f" at {json.dumps(self.place, ensure_ascii=False)}")
+
+
+def _words_and_place(text: str, length: int) -> Tuple[str, Optional[str]]:
+    """Why a text is not a document, and the place after it, if there is one: the words have so many bytes then, each of which is a
+    character.
+    """
+    return (text[:length], text[length + len(" at "):]) if length else (text, None)
+
+
+def error_of(status: int, first: int, second: int, total: int, text: str) -> Exception:
+    """Return the error of a reply without a result."""
+    if status == _library.CONFLICT:
+        is_of_list = first != second
+        return Conflict(first if is_of_list else None, second if is_of_list else None, json.loads(text) if text else [], total)
+    if status in (_library.DOCUMENT, _library.PATCH):
+        return InputError("document" if status == _library.DOCUMENT else "patch", first, *_words_and_place(text, total))
+    if status in (_library.REFUSED, _library.FORM):
+        return (Refused if status == _library.REFUSED else Malformed)(first, text)
+    if status == _library.POINTER:
+        return InputError("pointer", first, text)
+    if status in (_library.MISSING, _library.TOO_LARGE):
+        return (Missing if status == _library.MISSING else TooLarge)(first)
+    if status in (_library.NO_PATCHES, _library.PENDING):
+        return NoPatches() if status == _library.NO_PATCHES else Pending()
+    return RuntimeError(f"mergejoin returns status {status}: {text}")

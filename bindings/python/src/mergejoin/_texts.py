@@ -1,21 +1,18 @@
-"""The six functions over texts."""
+"""The calls over texts."""
 
-from typing import Iterable, List
+import json
+from typing import Iterable, List, Optional, Tuple, TypeVar, Union, overload
 
 from . import _library
-from ._library import Given, called, encoded
+from ._errors import InputError, Missing
 
-# A rewriting has a test and an edit for each change, each with its path: at most about so many bytes for a byte of the patch.
-_REWRITTEN = 16
-
-
-def all_encoded(texts: Iterable[Given]) -> List[bytes]:
-    if isinstance(texts, (str, bytes)):
-        raise TypeError("texts are to be given one by one, as in a list, and not as one text")
-    return [encoded(text) for text in texts]
+Given = Union[str, bytes, bytearray, memoryview]
+Pair = Tuple[int, int, List[str]]
+_Default = TypeVar("_Default")
+_ABSENT = object()
 
 
-def join(texts: Iterable[Given]) -> str:
+def join(texts: Iterable[Given], *, limit: Optional[int] = None) -> str:
     """Return one merge patch with the effect of all of texts, in any order and with any repeats.
 
     It may be given in the place of the patches, to this function again too: so patches can be joined in groups, and the
@@ -27,12 +24,12 @@ def join(texts: Iterable[Given]) -> str:
     Traceback (most recent call last):
     mergejoin.Conflict: conflict: patches 0 and 2 at "/author"
 
-    InputError is looked for first, then NoPatches and Conflict.
+    InputError is looked for first, then NoPatches, Conflict and TooLarge.
     """
-    return called(_library.JOIN, all_encoded(texts))
+    return _library.join(texts, limit)
 
 
-def replay(start: Given, texts: Iterable[Given]) -> str:
+def replay(start: Given, texts: Iterable[Given], *, limit: Optional[int] = None) -> str:
     """Return the document that merge patches make of start, in any order and with any repeats.
 
     Of no patches it is the start. Unlike merge() it refuses patches that conflict.
@@ -40,12 +37,12 @@ def replay(start: Given, texts: Iterable[Given]) -> str:
     >>> replay('{"title": "Notes"}', ['{"author": "Ada"}', '{"title": null}'])
     '{"author":"Ada"}'
 
-    InputError is looked for first, of the start and then of the patches, and then Conflict.
+    InputError is looked for first, of the start and then of the patches, and then Conflict and TooLarge.
     """
-    return called(_library.REPLAY, encoded(start), all_encoded(texts))
+    return _library.replay(start, texts, limit)
 
 
-def merge(document: Given, texts: Iterable[Given]) -> str:
+def merge(document: Given, texts: Iterable[Given], *, limit: Optional[int] = None) -> str:
     """Return the document after merge patches, each applied to what the earlier ones left.
 
     If two conflict, their order decides.
@@ -53,12 +50,12 @@ def merge(document: Given, texts: Iterable[Given]) -> str:
     >>> merge('{"title": "Notes"}', ['{"title": "Draft"}', '{"title": "Book"}'])
     '{"title":"Book"}'
 
-    InputError is raised of the document first, and then of the patches.
+    InputError is raised of the document first, and then of the patches; then TooLarge.
     """
-    return called(_library.MERGE, encoded(document), all_encoded(texts))
+    return _library.merge(document, texts, limit)
 
 
-def rewrite(document: Given, patch: Given) -> str:
+def rewrite(document: Given, patch: Given, *, limit: Optional[int] = None) -> str:
     """Return a merge patch as a JSON Patch (RFC 6902) for document.
 
     It has first a test of each place that changes and where the document has something, and then one edit for each place
@@ -67,13 +64,12 @@ def rewrite(document: Given, patch: Given) -> str:
     >>> rewrite('{"title": "Notes"}', '{"title": "Book"}')
     '[{"op":"test","path":"/title","value":"Notes"},{"op":"replace","path":"/title","value":"Book"}]'
 
-    InputError is raised of the document first, and then of the patch.
+    InputError is raised of the document first, and then of the patch; then TooLarge.
     """
-    change = encoded(patch)
-    return called(_library.REWRITE, encoded(document), change, more=_REWRITTEN * len(change))
+    return _library.rewrite(document, patch, limit)
 
 
-def patch(document: Given, operations: Given) -> str:
+def patch(document: Given, operations: Given, *, limit: Optional[int] = None) -> str:
     """Return the document after a JSON Patch (RFC 6902).
 
     >>> patch('[1]', '[{"op": "add", "path": "/-", "value": 2}]')
@@ -82,17 +78,57 @@ def patch(document: Given, operations: Given) -> str:
     Traceback (most recent call last):
     mergejoin.Refused: operation 0: missing
 
-    InputError is looked for first, of the document and then of the patch, then Malformed and Refused.
+    A short JSON Patch can make a document that takes all memory, by copies. Give texts of strangers a limit:
+
+    >>> doubled = '[{"op": "copy", "from": "", "path": "/a"},{"op": "copy", "from": "", "path": "/b"}]'
+    >>> patch('{}', doubled, limit=3_000)
+    Traceback (most recent call last):
+    mergejoin.TooLarge: too large
+
+    InputError is looked for first, of the document and then of the patch, then Malformed, Refused and TooLarge.
     """
-    return called(_library.PATCH, encoded(document), encoded(operations))
+    return _library.patch(document, operations, limit)
 
 
-def get(document: Given, pointer: Given) -> str:
-    """Return the part of document that a JSON Pointer (RFC 6901) names.
+@overload
+def get(document: Given, pointer: Given, *, limit: Optional[int] = None) -> str: ...
+@overload
+def get(document: Given, pointer: Given, default: _Default, *, limit: Optional[int] = None) -> Union[str, _Default]: ...
+def get(document: Given, pointer: Given, default: object = _ABSENT, *, limit: Optional[int] = None) -> object:
+    """Return the part of document that a JSON Pointer (RFC 6901) names, or default if the document has no part there.
 
     >>> get('{"tags": ["a", "b"]}', '/tags/1')
     '"b"'
+    >>> get('{"tags": ["a", "b"]}', '/tags/2', None)
 
-    InputError is looked for first, of the document and then of the pointer, and then Missing.
+    InputError is looked for first, of the document and then of the pointer, and then Missing if no default is given.
     """
-    return called(_library.GET, encoded(document), encoded(pointer))
+    try:
+        return _library.get(document, pointer, limit)
+    except Missing:
+        if default is _ABSENT:
+            raise
+        return default
+
+
+def conflicts(texts: Iterable[Given], *, limit: Optional[int] = None) -> List[Pair]:
+    """Return all pairs of texts that conflict: the numbers of the two, and all places at which they do.
+
+    The pairs are in order, and the places of each in the order of paths. If none conflict, the list is empty.
+
+    >>> conflicts(['{"a": 1, "b": {"c": 2}}', '{"d": 3}', '{"a": 4, "b": 5}'])
+    [(0, 2, ['/a', '/b'])]
+
+    A text that conflicts with no other costs what it is long; one that does may cost what all texts are long. InputError is raised if a
+    text is not a document, and TooLarge if the list, as a JSON text, is longer than the limit.
+    """
+    if isinstance(texts, (str, bytes, bytearray)):
+        raise TypeError("texts are to be given one by one, as in a list, and not as one text")
+    log = _library.PatchLog(0, "null")
+    for number, text in enumerate(texts):
+        try:
+            log.receive(0, number, 0, text)
+        except InputError as error:
+            raise InputError("patch", number, error.why, error.place) from None
+    pairs = json.loads(log.conflicts(limit))
+    return [(pair["first"][0], pair["second"][0], pair["places"]) for pair in pairs]

@@ -13,91 +13,112 @@ not text"; 127 levels and more, as of what contains itself, as "too deep"; and a
 Traceback (most recent call last):
 mergejoin.InputError: patch 1: number not whole at "/items/0/price"
 
-The errors are those of mergejoin. Texts are faster: what is read from a file or from a network need not become objects.
+The errors are those of mergejoin, and limit bounds what it bounds there. Texts are faster: what is read from a file or from a network
+need not become objects.
 """
 
 import json
 from typing import Any, Iterable, Iterator, List, Mapping, Optional, Tuple
 
-from . import _texts
-from ._errors import InputError
-from ._library import Given
+from . import _library, _texts
+from ._errors import InputError, Missing
+from ._texts import Given, Pair
 
-__all__ = ["join", "replay", "merge", "rewrite", "patch", "get"]
+__all__ = ["join", "replay", "merge", "rewrite", "patch", "get", "conflicts"]
 
 _DEEPEST = 126
 _LEAST, _MOST = -2**63, 2**64 - 1
 
 
-def join(patches: Iterable[object]) -> Any:
+_read = json.JSONDecoder().raw_decode
+_ABSENT = object()
+
+
+def join(patches: Iterable[object], *, limit: Optional[int] = None) -> Any:
     """Return one merge patch with the effect of all patches, as mergejoin.join().
 
     >>> join([{"a": {"x": 1}}, {"a": {"y": None}}])
     {'a': {'x': 1, 'y': None}}
     """
-    return json.loads(_texts.join(_all_written(patches)))
+    return _read(_library.join(_all_written(patches), limit))[0]
 
 
-def replay(start: object, patches: Iterable[object]) -> Any:
+def replay(start: object, patches: Iterable[object], *, limit: Optional[int] = None) -> Any:
     """Return the document that merge patches make of start, as mergejoin.replay().
 
     >>> replay({"k": 0}, [{"a": 1}, {"k": None}])
     {'a': 1}
     """
-    return json.loads(_texts.replay(_written(start, "document"), _all_written(patches)))
+    return _read(_library.replay(_written(start, "document"), _all_written(patches), limit))[0]
 
 
-def merge(document: object, patches: Iterable[object]) -> Any:
+def merge(document: object, patches: Iterable[object], *, limit: Optional[int] = None) -> Any:
     """Return the document after merge patches in turn, as mergejoin.merge().
 
     >>> merge({"k": 0}, [{"k": 1}, {"k": 2}])
     {'k': 2}
     """
-    return json.loads(_texts.merge(_written(document, "document"), _all_written(patches)))
+    return _read(_library.merge(_written(document, "document"), _all_written(patches), limit))[0]
 
 
-def rewrite(document: object, patch: object) -> List[Any]:
+def rewrite(document: object, patch: object, *, limit: Optional[int] = None) -> List[Any]:
     """Return a merge patch as a JSON Patch for document, as mergejoin.rewrite().
 
     >>> rewrite({}, {"k": 1})
     [{'op': 'add', 'path': '/k', 'value': 1}]
     """
-    edits: List[Any] = json.loads(_texts.rewrite(_written(document, "document"), _written(patch, "patch")))
+    edits: List[Any] = _read(_library.rewrite(_written(document, "document"), _written(patch, "patch"), limit))[0]
     return edits
 
 
-def patch(document: object, operations: object) -> Any:
+def patch(document: object, operations: object, *, limit: Optional[int] = None) -> Any:
     """Return the document after a JSON Patch, as mergejoin.patch().
 
     >>> patch([1], [{"op": "add", "path": "/-", "value": 2}])
     [1, 2]
     """
-    return json.loads(_texts.patch(_written(document, "document"), _written(operations, "patch")))
+    return _read(_library.patch(_written(document, "document"), _written(operations, "patch"), limit))[0]
 
 
-def get(document: object, pointer: Given) -> Any:
-    """Return the part of document that a JSON Pointer names, as mergejoin.get().
+def get(document: object, pointer: Given, default: Any = _ABSENT, *, limit: Optional[int] = None) -> Any:
+    """Return the part of document that a JSON Pointer names, or default if it has none there, as mergejoin.get().
 
     >>> get({"tags": ["a", "b"]}, "/tags/1")
     'b'
+    >>> get({"tags": ["a", "b"]}, "/tags/2", "c")
+    'c'
     """
-    return json.loads(_texts.get(_written(document, "document"), pointer))
+    try:
+        return _read(_library.get(_written(document, "document"), pointer, limit))[0]
+    except Missing:
+        if default is _ABSENT:
+            raise
+        return default
 
 
-def _all_written(patches: Iterable[object]) -> List[str]:
-    if isinstance(patches, (str, bytes, Mapping)):
+def conflicts(patches: Iterable[object], *, limit: Optional[int] = None) -> List[Pair]:
+    """Return all pairs of patches that conflict, as mergejoin.conflicts().
+
+    >>> conflicts([{"a": 1}, {"b": 2}, {"a": 3}])
+    [(0, 2, ['/a'])]
+    """
+    return _texts.conflicts(_all_written(patches), limit=limit)
+
+
+def _all_written(patches: Iterable[object]) -> List[bytes]:
+    if not isinstance(patches, (list, tuple)) and isinstance(patches, (str, bytes, Mapping)):
         raise TypeError("patches are to be given one by one, as in a list, and not as one patch")
     return [_written(patch, "patch", number) for number, patch in enumerate(patches)]
 
 
-def _written(value: object, what: str, number: int = 0) -> str:
+def _written(value: object, what: str, number: int = 0) -> bytes:
     """Gives the text of a value, or raises what is wrong with it."""
-    fault = _fault(value, 0)
-    if fault:
-        why, steps = fault
+    text = _library.written(value)
+    if text is None:
+        why, steps = _fault(value, 0) or ("not JSON", [])
         place = "".join("/" + step.replace("~", "~0").replace("/", "~1") for step in reversed(steps))
         raise InputError(what, number, why, place)
-    return json.dumps(value, ensure_ascii=False, separators=(",", ":"))
+    return text
 
 
 def _fault(value: object, level: int) -> Optional[Tuple[str, List[str]]]:

@@ -1,0 +1,114 @@
+/* Texts that calls borrow, and the answers of calls. */
+#include "glue.h"
+
+/* The bytes of one text. If they are those of a new object, that is added to the list of what is kept. */
+static int text_of(PyObject *given, PyObject *kept, mergejoin_text *text) {
+  PyObject *made = NULL;
+  const char *bytes = NULL;
+  char *own = NULL;
+  Py_ssize_t length = 0;
+  if (PyUnicode_Check(given)) {
+    bytes = PyUnicode_AsUTF8AndSize(given, &length);
+    if (bytes) {
+      *text = mergejoin_text_of(bytes, (size_t)length);
+      return 0;
+    }
+    if (!PyErr_ExceptionMatches(PyExc_UnicodeEncodeError)) return -1;
+    PyErr_Clear();
+    made = PyUnicode_AsEncodedString(given, "utf-8", "surrogatepass");
+  } else if (PyBytes_Check(given)) {
+    made = Py_NewRef(given);
+  } else if (PyByteArray_Check(given) || PyObject_TypeCheck(given, &PyMemoryView_Type)) {
+    made = PyBytes_FromObject(given);
+  } else {
+    PyErr_Format(PyExc_TypeError, "a text is a str or bytes, not %R", (PyObject *)Py_TYPE(given));
+  }
+  if (!made) return -1;
+  int status = PyBytes_AsStringAndSize(made, &own, &length);
+  if (!status && made != given) status = PyList_Append(kept, made);
+  Py_DECREF(made);
+  if (!status) *text = mergejoin_text_of(own, (size_t)length);
+  return status;
+}
+
+/* The objects, each of which is kept, and the list of those that are made of them. */
+static int take(PyObject *objects, texts *taken) {
+  Py_ssize_t count = objects ? PyTuple_Size(objects) : -1;
+  *taken = (texts){NULL, NULL, 0};
+  if (count < 0) return -1;
+  PyObject *made = PyList_New(0);
+  taken->kept = made ? PyTuple_Pack(2, objects, made) : NULL;
+  Py_XDECREF(made);
+  taken->at = PyMem_Malloc(sizeof *taken->at * (size_t)(count ? count : 1));
+  if (!taken->at) PyErr_NoMemory();
+  if (!taken->kept || !taken->at) goto failed;
+  for (Py_ssize_t number = 0; number < count; number += 1) {
+    if (text_of(PyTuple_GetItem(objects, number), made, &taken->at[number])) goto failed;
+  }
+  taken->count = (size_t)count;
+  Py_DECREF(objects);
+  return 0;
+failed:
+  Py_DECREF(objects);
+  texts_drop(taken);
+  return -1;
+}
+
+int texts_of_one(PyObject *given, texts *taken) { return take(PyTuple_Pack(1, given), taken); }
+
+int texts_of_all(PyObject *given, texts *taken) {
+  if (PyUnicode_Check(given) || PyBytes_Check(given) || PyByteArray_Check(given)) {
+    *taken = (texts){NULL, NULL, 0};
+    PyErr_SetString(PyExc_TypeError, "texts are to be given one by one, as in a list, and not as one text");
+    return -1;
+  }
+  return take(PySequence_Tuple(given), taken);
+}
+
+void texts_drop(texts *taken) {
+  Py_CLEAR(taken->kept);
+  PyMem_Free(taken->at);
+  taken->at = NULL;
+}
+
+int has_arguments(Py_ssize_t count, Py_ssize_t wanted) {
+  if (count != wanted) PyErr_Format(PyExc_TypeError, "%zd arguments in the place of %zd", count, wanted);
+  return count == wanted;
+}
+
+int limit_of(PyObject *given, size_t *limit) {
+  *limit = SIZE_MAX;
+  if (given == Py_None) return 0;
+  *limit = PyLong_AsSize_t(given);
+  return PyErr_Occurred() ? -1 : 0;
+}
+
+/* Raises what the package makes of a reply without a result. */
+static PyObject *raised(const char *text, const mergejoin_reply *reply) {
+  PyObject *errors = PyImport_ImportModule("mergejoin._errors");
+  PyObject *error = NULL;
+  if (errors) {
+    error = PyObject_CallMethod(errors, "error_of", "InnnN", (unsigned)reply->status, (Py_ssize_t)reply->first,
+                                (Py_ssize_t)reply->second, (Py_ssize_t)reply->total,
+                                PyUnicode_DecodeUTF8(text, (Py_ssize_t)reply->length, "strict"));
+    Py_DECREF(errors);
+  }
+  if (error) {
+    PyErr_SetObject((PyObject *)Py_TYPE(error), error);
+    Py_DECREF(error);
+  }
+  return NULL;
+}
+
+PyObject *answer_of(char *text, const mergejoin_reply *reply) {
+  PyObject *answer = NULL;
+  if (!text || reply->status == MERGEJOIN_NO_MEMORY) {
+    PyErr_NoMemory();
+  } else if (reply->status == MERGEJOIN_RESULT) {
+    answer = PyUnicode_DecodeUTF8(text, (Py_ssize_t)reply->length, "strict");
+  } else {
+    answer = raised(text, reply);
+  }
+  free(text);
+  return answer;
+}

@@ -1,0 +1,287 @@
+"""What stays in memory: a replica, patches without a start, and a log of patches that may conflict."""
+
+import enum
+import json
+from typing import Iterable, List, NamedTuple, Optional, Tuple, TypeVar, Union, overload
+
+from . import _library
+from ._errors import Missing, NoPatches
+from ._texts import Given
+
+_Default = TypeVar("_Default")
+_ABSENT = object()
+_SHOWN = 60  # characters of a text that repr() shows
+
+
+def _shown(text: str) -> str:
+    return text if len(text) <= _SHOWN else f"{text[:_SHOWN]}.. of {len(text):,} characters"
+
+
+class Replica:
+    """A replica of one document: it begins with a start, receives merge patches, and shows what they make of the start.
+
+    Patches may arrive in any order and with any repeats. Receiving one costs what the patch costs, however long the document is
+    and however many came before.
+
+    >>> replica = Replica('{"title": "Notes"}')
+    >>> replica.receive('{"author": "Ada"}')
+    >>> replica.receive('{"title": null}')
+    >>> replica.document()
+    '{"author":"Ada"}'
+    >>> replica.joined()
+    '{"author":"Ada","title":null}'
+    >>> replica.get("/author")
+    '"Ada"'
+
+    A patch that conflicts with what was received is refused, with all places, and changes nothing:
+
+    >>> replica.receive('{"author": "Bob"}')
+    Traceback (most recent call last):
+    mergejoin.Conflict: conflict: two patches at "/author"
+
+    The start and the patches are not kept: a replica has its document, and the join of what it received. Two replicas are equal
+    if they have the same of both. It pickles as these two texts, and copies. Any threads may use it: they take it one after
+    the other.
+    """
+
+    __slots__ = ("_held",)
+    __hash__ = None  # type: ignore[assignment]  # it changes
+
+    def __init__(self, start: Given) -> None:
+        """Begin with a start. InputError is raised if it is not a document."""
+        self._held = _library.Replica(start)
+
+    def receive(self, patch: Given, *, limit: Optional[int] = None) -> None:
+        """Receive a merge patch, which is shown then. One that was received before changes nothing.
+
+        InputError is raised if it is not a document, and Conflict if it conflicts with what was received: with all places, or with
+        the first ones that fit into the limit. If memory runs out, it is MemoryError, or Pending if the patch is received all the
+        same. After all but Pending nothing has changed.
+        """
+        self._held.receive(patch, limit)
+
+    def document(self, *, limit: Optional[int] = None) -> str:
+        """Return the document: what replay() returns of the start and of all that was received.
+
+        TooLarge is raised if it is longer than the limit.
+        """
+        return self._held.document(limit)
+
+    def joined(self, *, limit: Optional[int] = None) -> str:
+        """Return the join of all that was received, which may be sent in its place.
+
+        NoPatches is raised if nothing was, and TooLarge if it is longer than the limit.
+        """
+        return self._held.joined(limit)
+
+    @overload
+    def get(self, pointer: Given, *, limit: Optional[int] = None) -> str: ...
+    @overload
+    def get(self, pointer: Given, default: _Default, *, limit: Optional[int] = None) -> Union[str, _Default]: ...
+    def get(self, pointer: Given, default: object = _ABSENT, *, limit: Optional[int] = None) -> object:
+        """Return the part of the document that a JSON Pointer names, or default if the document has no part there.
+
+        InputError is raised if it is not a pointer, Missing if no default is given, and TooLarge.
+        """
+        try:
+            return self._held.get(pointer, limit)
+        except Missing:
+            if default is _ABSENT:
+                raise
+            return default
+
+    def _texts(self) -> Tuple[str, Optional[str]]:
+        """The document, and the join if something was received: also of what another thread receives in between."""
+        document = self.document()
+        try:
+            return document, self.joined()
+        except NoPatches:
+            return document, None
+
+    def __eq__(self, other: object) -> bool:
+        if not isinstance(other, Replica):
+            return NotImplemented
+        return self._texts() == other._texts()
+
+    def __repr__(self) -> str:
+        return f"<mergejoin.Replica {_shown(self.document())}>"
+
+    def __reduce__(self) -> Tuple[type, Tuple[str], Optional[str]]:
+        document, joined = self._texts()
+        return type(self), (document,), joined
+
+    def __setstate__(self, joined: str) -> None:
+        """Receives the join. It changes nothing of a document that shows it."""
+        self.receive(joined)
+
+
+class Patches:
+    """What a combiner keeps of merge patches: their join.
+
+    Give it patches by add(), and what others were given by add_all(); text() is their join. Whatever the order, the groups
+    and the repeats, the result is the same:
+
+    >>> one, other = Patches(), Patches()
+    >>> one.add('{"author": "Ada"}')
+    >>> other.add('{"title": null}')
+    >>> other.add('{"author": "Ada"}')
+    >>> one.add_all(other)
+    >>> one.text()
+    '{"author":"Ada","title":null}'
+
+    If two patches conflict, a Patches still takes patches, and reads them, so that a text which is not a patch raises
+    InputError in every order. It is text() that raises Conflict, in each order too:
+
+    >>> one.add('{"author": "Bob"}')
+    >>> one.add('{"author": ')
+    Traceback (most recent call last):
+    mergejoin.InputError: patch 0: not JSON
+    >>> one.text()
+    Traceback (most recent call last):
+    mergejoin.Conflict: conflict: two patches at "/author"
+
+    A patch costs what it is long, however many there are. A Patches pickles as one text, and copies: give it to a process or keep
+    it in a file. Two are equal if they pickle as the same text. Any threads may use it: they take it one after the other.
+    """
+
+    __slots__ = ("_held",)
+    __hash__ = None  # type: ignore[assignment]  # it changes
+
+    def __init__(self) -> None:
+        self._held = _library.Patches()
+
+    def add(self, text: Given) -> None:
+        """Take one more merge patch.
+
+        If it is not a document, InputError is raised, and this stays as it was. If memory runs out, it may be taken or
+        not: add it again, since a repeat changes nothing.
+        """
+        self._held.add(text)
+
+    def add_all(self, other: "Patches") -> None:
+        """Take all that another Patches was given, which stays as it is. It costs what the other's join costs."""
+        taken = _library.Patches()
+        taken.from_kept(other._kept())
+        self._held.combine(taken)
+
+    def text(self, *, limit: Optional[int] = None) -> str:
+        """Return the join of all patches that were given, as join() does.
+
+        If there are none, NoPatches is raised, and if two conflict, Conflict: with the places at which this was seen
+        first, which may be others in another order, and without the numbers of the two, which no join knows. Give the
+        texts themselves to conflicts(), which returns all pairs and their places. TooLarge is raised if it is longer than the limit.
+        """
+        return self._held.text(limit)
+
+    def _kept(self) -> str:
+        """One text: the join; nothing of no patches; or the places of a conflict after a "!"."""
+        return self._held.kept(None)
+
+    def __eq__(self, other: object) -> bool:
+        if not isinstance(other, Patches):
+            return NotImplemented
+        return self._kept() == other._kept()
+
+    def __repr__(self) -> str:
+        return f"<mergejoin.Patches {_shown(self._kept()) or 'of no patches'}>"
+
+    def __reduce__(self) -> Tuple[type, Tuple[()], str]:
+        return type(self), (), self._kept()
+
+    def __setstate__(self, kept: str) -> None:
+        """Takes the text that it was pickled as."""
+        self._held.from_kept(kept)
+
+
+class Identity(NamedTuple):
+    """Who made a patch, and the sender's number for it: two whole numbers from 0 to 2**64 - 1. No two patches have the same."""
+
+    sender: int
+    number: int
+
+
+class Arrival(enum.Enum):
+    """What became of a message: STORED; or nothing changed, since a patch with its identity is stored (REPEAT), or it is of an earlier
+    start (LATE), or of a later one, for which the caller keeps it (EARLY).
+    """
+
+    STORED = "stored"
+    REPEAT = "repeat"
+    LATE = "late"
+    EARLY = "early"
+
+
+class ConflictingPair(NamedTuple):
+    """Two patches that conflict, of which first has the lower identity, and all places at which they do."""
+
+    first: Identity
+    second: Identity
+    places: List[str]
+
+
+class PatchLog:
+    """A replica that stores the patches with their identities, so that it can follow a decision if some of them conflict.
+
+    It begins with a start and the start's number, its epoch. It shows the start with the patches that conflict with no other, whatever
+    the order in which they arrive, and lists the pairs that conflict:
+
+    >>> log = PatchLog(1, '{"colour": "red"}')
+    >>> log.receive(1, (1, 1), '{"colour": "blue"}')
+    <Arrival.STORED: 'stored'>
+    >>> log.receive(1, (2, 1), '{"colour": "green"}')
+    <Arrival.STORED: 'stored'>
+    >>> log.receive(1, (2, 2), '{"size": 2}')
+    <Arrival.STORED: 'stored'>
+    >>> log.document()
+    '{"colour":"red","size":2}'
+    >>> log.conflicts()
+    [ConflictingPair(first=Identity(sender=1, number=1), second=Identity(sender=2, number=1), places=['/colour'])]
+
+    decide() ends the start by some of them, which begins the next one:
+
+    >>> log.decide([(1, 1), (2, 2)])
+    >>> log.document(), log.epoch
+    ('{"colour":"blue","size":2}', 2)
+
+    Any threads may use it: they take it one after the other. Nothing of it is on disk: store the messages that it was given, and
+    give them to a new one. docs/REPLICAS.md of the sources says how replicas agree on a decision.
+    """
+
+    __slots__ = ("_held",)
+
+    def __init__(self, epoch: int, start: Given) -> None:
+        """Begin with a start of this number, from 0 to 2**64 - 1. InputError is raised if the start is not a document."""
+        self._held = _library.PatchLog(epoch, start)
+
+    @property
+    def epoch(self) -> int:
+        """The number of the start. A decision is for the start of one number, and is handed on while this is it."""
+        return self._held.epoch()
+
+    def receive(self, epoch: int, identity: Tuple[int, int], patch: Given) -> Arrival:
+        """Receive a message: a merge patch, its identity, and the number of the start that it was made for.
+
+        InputError is raised if the patch is not a document, whatever the message is of. Then, and if memory runs out, nothing has
+        changed. A patch that conflicts with nothing costs what it is long; one that does may cost all that is stored.
+        """
+        return Arrival(self._held.receive(epoch, *identity, patch))
+
+    def document(self, *, limit: Optional[int] = None) -> str:
+        """Return the document: the start with the patches that conflict with no other. TooLarge is raised as by join()."""
+        return self._held.document(limit)
+
+    def conflicts(self, *, limit: Optional[int] = None) -> List[ConflictingPair]:
+        """Return each two patches that conflict, once, in the order of their identities.
+
+        TooLarge is raised if the list, as a JSON text, is longer than the limit.
+        """
+        return [ConflictingPair(Identity(*pair["first"]), Identity(*pair["second"]), pair["places"])
+                for pair in json.loads(self._held.conflicts(limit))]
+
+    def decide(self, chosen: Iterable[Tuple[int, int]], *, limit: Optional[int] = None) -> None:
+        """End the start by the patches with these identities: what they make of it is the next start, and all patches are forgotten.
+
+        After an error nothing has changed. Missing is raised if no patch is stored under the identity of its number among the chosen;
+        Conflict if two of them conflict, with their numbers among the chosen; Refused if no number is left for a start.
+        """
+        self._held.decide(chosen, limit)

@@ -1,0 +1,196 @@
+"""What stays in memory shows what the six calls make of all texts, pickles, compares, and serves threads one after the other."""
+
+import copy
+import json
+import pickle
+import random
+import sys
+import threading
+import unittest
+
+import mergejoin
+from mergejoin import Arrival, Conflict, InputError, Missing, NoPatches, Patches, PatchLog, Refused, Replica
+
+START = '{"title": "Notes", "tags": ["a"]}'
+ADA, BOB, UNTITLED = '{"author": "Ada"}', '{"author": "Bob"}', '{"title": null}'
+MOST = 2**64 - 1
+
+
+def text(chance):
+    values = [None, 1, "é", [1], {}, {"x": chance.randrange(3)}, {"y": None}]
+    return json.dumps({chance.choice("abcdef"): chance.choice(values) for _ in range(chance.randrange(3))})
+
+
+class Replicas(unittest.TestCase):
+    def test_random_patches_are_shown(self):
+        chance, conflicts = random.Random(81), 0
+        for _ in range(60):
+            start, received = text(chance), []
+            replica = Replica(start)
+            for _ in range(12):
+                patch = text(chance)
+                try:
+                    replica.receive(patch if chance.random() < 0.5 else bytearray(patch.encode()))
+                    received.append(patch)
+                except Conflict as error:
+                    conflicts += 1
+                    with self.assertRaises(Conflict) as raised:
+                        mergejoin.join([mergejoin.join(received), patch])
+                    self.assertEqual((error.first, error.second, error.places), (None, None, raised.exception.places))
+                self.assertEqual(replica.document(), mergejoin.replay(start, received))
+                if received:
+                    self.assertEqual(replica.joined(), mergejoin.join(received))
+        self.assertGreater(conflicts, 50)
+
+    def test_a_replica_pickles(self):
+        replica = Replica(START)
+        for patch in (None, ADA, UNTITLED):
+            if patch:
+                replica.receive(patch)
+            for again in (pickle.loads(pickle.dumps(replica)), copy.copy(replica), copy.deepcopy(replica)):
+                self.assertEqual((again.document(), again), (replica.document(), replica))
+                if patch:
+                    self.assertEqual(again.joined(), replica.joined())
+                    self.assertRaises(Conflict, again.receive, BOB)
+                else:
+                    self.assertRaises(NoPatches, again.joined)
+        self.assertEqual(repr(replica), '<mergejoin.Replica {"author":"Ada","tags":["a"]}>')
+
+    def test_replicas_compare(self):
+        one, other = Replica(START), Replica(START)
+        one.receive(ADA)
+        self.assertNotEqual(one, other)
+        other.receive(ADA)
+        self.assertEqual(one, other)
+        self.assertNotEqual(Replica('{"author":"Ada"}'), Replica("{}"))
+        self.assertNotEqual(one, START)
+        self.assertRaises(TypeError, hash, one)
+
+    def test_parts(self):
+        replica = Replica(START)
+        self.assertEqual((replica.get("/tags/0"), replica.get(b"/tags", "none")), ('"a"', '["a"]'))
+        self.assertEqual((replica.get("/x", None), replica.get("/x", default=7)), (None, 7))
+        self.assertRaises(Missing, replica.get, "/x")
+        self.assertRaises(InputError, replica.get, "x", None)
+
+    def test_what_is_wrong_changes_nothing(self):
+        self.assertRaises(InputError, Replica, "[")
+        self.assertRaises(TypeError, Replica, {})
+        replica = Replica(START)
+        replica.receive(ADA)
+        for wrong, why, place in (("[", "not JSON", None), ('{"a":1.5}', "number not whole", "/a")):
+            with self.assertRaises(InputError) as raised:
+                replica.receive(wrong)
+            error = raised.exception
+            self.assertEqual((error.what, error.number, error.why, error.place), ("patch", 0, why, place))
+        self.assertRaises(Conflict, replica.receive, BOB)
+        self.assertEqual(replica.joined(), '{"author":"Ada"}')
+
+    def test_long_texts(self):
+        replica, long = Replica("{}"), json.dumps({"a": "x" * 300_000})
+        replica.receive(long)
+        self.assertEqual(json.loads(replica.document()), json.loads(long))
+        self.assertEqual(len(repr(replica)), len('<mergejoin.Replica .. of 300,008 characters>') + 60)
+
+
+class Logs(unittest.TestCase):
+    def log(self):
+        log = PatchLog(7, START)
+        for identity, patch in (((1, 1), ADA), ((2, 1), BOB), ((1, 2), UNTITLED)):
+            self.assertIs(log.receive(7, identity, patch), Arrival.STORED)
+        return log
+
+    def test_conflicts_and_a_decision(self):
+        log = self.log()
+        self.assertEqual(log.document(), mergejoin.replay(START, [UNTITLED]))
+        self.assertEqual(log.conflicts(), [((1, 1), (2, 1), ["/author"])])
+        self.assertEqual([log.receive(epoch, (1, 1), BOB) for epoch in (6, 7, 8)], [Arrival.LATE, Arrival.REPEAT, Arrival.EARLY])
+        log.decide([(1, 2), (2, 1), (1, 2)])
+        self.assertEqual((log.epoch, log.document(), log.conflicts()), (8, mergejoin.replay(START, [UNTITLED, BOB]), []))
+
+    def test_a_decision_that_is_refused(self):
+        log = self.log()
+        with self.assertRaises(Missing) as missing:
+            log.decide([(1, 1), (2, 1), (9, 9)])
+        with self.assertRaises(Conflict) as conflict:
+            log.decide([(1, 2), (2, 1), (1, 1)])
+        error = conflict.exception
+        self.assertEqual((missing.exception.number, error.first, error.second, error.places), (2, 2, 1, ["/author"]))
+        self.assertEqual((log.epoch, len(log.conflicts())), (7, 1))
+        last = PatchLog(MOST, START)
+        self.assertRaises(Refused, last.decide, [])
+        self.assertEqual(last.epoch, MOST)
+
+    def test_what_is_no_message(self):
+        log = PatchLog(7, START)
+        for words, error in (((-1, (1, 1), ADA), OverflowError), ((7, (MOST + 1, 1), ADA), OverflowError), ((7, (1,), ADA), TypeError),
+                             ((7, (1, "2"), ADA), TypeError), ((7, (1, 1), {}), TypeError), ((8, (1, 1), "["), InputError)):
+            self.assertRaises(error, log.receive, *words)
+        for chosen in ([1], [(1,)], 5, [(1, None)]):
+            self.assertRaises(TypeError, log.decide, chosen)
+        self.assertRaises(InputError, PatchLog, 1, "[")
+
+
+class Threads(unittest.TestCase):
+    def together(self, *jobs):
+        threads = [threading.Thread(target=job) for job in jobs]
+        for it in threads:
+            it.start()
+        for it in threads:
+            it.join()
+
+    def test_one_object_serves_many_threads(self):
+        replica, patches, log = Replica("{}"), Patches(), PatchLog(0, "{}")
+
+        def work(first):
+            for number in range(first, first + 300):
+                text = json.dumps({f"n{number}": {"x": number}})
+                replica.receive(text)
+                patches.add(text)
+                log.receive(0, (first, number), text)
+                if number % 50 == 0:
+                    self.assertLessEqual(len(replica.document()), len(log.document()) + 100_000)
+                    patches.text()
+
+        self.together(*(lambda first=first: work(first) for first in (0, 1_000, 2_000, 3_000)))
+        wanted = json.dumps({f"n{number}": {"x": number} for first in (0, 1_000, 2_000, 3_000) for number in range(first, first + 300)},
+                            sort_keys=True, separators=(",", ":"))
+        self.assertEqual((replica.document(), patches.text(), log.document()), (wanted,) * 3)
+
+    def test_each_takes_all_of_the_other(self):
+        one, other = Patches(), Patches()
+        one.add(ADA)
+        other.add(UNTITLED)
+        self.together(*[lambda: [one.add_all(other) for _ in range(200)], lambda: [other.add_all(one) for _ in range(200)]])
+        self.assertEqual(one, other)
+        one.add_all(one)
+        self.assertEqual((one.text(), one), (mergejoin.join([ADA, UNTITLED]), other))
+
+
+class Memory(unittest.TestCase):
+    def test_what_is_dropped_is_freed(self):
+        def resident():
+            with open("/proc/self/statm", encoding="ascii") as file:
+                return int(file.read().split()[1]) * 4096
+
+        long, before = json.dumps({f"n{number}": number for number in range(5_000)}), 0
+        for number in range(120):
+            replica, patches, log = Replica(long), Patches(), PatchLog(0, long)
+            replica.receive(long)
+            patches.add(long)
+            log.receive(0, (0, 0), long)
+            self.assertRaises(InputError, patches.add, "[")
+            before = before or (number == 40 and resident())
+        self.assertLess(resident() - before, 4_000_000)
+
+    def test_references_are_given_back(self):
+        texts, blob = [f'{{"é{number}": 1}}' for number in range(50)], bytearray(b'{"a":1}')
+        calls = [lambda: mergejoin.join(texts), lambda: mergejoin.merge(blob, [memoryview(blob)]), lambda: Patches().add(texts[0]),
+                 lambda: Replica(texts[0]).receive(blob), lambda: mergejoin.objects.merge({"a": texts}, [{"b": {"c": texts}}])]
+        for call in calls:
+            counts = []
+            for _ in range(3):
+                for _ in range(100):
+                    call()
+                counts.append(([sys.getrefcount(it) for it in texts], sys.getrefcount(blob)))
+            self.assertEqual(counts[0], counts[2])
