@@ -71,14 +71,14 @@ def rows():
     yield "`merge` of a small document and a patch", mergejoin.merge, merge, [written(SMALL), [written(PATCH)]]
     for count in (1, 10, 1_000):
         texts = [f'{{"k{number}":{{"name":"value","n":{number}}}}}' for number in range(count)]
-        yield f"`join` of {count:,} small patches", mergejoin.join, join, [texts]
+        yield f"`join` of {count:,} small patch{'es' if count > 1 else ''}", mergejoin.join, join, [texts]
     yield "`merge` of a document of 100 records and a patch", mergejoin.merge, merge, [written(RECORDS), [written({"user7": None})]]
     small = "`objects.merge` of a small document and a patch", objects.merge, [SMALL, [PATCH]]
     large = ("`objects.merge` of a document of 100 records and 100 patches", objects.merge,
              [RECORDS, [{name: {"visits": number}} for number, name in enumerate(RECORDS)]])
     for what, ours, given in small, large:
         yield what, ours, merge_copied, given
-        yield f"{what}, next to a result that shares parts with them", ours, merge_shared, given
+        yield "the same, next to a result that shares parts", ours, merge_shared, given
 
 
 def seconds(call, given, count):
