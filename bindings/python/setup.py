@@ -2,6 +2,7 @@
 the directory that MERGEJOIN_LIB names. What else there is to say of the package stands in pyproject.toml.
 """
 
+import importlib.util
 import os
 import pathlib
 import platform
@@ -9,13 +10,9 @@ import platform
 from setuptools import Extension, setup
 from setuptools.command.build_ext import build_ext
 
-try:
-    import setuptools.command.bdist_wheel
-except ImportError:  # before setuptools 70
-    try:
-        import wheel.bdist_wheel
-    except ImportError:
-        raise SystemExit("what makes a wheel is not installed: pip install wheel") from None
+# setuptools has it itself from 70 on.
+if not any(map(importlib.util.find_spec, ("setuptools.command.bdist_wheel", "wheel"))):
+    raise SystemExit("what makes a wheel is not installed: pip install wheel")
 
 HERE = pathlib.Path(__file__).resolve().parent
 LIBRARY, HEADER = "libmergejoin.a", "mergejoin.h"

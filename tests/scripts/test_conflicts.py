@@ -28,7 +28,7 @@ FILES = {
     "\ttab": '{"size":3}',
     "half": json.dumps({"x": "x" * 600_000}),
     "other half": json.dumps({"y": "y" * 600_000}),
-    "exact": json.dumps("x" * (1_048_576 - 5)),
+    "exact": json.dumps("x" * (1_048_576 - 3)),
     **{f"third {number}": json.dumps({f"{number}": "x" * 400_000, "n": number // 2}) for number in range(3)},
 }
 LIMIT = "too long"

@@ -9,13 +9,13 @@ import json
 import os
 import random
 import re
-import shutil
 import signal
 import time
+import zipfile
 
 import pytest
 from calls import TOP
-from server import LIBRARY, quoted
+from server import quoted
 
 SERIAL: dict = {"workers": 0, "modes": {"Simple"}}
 PARALLEL: dict = {"workers": 4, "modes": {"Partial", "Finalize"}}
@@ -43,11 +43,10 @@ def load(server, table, rows):
 
 
 @pytest.fixture(name="package", scope="module")
-def package_for_python(library, tmp_path_factory):
-    """The package where the library is next to it, and what makes the texts of its tests."""
+def package_for_python(wheel, tmp_path_factory):
+    """The package, and what makes the texts of its tests."""
     directory = tmp_path_factory.mktemp("package")
-    shutil.copytree(TOP / "bindings/python/src/mergejoin", directory / "mergejoin")
-    shutil.copy(LIBRARY / "libmergejoin.so.1", directory / "mergejoin")
+    zipfile.ZipFile(wheel).extractall(directory)
     with pytest.MonkeyPatch.context() as patch:
         patch.syspath_prepend(TOP / "bindings/python/tests")
         patch.syspath_prepend(directory)
