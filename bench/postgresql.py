@@ -59,7 +59,7 @@ class Session:
         return lines
 
     def used(self):
-        """The processor's time of the server's process of this session."""
+        """The time that the processor gave the process of the server for this connection."""
         words = pathlib.Path(f"/proc/{self.pid}/stat").read_text("ascii").rpartition(")")[2].split()
         return (int(words[11]) + int(words[12])) / os.sysconf("SC_CLK_TCK")
 

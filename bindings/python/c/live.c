@@ -2,12 +2,14 @@
  * that threads take it one after the other. A thread gives up the interpreter's lock before it waits for that one. */
 #include "glue.h"
 
-/* An object with a handle. `guess` is how many bytes the text of its document, or of patches that of their join, may have; `more` those
- * of a replica's join, or of a log's pairs. `epoch` is the number of a log's start. */
+enum { SPARE = 65536 }; /* bytes of a buffer in addition to what the text had before */
+
+/* An object with a handle. `length` is how many bytes the text of its document, or of patches that of their join, had when it was last
+ * read; `more` how many that of a replica's join or of a log's pairs had. `epoch` is the number of a log's start. */
 typedef struct live {
   PyObject_HEAD
   PyThread_type_lock lock;
-  size_t guess, more;
+  size_t length, more;
   uint64_t epoch;
   union {
     mergejoin_replica replica;
@@ -50,14 +52,16 @@ static void drop(live *self) {
 /* A call that reads a handle into a buffer. */
 typedef mergejoin_reply reading(live *self, uint8_t *out, size_t capacity, size_t limit);
 
-/* The text of such a call, in a buffer of a size that it had before, or in a second one. */
-static PyObject *read_text(live *self, reading *read, size_t *guess, PyObject *given) {
+/* The text of such a call, in a buffer for half as much again as it had before, or in a second one. What was received since is not
+ * counted: repeats change no text. */
+static PyObject *read_text(live *self, reading *read, size_t *length, PyObject *given) {
   mergejoin_reply reply = {.status = MERGEJOIN_NO_MEMORY};
   uint8_t *out = NULL;
   size_t limit, capacity;
   if (limit_of(given, &limit)) return NULL;
   ALONE_(self, {
-    capacity = *guess + 64;
+    capacity = *length + *length / 2 + SPARE;
+    if (capacity > limit) capacity = limit + 64;
     for (;;) {
       free(out);
       out = malloc(capacity);
@@ -66,7 +70,7 @@ static PyObject *read_text(live *self, reading *read, size_t *guess, PyObject *g
       if (reply.length <= capacity) break;
       capacity = reply.length;
     }
-    if (out && reply.status == MERGEJOIN_RESULT) *guess = reply.length;
+    if (out && reply.status == MERGEJOIN_RESULT) *length = reply.length;
   });
   return answer_of((char *)out, &reply);
 }
@@ -81,7 +85,7 @@ static int replica_init(live *self, PyObject *arguments, PyObject *names) {
   if (texts_of_one(PyTuple_GetItem(arguments, 0), &start)) return -1;
   ALONE_(self, {
     text = mergejoin_replica_start_new(&self->it.replica, BYTES_(start), SIZE_MAX, &reply);
-    self->guess = start.at->length;
+    self->length = start.at->length;
     self->more = 0;
   });
   texts_drop(&start);
@@ -103,10 +107,6 @@ static PyObject *replica_receive(live *self, PyObject *const *arguments, Py_ssiz
   if (!has_arguments(count, 2) || limit_of(arguments[1], &limit) || texts_of_one(arguments[0], &patch)) return NULL;
   ALONE_(self, {
     text = mergejoin_replica_receive_new(&self->it.replica, BYTES_(patch), limit, &reply);
-    if (reply.status == MERGEJOIN_RESULT || reply.status == MERGEJOIN_PENDING) {
-      self->guess += patch.at->length;
-      self->more += patch.at->length;
-    }
   });
   texts_drop(&patch);
   return answer_of(text, &reply);
@@ -120,7 +120,7 @@ static mergejoin_reply joined_of(live *self, uint8_t *out, size_t capacity, size
   return mergejoin_replica_joined(&self->it.replica, out, capacity, limit);
 }
 
-static PyObject *replica_document(live *self, PyObject *limit) { return read_text(self, document_of, &self->guess, limit); }
+static PyObject *replica_document(live *self, PyObject *limit) { return read_text(self, document_of, &self->length, limit); }
 
 static PyObject *replica_joined(live *self, PyObject *limit) { return read_text(self, joined_of, &self->more, limit); }
 
@@ -158,7 +158,6 @@ static PyObject *patches_add(live *self, PyObject *given) {
   ALONE_(self, {
     /* A list of no places is enough: patches may conflict at very many. */
     text = mergejoin_patches_add_new(&self->it.patches, BYTES_(patch), 2, &reply);
-    self->guess += patch.at->length;
   });
   texts_drop(&patch);
   return taken(text, &reply);
@@ -171,7 +170,7 @@ static PyObject *patches_from_kept(live *self, PyObject *given) {
   if (texts_of_one(given, &kept)) return NULL;
   ALONE_(self, {
     text = mergejoin_patches_from_kept_new(&self->it.patches, BYTES_(kept), 2, &reply);
-    self->guess = kept.at->length;
+    self->length = kept.at->length;
   });
   texts_drop(&kept);
   return taken(text, &reply);
@@ -188,7 +187,6 @@ static PyObject *patches_combine(live *self, PyObject *given) {
   }
   ALONE_(self, {
     text = mergejoin_patches_combine_new(&self->it.patches, &other->it.patches, 2, &reply);
-    self->guess += other->guess;
   });
   return taken(text, &reply);
 }
@@ -201,9 +199,9 @@ static mergejoin_reply kept_of(live *self, uint8_t *out, size_t capacity, size_t
   return mergejoin_patches_kept(&self->it.patches, out, capacity, limit);
 }
 
-static PyObject *patches_text(live *self, PyObject *limit) { return read_text(self, text_of, &self->guess, limit); }
+static PyObject *patches_text(live *self, PyObject *limit) { return read_text(self, text_of, &self->length, limit); }
 
-static PyObject *patches_kept(live *self, PyObject *limit) { return read_text(self, kept_of, &self->guess, limit); }
+static PyObject *patches_kept(live *self, PyObject *limit) { return read_text(self, kept_of, &self->length, limit); }
 
 /* PatchLog */
 
@@ -224,7 +222,7 @@ static int log_init(live *self, PyObject *arguments, PyObject *names) {
   if (texts_of_one(PyTuple_GetItem(arguments, 1), &start)) return -1;
   ALONE_(self, {
     text = mergejoin_patch_log_start_new(&self->it.log, epoch, BYTES_(start), SIZE_MAX, &reply);
-    self->guess = start.at->length;
+    self->length = start.at->length;
     self->epoch = epoch;
   });
   texts_drop(&start);
@@ -247,7 +245,6 @@ static PyObject *log_receive(live *self, PyObject *const *arguments, Py_ssize_t 
   if (texts_of_one(arguments[3], &patch)) return NULL;
   ALONE_(self, {
     text = mergejoin_patch_log_receive_new(&self->it.log, epoch, sender, number, BYTES_(patch), SIZE_MAX, &reply);
-    self->guess += patch.at->length;
   });
   texts_drop(&patch);
   return answer_of(text, &reply);
@@ -261,7 +258,7 @@ static mergejoin_reply log_conflicts_of(live *self, uint8_t *out, size_t capacit
   return mergejoin_patch_log_conflicts(&self->it.log, out, capacity, limit);
 }
 
-static PyObject *log_document(live *self, PyObject *limit) { return read_text(self, log_document_of, &self->guess, limit); }
+static PyObject *log_document(live *self, PyObject *limit) { return read_text(self, log_document_of, &self->length, limit); }
 
 static PyObject *log_conflicts(live *self, PyObject *limit) { return read_text(self, log_conflicts_of, &self->more, limit); }
 

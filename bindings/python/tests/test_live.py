@@ -4,6 +4,7 @@ import copy
 import json
 import pickle
 import random
+import subprocess
 import sys
 import threading
 import unittest
@@ -167,7 +168,23 @@ class Threads(unittest.TestCase):
         self.assertEqual((one.text(), one), (mergejoin.join([ADA, UNTITLED]), other))
 
 
+REPEATED = """
+import resource, mergejoin
+text, replica, patches = '{"a":"' + "x" * 100_000 + '"}', mergejoin.Replica("{}"), mergejoin.Patches()
+for _ in range(4_000):
+    replica.receive(text)
+    patches.add(text)
+resource.setrlimit(resource.RLIMIT_AS, (300_000_000,) * 2)
+print({len(text), len(replica.document()), len(replica.joined()), len(patches.text())})
+"""
+
+
 class Memory(unittest.TestCase):
+    def test_repeats_take_no_buffer(self):
+        """Of 400 MB of the same patch the text is as long as that of one."""
+        done = subprocess.run([sys.executable, "-I", "-c", REPEATED], capture_output=True, text=True, check=False)
+        self.assertEqual((done.returncode, done.stdout, done.stderr), (0, "{100008}\n", ""))
+
     def test_what_is_dropped_is_freed(self):
         def resident():
             with open("/proc/self/statm", encoding="ascii") as file:
