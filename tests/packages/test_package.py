@@ -36,9 +36,10 @@ NEEDS = {
     "libmergejoin1": "libc6 (>= 2.14)",
     "libmergejoin-dev": f"libmergejoin1 (= {VERSION})",
 }
-# The extension, if what makes it is there.
+# The extension, if what makes it is there, and where its scripts are.
 EXTENSION = None
 if not lacking("includedir-server"):
+    PLACE, SHORT = config("sharedir").removeprefix("/usr/") + "/extension", VERSION.rsplit(".", 1)[0]
     SERVER = "postgresql-" + re.findall(r"^PostgreSQL (\d+)", config("version"))[0]
     EXTENSION = f"{SERVER}-mergejoin"
     NEEDS[EXTENSION] = f"{SERVER}, libc6 (>= 2.14)"
@@ -106,10 +107,9 @@ def files_of_debs():
              "libmergejoin1": {f"{FOLDER}/libmergejoin.so.1": placed.pop(f"{FOLDER}/libmergejoin.so.1")},
              "libmergejoin-dev": {**placed, **copies({"share/doc/libmergejoin-dev/LIBRARIES.md": "docs/LIBRARIES.md"})}}
     if EXTENSION:
-        directory = config("sharedir").removeprefix("/usr/") + "/extension"
-        parts = [path for path in (TOP / "bindings/postgresql").iterdir() if path.suffix in (".control", ".sql")]
-        pages = {f"share/doc/{EXTENSION}/POSTGRESQL.md": "docs/POSTGRESQL.md"}
-        files[EXTENSION] = copies({f"{directory}/{path.name}": path for path in parts} | pages)
+        sources, page = TOP / "bindings/postgresql", {f"share/doc/{EXTENSION}/POSTGRESQL.md": "docs/POSTGRESQL.md"}
+        parts = {"mergejoin.control": sources / "mergejoin.control", f"mergejoin--{SHORT}.sql": sources / "sql/mergejoin.sql"}
+        files[EXTENSION] = copies({f"{PLACE}/{name}": path for name, path in parts.items()} | page)
     return files
 
 
@@ -120,6 +120,7 @@ def others_of(name):
         yield f"share/lintian/overrides/{name}"
     if name == EXTENSION:
         yield config("pkglibdir").removeprefix("/usr/") + "/mergejoin.so"
+        yield f"{PLACE}/mergejoin--0.2--{SHORT}.sql"
 
 
 def has_files(below, wanted, others):

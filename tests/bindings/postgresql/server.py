@@ -14,6 +14,8 @@ from calls import TOP
 
 SOURCES = TOP / "bindings/postgresql"
 LIBRARY = TOP / "out/lib"
+# The kilobytes that each process of a server may have.
+MEMORY = 6 * 1024 * 1024
 # What is needed of a server, by the places that pg_config names.
 FILES = {"includedir-server": "postgres.h", "bindir": "postgres"}
 # No address is a blank, since pg_createcluster passes over what is empty. A plan has workers as soon as it may have some.
@@ -60,8 +62,9 @@ class Server:
 
     def install(self):
         """Builds the extension in a copy of its sources, keeps what the compiler says, and installs it below the root."""
-        shutil.copytree(SOURCES, self.build, ignore=shutil.ignore_patterns("*.o", "*.so", "results", "regression.*"))
-        self.said = self.run("make", "-s", "-C", self.build)
+        made = shutil.ignore_patterns("*.o", "*.so", "mergejoin--*.sql", "results", "regression.*")
+        shutil.copytree(SOURCES, self.build, ignore=made)
+        self.said = self.run("make", "-s", "-C", self.build, "COPT=-Werror")
         self.run("make", "-s", "-C", self.build, "install", f"DESTDIR={self.root}")
 
     def begin(self, *words):
@@ -83,14 +86,16 @@ class Server:
 
 @contextlib.contextmanager
 def running():
-    """Runs a server with nothing installed below its root. All may read its directory, since for root another user runs it."""
+    """Runs a server with nothing installed below its root. All may read its directory, since for root another user runs it. None of its
+    processes may have more than MEMORY."""
     with tempfile.TemporaryDirectory() as name:
         os.chmod(name, 0o755)
         server = Server(pathlib.Path(name).resolve())
         number = re.findall(r"^PostgreSQL (\d+)", config("version"))[0]
         words = ["pg_virtualenv", "-t", "-v", number, "-p", server.root.name, "-c", f"-s {name}/socket", "-i", "--auth=trust"]
         words += [word for option, value in OPTIONS.items() for word in ("-o", f"{option}={value}")]
-        process = subprocess.Popen([*words, "sh", "-c", "echo it runs; cat"], stdin=subprocess.PIPE, stdout=subprocess.PIPE,
+        limited = ["sh", "-c", f'ulimit -v {MEMORY}; exec "$@"', "sh", *words]
+        process = subprocess.Popen([*limited, "sh", "-c", "echo it runs; cat"], stdin=subprocess.PIPE, stdout=subprocess.PIPE,
                                    text=True, umask=0o022, cwd=name, env={**server.setting, "USER": "postgres"})
         try:
             assert "it runs\n" in process.stdout, "pg_virtualenv begins no server"

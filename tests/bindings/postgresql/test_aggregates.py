@@ -31,7 +31,7 @@ PLANS = {
     "four_workers_spilling": (FOUR_WORKERS + NO_SORT + LITTLE_MEMORY, {**PARALLEL, "is_spilled": True}),
 }
 AGGREGATES = [f"{name}(patch{cast})" for name in ("mergejoin_agg", "mergejoin_try_agg") for cast in ("", "::jsonb")]
-CONFLICT = "mergejoin_conflict_agg(patch ORDER BY number)"
+CONFLICT, REPORT = [f"mergejoin_{name}_agg(patch ORDER BY number)" for name in ("conflict", "report")]
 DOCUMENTS = range(400)
 
 
@@ -101,15 +101,25 @@ def test_each_group_is_one_join_by_one_call(server, outcomes):
     assert [it.partition(": conflict")[0].strip() for it in answers] == [join or "ERROR:  MJ001" for join, _ in outcomes]
 
 
-def test_the_first_conflict_of_each_group_is_returned(server, outcomes):
-    answers = server.ask(f"SELECT {CONFLICT} FROM log GROUP BY document ORDER BY document;\n").splitlines()
+@pytest.mark.parametrize("patch", ["patch", "patch::jsonb"])
+def test_the_first_conflict_of_each_group_is_returned(server, outcomes, patch):
+    call = CONFLICT.replace("patch", patch)
+    answers = server.ask(f"SELECT {call} FROM log GROUP BY document ORDER BY document;\n").splitlines()
     assert [json.loads(line) if line else None for line in answers] == [conflict for _, conflict in outcomes]
+
+
+@pytest.mark.parametrize("patch", ["patch", "patch::jsonb"])
+def test_a_report_is_the_join_of_each_group_or_its_first_conflict(server, outcomes, patch):
+    call = REPORT.replace("patch", patch)
+    answers = server.ask(f"SELECT {call} FROM log GROUP BY document ORDER BY document;\n").splitlines()
+    wanted = [{"join": json.loads(join)} if join else {"conflict": conflict} for join, conflict in outcomes]
+    assert list(map(json.loads, answers)) == wanted
 
 
 @pytest.mark.parametrize("condition", ["false", "patch IS NULL"])
 @pytest.mark.parametrize("plan", PLANS)
 def test_of_nothing_each_aggregate_is_null(server, outcomes, plan, condition):
-    calls = [f"SELECT {call} IS NULL FROM log WHERE {condition};\n" for call in (*AGGREGATES, CONFLICT)]
+    calls = [f"SELECT {call} IS NULL FROM log WHERE {condition};\n" for call in (*AGGREGATES, CONFLICT, REPORT)]
     assert server.ask("".join([PLANS[plan][0], *calls])) == "t\n" * len(calls)
 
 
@@ -142,9 +152,31 @@ def test_a_text_that_is_no_patch_is_reported(server, wrong, plan, aggregate):
     assert (len(seen), set(seen)) == (len(wrong), {"ERROR:  22032", *(["ERROR:  22P02"] if "jsonb" in aggregate else [])})
 
 
+def test_a_report_has_the_first_text_that_is_no_patch(server, wrong):
+    """By its number among the rows that are not NULL, and by the words of an error."""
+    array = "mergejoin_join(VARIADIC array_agg(patch ORDER BY number) FILTER (WHERE patch IS NOT NULL))"
+    queries = [f"SELECT {call} FROM wrong WHERE document = {document}" for document in wrong for call in (REPORT, array)]
+    answers = server.ask_each(queries)
+    for report, error in zip(answers[::2], answers[1::2]):
+        number, why = re.fullmatch(r"ERROR:  22032: patch (\d): (.*)\n", error).groups()
+        assert json.loads(report) == {"bad": {"number": int(number), "why": why}}
+
+
+def test_of_a_thousand_rows_one_that_is_no_patch_is_named_and_stops_no_other_group(server):
+    rows = [(number % 100, json.dumps({f"k{number}": 9.5 if number == 747 else number})) for number in range(1000)]
+    load(server, "priced", rows)
+    reports = server.ask("SELECT document, mergejoin_report_agg(patch ORDER BY number) FROM priced GROUP BY document;\n").splitlines()
+    reports = {int(document): json.loads(report) for document, report in (line.split("|", 1) for line in reports)}
+    assert reports.pop(47) == {"bad": {"number": 7, "why": 'number not whole at "/k747"'}}
+    assert reports == {document: {"join": {f"k{number}": number for number in range(document, 1000, 100)}}
+                       for document in range(100) if document != 47}
+    assert server.ask("SELECT number - 1, patch FROM priced WHERE NOT mergejoin_is_patch(patch);\n") == '747|{"k747": 9.5}\n'
+
+
 def test_the_beginning_of_a_text_that_is_no_patch_is_shown(server):
     text = json.dumps({"é" * 300: 1.5}, ensure_ascii=False)
-    said = f'ERROR:  22032: patch of the group: number not whole at "/{"é" * 300}"\nDETAIL:  The patch is {text[:101]}..\n'
+    said = f'ERROR:  22032: patch of the group: number not whole at "/{"é" * 300}"\nDETAIL:  The patch is {text[:101]}..\n' \
+        "HINT:  mergejoin_is_patch(patch) is false of such a row.\n"
     assert server.ask(f"SELECT mergejoin_agg(patch) FROM (VALUES ({quoted(text)}::json)) AS log (patch);\n") == said
 
 

@@ -9,6 +9,7 @@ import pytest
 from calls import TOP
 from server import SOURCES
 
+SCRIPT = SOURCES / "sql/mergejoin.sql"
 PAGE = (TOP / "docs/POSTGRESQL.md").read_text("utf-8")
 BLOCKS = re.findall(r"^```sql\n(.*?)^```$(?:\n+^```text\n(.*?)^```$)?", PAGE, re.M | re.S)
 
@@ -25,16 +26,15 @@ def test_in_the_repository_make_finds_the_library(needs, run):
 
 def test_its_version_is_that_of_the_changes():
     version = re.search(r"^## (\d+\.\d+)\.\d+ \(", (TOP / "CHANGELOG.md").read_text("utf-8"), re.M)[1]
-    script = SOURCES / f"mergejoin--{version}.sql"
     assert f"\ndefault_version = '{version}'\n" in (SOURCES / "mergejoin.control").read_text("utf-8")
-    assert script.exists() and script.name in (SOURCES / "Makefile").read_text("utf-8")
+    assert f"\nEXTVERSION = {version}\n" in (SOURCES / "Makefile").read_text("utf-8")
 
 
 def test_it_exports_what_postgresql_looks_for_alone(server):
     """The functions that the script makes, and what says of each how it is called. Each name begins with the extension's."""
-    functions = set(re.findall(r"'MODULE_PATHNAME', '(\w+)'", next(SOURCES.glob("mergejoin--*.sql")).read_text("utf-8")))
+    functions = set(re.findall(r"'MODULE_PATHNAME', '(\w+)'", SCRIPT.read_text("utf-8")))
     exported = {line.split()[-1] for line in server.run("nm", "-D", "--defined-only", server.build / "mergejoin.so").splitlines()}
-    assert exported == {"Pg_magic_func", *functions, *(f"pg_finfo_{name}" for name in functions)}
+    assert exported == {"Pg_magic_func", "_PG_init", *functions, *(f"pg_finfo_{name}" for name in functions)}
     assert all(name.startswith("mergejoin_") for name in functions)
 
 

@@ -1,5 +1,5 @@
-"""Each function of the extension for PostgreSQL gives what the library does, over json byte for byte, and over jsonb the same
-value: the rows of tests/common/rows.py, with the code and the words of each error, and what no row has.
+"""Each function of the extension for PostgreSQL gives what the library does, over json and texts byte for byte, and over jsonb the
+same value: the rows of tests/common/rows.py, with the code and the words of each error, and what no row has.
 """
 
 import itertools
@@ -18,7 +18,7 @@ code_of = operator.itemgetter(slice(len("ERROR:  22P02")))
 
 
 def call_of(export, texts, kind):
-    """Gives the call of a function over values of json or jsonb."""
+    """Gives the call of a function over values of json, text or jsonb."""
     first = [] if export == "join" else [f"{quoted(texts[0])}::{kind}"]
     others = ", ".join(map(quoted, texts[len(first):]))
     rest = others if export in ("get", "rewrite", "patch") else f"VARIADIC ARRAY[{others}]::{kind}[]"
@@ -37,6 +37,8 @@ def wanted_of(status, first, second, text):
 
 def refusal_of(kind, texts):
     """Gives what the type itself reports of a text, before there is a call, or nothing if it takes all."""
+    if kind == "text":
+        return None
     try:
         list(map(json.loads, texts))
     except ValueError:
@@ -47,7 +49,7 @@ def refusal_of(kind, texts):
 def cases():
     """Gives, of each row that a session of UTF-8 can send, the call, what is wanted, and by what these are compared. What is no
     document is not sent as jsonb, which changes numbers."""
-    for (export, *reply, data), kind in itertools.product([*vector_rows(), *ROWS], ("json", "jsonb")):
+    for (export, *reply, data), kind in itertools.product([*vector_rows(), *ROWS], ("json", "text", "jsonb")):
         texts = [text.decode("utf-8", "replace") for text in data]
         if [text.encode() for text in texts] != data or kind == "jsonb" and reply[0] in WRONG_TEXTS:
             continue
@@ -72,11 +74,35 @@ OTHERS = {
     "mergejoin_join('-0'::json)": 'ERROR:  22032: patch 0: number not whole at ""',
     "mergejoin_join('{\"n\":18446744073709551615}'::jsonb)": '{"n": 18446744073709551615}',
     "mergejoin_get('{\"a\":\"\\u0000é\"}'::json, '/a')": '"\\u0000é"',
+    "mergejoin_conflicts('{\"a\":1,\"b\":2}'::json, '{\"a\":2,\"b\":3}')": '["/a","/b"]',
+    "mergejoin_conflicts('{\"a\":1,\"b\":2}'::jsonb, '{\"a\":2,\"b\":3}')": '["/a", "/b"]',
+    "mergejoin_conflicts('{\"a\":1}', '{\"b\":1}')": "[]",
+    "mergejoin_conflicts('1'::json, '1.5')": 'ERROR:  22032: patch 1: number not whole at ""',
+    # Literals that have no type.
+    "mergejoin_join('{\"b\":1}', '{\"a\":1}')": '{"a":1,"b":1}',
+    "mergejoin_get('[5]', '/0')": "5",
+    "mergejoin_patch('[5]', '[]')": "[5]",
+    "mergejoin_is_patch('{')": "f",
+    "mergejoin_is_patch(NULL)": "",
+    "mergejoin_is_patch('{\"a\":1.5}'::json)": "f",
+    "mergejoin_is_patch('{\"a\":1.5}'::jsonb)": "f",
+    "mergejoin_is_patch('{\"a\":1}'::jsonb)": "t",
     f"mergejoin_join('{DEEPEST}'::json, '{DEEPEST}')": DEEPEST,
     GROUP.format(""): CONFLICT,
     GROUP.format("::jsonb"): CONFLICT,
 }
-CASES = [*cases(), *((call, wanted, str) for call, wanted in OTHERS.items())]
+
+
+def texts_decided():
+    """Gives texts of the rows, each with whether it is a patch: those of a join, as far as its answer decides it."""
+    for export, status, first, _, _, data in [*vector_rows(), *ROWS]:
+        texts = [text.decode("utf-8", "replace") for text in data]
+        if export == "join" and [text.encode() for text in texts] == data:
+            decided = texts[:first + 1] if status == 6 else texts
+            yield from ((text, status != 6 or number < first) for number, text in enumerate(decided))
+
+
+CASES = [*cases(), *((f"mergejoin_is_patch({quoted(text)})", "t" if it else "f", str) for text, it in dict(texts_decided()).items()), *((call, wanted, str) for call, wanted in OTHERS.items())]
 CALLS = [f"SELECT {call}" for call, _, _ in CASES]
 
 

@@ -4,22 +4,22 @@
 -- Over json. A text costs some microseconds to read, which COST tells the planner.
 
 CREATE FUNCTION mergejoin_join(VARIADIC patches json[]) RETURNS json
-  LANGUAGE C IMMUTABLE STRICT PARALLEL SAFE COST 100 AS 'MODULE_PATHNAME', 'mergejoin_sql_join';
+  LANGUAGE C IMMUTABLE STRICT PARALLEL SAFE COST 100 AS 'MODULE_PATHNAME', 'sql_join';
 
 CREATE FUNCTION mergejoin_replay(start json, VARIADIC patches json[]) RETURNS json
-  LANGUAGE C IMMUTABLE STRICT PARALLEL SAFE COST 100 AS 'MODULE_PATHNAME', 'mergejoin_sql_replay';
+  LANGUAGE C IMMUTABLE STRICT PARALLEL SAFE COST 100 AS 'MODULE_PATHNAME', 'sql_replay';
 
 CREATE FUNCTION mergejoin_merge(document json, VARIADIC patches json[]) RETURNS json
-  LANGUAGE C IMMUTABLE STRICT PARALLEL SAFE COST 100 AS 'MODULE_PATHNAME', 'mergejoin_sql_merge';
+  LANGUAGE C IMMUTABLE STRICT PARALLEL SAFE COST 100 AS 'MODULE_PATHNAME', 'sql_merge';
 
 CREATE FUNCTION mergejoin_rewrite(document json, patch json) RETURNS json
-  LANGUAGE C IMMUTABLE STRICT PARALLEL SAFE COST 100 AS 'MODULE_PATHNAME', 'mergejoin_sql_rewrite';
+  LANGUAGE C IMMUTABLE STRICT PARALLEL SAFE COST 100 AS 'MODULE_PATHNAME', 'sql_rewrite';
 
 CREATE FUNCTION mergejoin_patch(document json, operations json) RETURNS json
-  LANGUAGE C IMMUTABLE STRICT PARALLEL SAFE COST 100 AS 'MODULE_PATHNAME', 'mergejoin_sql_patch';
+  LANGUAGE C IMMUTABLE STRICT PARALLEL SAFE COST 100 AS 'MODULE_PATHNAME', 'sql_patch';
 
 CREATE FUNCTION mergejoin_get(document json, pointer text) RETURNS json
-  LANGUAGE C IMMUTABLE STRICT PARALLEL SAFE COST 100 AS 'MODULE_PATHNAME', 'mergejoin_sql_get';
+  LANGUAGE C IMMUTABLE STRICT PARALLEL SAFE COST 100 AS 'MODULE_PATHNAME', 'sql_get';
 
 -- Over jsonb: of the text that a jsonb is written as.
 
@@ -47,37 +47,37 @@ CREATE FUNCTION mergejoin_get(document jsonb, pointer text) RETURNS jsonb
   LANGUAGE SQL IMMUTABLE STRICT PARALLEL SAFE COST 100
   RETURN mergejoin_get(document::json, pointer)::jsonb;
 
--- What the aggregates are made of. A function with a state of type internal takes NULL if there is no state yet.
+-- What the aggregates are made of. A function with a state of type internal takes NULL where there is no state yet.
 
 CREATE FUNCTION mergejoin_agg_take(internal, json) RETURNS internal
-  LANGUAGE C IMMUTABLE PARALLEL SAFE COST 100 AS 'MODULE_PATHNAME', 'mergejoin_take_json';
+  LANGUAGE C IMMUTABLE PARALLEL SAFE COST 100 AS 'MODULE_PATHNAME', 'take_json';
 
 CREATE FUNCTION mergejoin_agg_take(internal, jsonb) RETURNS internal
-  LANGUAGE C IMMUTABLE PARALLEL SAFE COST 100 AS 'MODULE_PATHNAME', 'mergejoin_take_jsonb';
+  LANGUAGE C IMMUTABLE PARALLEL SAFE COST 100 AS 'MODULE_PATHNAME', 'take_jsonb';
 
 CREATE FUNCTION mergejoin_agg_combine(internal, internal) RETURNS internal
-  LANGUAGE C IMMUTABLE PARALLEL SAFE COST 100 AS 'MODULE_PATHNAME', 'mergejoin_combine';
+  LANGUAGE C IMMUTABLE PARALLEL SAFE COST 100 AS 'MODULE_PATHNAME', 'combine';
 
 CREATE FUNCTION mergejoin_agg_serialize(internal) RETURNS bytea
-  LANGUAGE C IMMUTABLE STRICT PARALLEL SAFE COST 100 AS 'MODULE_PATHNAME', 'mergejoin_serialize';
+  LANGUAGE C IMMUTABLE STRICT PARALLEL SAFE COST 100 AS 'MODULE_PATHNAME', 'serialize';
 
 CREATE FUNCTION mergejoin_agg_deserialize(bytea, internal) RETURNS internal
-  LANGUAGE C IMMUTABLE STRICT PARALLEL SAFE AS 'MODULE_PATHNAME', 'mergejoin_deserialize';
+  LANGUAGE C IMMUTABLE STRICT PARALLEL SAFE AS 'MODULE_PATHNAME', 'deserialize';
 
 CREATE FUNCTION mergejoin_agg_final_json(internal) RETURNS json
-  LANGUAGE C IMMUTABLE STRICT PARALLEL SAFE COST 100 AS 'MODULE_PATHNAME', 'mergejoin_joined_json';
+  LANGUAGE C IMMUTABLE STRICT PARALLEL SAFE COST 100 AS 'MODULE_PATHNAME', 'joined_json';
 
 CREATE FUNCTION mergejoin_agg_final_jsonb(internal) RETURNS jsonb
-  LANGUAGE C IMMUTABLE STRICT PARALLEL SAFE COST 100 AS 'MODULE_PATHNAME', 'mergejoin_joined_jsonb';
+  LANGUAGE C IMMUTABLE STRICT PARALLEL SAFE COST 100 AS 'MODULE_PATHNAME', 'joined_jsonb';
 
 CREATE FUNCTION mergejoin_try_agg_final_json(internal) RETURNS json
-  LANGUAGE C IMMUTABLE STRICT PARALLEL SAFE COST 100 AS 'MODULE_PATHNAME', 'mergejoin_joined_or_null_json';
+  LANGUAGE C IMMUTABLE STRICT PARALLEL SAFE COST 100 AS 'MODULE_PATHNAME', 'joined_or_null_json';
 
 CREATE FUNCTION mergejoin_try_agg_final_jsonb(internal) RETURNS jsonb
-  LANGUAGE C IMMUTABLE STRICT PARALLEL SAFE COST 100 AS 'MODULE_PATHNAME', 'mergejoin_joined_or_null_jsonb';
+  LANGUAGE C IMMUTABLE STRICT PARALLEL SAFE COST 100 AS 'MODULE_PATHNAME', 'joined_or_null_jsonb';
 
-CREATE FUNCTION mergejoin_conflict_agg_final(json[]) RETURNS json
-  LANGUAGE C IMMUTABLE STRICT PARALLEL SAFE COST 100 AS 'MODULE_PATHNAME', 'mergejoin_first_conflict';
+CREATE FUNCTION mergejoin_clash_agg_final(json[]) RETURNS json
+  LANGUAGE C IMMUTABLE STRICT PARALLEL SAFE COST 100 AS 'MODULE_PATHNAME', 'first_clash';
 
 -- The join of a group. A state has its join so far and at least 1 kB of texts.
 
@@ -91,7 +91,7 @@ CREATE AGGREGATE mergejoin_agg(jsonb) (
   COMBINEFUNC = mergejoin_agg_combine, SERIALFUNC = mergejoin_agg_serialize,
   DESERIALFUNC = mergejoin_agg_deserialize, PARALLEL = SAFE);
 
--- The same, but NULL if two conflict.
+-- The same, but NULL where two clash.
 
 CREATE AGGREGATE mergejoin_try_agg(json) (
   STYPE = internal, SSPACE = 2048, SFUNC = mergejoin_agg_take, FINALFUNC = mergejoin_try_agg_final_json,
@@ -103,7 +103,7 @@ CREATE AGGREGATE mergejoin_try_agg(jsonb) (
   COMBINEFUNC = mergejoin_agg_combine, SERIALFUNC = mergejoin_agg_serialize,
   DESERIALFUNC = mergejoin_agg_deserialize, PARALLEL = SAFE);
 
--- The first two patches of a group that conflict, in the order of the call, and where. It keeps all of them.
+-- The first two patches of a group that clash, in the order of the call, and where. It keeps all of them.
 
-CREATE AGGREGATE mergejoin_conflict_agg(json) (
-  STYPE = json[], SSPACE = 8192, SFUNC = array_append, FINALFUNC = mergejoin_conflict_agg_final, PARALLEL = SAFE);
+CREATE AGGREGATE mergejoin_clash_agg(json) (
+  STYPE = json[], SSPACE = 8192, SFUNC = array_append, FINALFUNC = mergejoin_clash_agg_final, PARALLEL = SAFE);

@@ -6,12 +6,20 @@
 
 #include "postgres.h"
 
+#include "memory.h"
 #include "mergejoin.h"
 #include "utils/errcodes.h"
+#include "utils/memutils.h"
+#if PG_VERSION_NUM >= 160000
+#include "varatt.h"
+#endif
 
 #define ERRCODE_MERGEJOIN_CONFLICT MAKE_SQLSTATE('M', 'J', '0', '0', '1')
 #define ERRCODE_MERGEJOIN_REFUSED MAKE_SQLSTATE('M', 'J', '0', '0', '2')
 #define ERRCODE_MERGEJOIN_FORM MAKE_SQLSTATE('M', 'J', '0', '0', '3')
+
+/* The most bytes that a value can have after its header. */
+#define LONGEST (MaxAllocSize - VARHDRSZ)
 
 typedef enum Export { EXPORT_JOIN, EXPORT_REPLAY, EXPORT_MERGE, EXPORT_REWRITE, EXPORT_PATCH, EXPORT_GET } Export;
 
@@ -21,6 +29,7 @@ typedef struct Request {
   mergejoin_text document;     /* of all but a join: the document or the start */
   const mergejoin_text *texts; /* the patches, or the one patch or pointer; never NULL */
   size_t count;
+  size_t places; /* how many bytes the places of a conflict may take, if it is more than an error needs */
 } Request;
 
 /* What the library returns. */
@@ -30,9 +39,8 @@ typedef struct Answer {
 } Answer;
 
 extern mergejoin_text borrowed(const text *value);
+extern void prepare_call(Memory *memory);
 extern Answer answer_of(const Request *request);
 extern text *result_of(const Request *request);
-extern char *why_unread(const Answer *answer);
-extern void refuse(const Answer *answer) pg_attribute_noreturn();
 
 #endif

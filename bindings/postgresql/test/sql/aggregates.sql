@@ -11,7 +11,10 @@ SELECT document, mergejoin_agg(patch), mergejoin_agg(patch::jsonb) FROM log WHER
 SELECT document, mergejoin_try_agg(patch), mergejoin_try_agg(patch::jsonb),
   mergejoin_conflict_agg(patch ORDER BY number) FROM log GROUP BY document ORDER BY document;
 SELECT mergejoin_conflict_agg(patch ORDER BY number DESC) FROM log;
-SELECT mergejoin_agg(patch), mergejoin_try_agg(patch), mergejoin_conflict_agg(patch) FROM log WHERE false;
+SELECT document, mergejoin_report_agg(patch ORDER BY number), mergejoin_report_agg(patch::jsonb ORDER BY number),
+  mergejoin_conflict_agg(patch::jsonb ORDER BY number) FROM log GROUP BY document ORDER BY document;
+SELECT mergejoin_report_agg(patch ORDER BY number) FROM (SELECT number, patch FROM log UNION ALL VALUES (9, '1.5'::json)) AS longer;
+SELECT mergejoin_agg(patch), mergejoin_try_agg(patch), mergejoin_conflict_agg(patch), mergejoin_report_agg(patch) FROM log WHERE false;
 SELECT mergejoin_agg(patch) FROM log;
 SELECT mergejoin_agg(patch::jsonb) FROM log;
 

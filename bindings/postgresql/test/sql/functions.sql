@@ -1,4 +1,4 @@
--- Each function over json and jsonb, and each error.
+-- Each function over json, jsonb and texts, and each error.
 \pset null (null)
 \set SHOW_CONTEXT never
 
@@ -18,6 +18,16 @@ SELECT mergejoin_get('{"tags": ["a", "b"]}'::jsonb, '/tags/1');
 SELECT mergejoin_get('{"tags": ["a", "b"]}'::json, '/tags/2');
 SELECT mergejoin_get('{"tags": ["a", "b"]}'::jsonb, '/tags/2');
 SELECT mergejoin_get('{"tags": null}'::json, '/tags');
+SELECT mergejoin_conflicts('{"n": 1, "m": 2}'::json, '{"n": 2, "m": null}');
+SELECT mergejoin_conflicts('{"n": 1, "m": 2}'::jsonb, '{"n": 2, "m": null}');
+SELECT mergejoin_conflicts('{"n": 1}'::json, '{"m": 1}');
+SELECT mergejoin_is_patch('{"n": 1.5}'::json), mergejoin_is_patch('{"n": 1.5}'::jsonb), mergejoin_is_patch('{"n": 15}'::jsonb);
+
+-- Literals without a type, and texts that are not JSON.
+SELECT mergejoin_join('{"author": "Ada"}', '{"title": null}');
+SELECT mergejoin_get('{"tags": ["a", "b"]}', '/tags/1');
+SELECT mergejoin_is_patch('{"n":'), mergejoin_is_patch('{"n": 1}'), mergejoin_is_patch(NULL);
+SELECT mergejoin_join('{"n":');
 
 -- NULL is answered with NULL, but for an element of an array.
 SELECT mergejoin_join(VARIADIC NULL::json[]);

@@ -1,0 +1,142 @@
+/*
+ * mergejoin_agg and mergejoin_try_agg. The state of each is what the library has of the patches of a group, their join, in the memory
+ * context of the aggregate. That two patches conflict is a state too, which still reads all further texts, so that one which is not a
+ * patch is an error in every order and plan.
+ */
+#include "errors.h"
+#include "values.h"
+
+/* The kept form of two patches that conflict, at one place, since none is shown. */
+#define CONFLICT "![\"\"]"
+/* The first buffers: of words, and of a join. */
+#define WORDS 256
+#define JOIN 4096
+
+typedef struct Group {
+  Memory memory;
+  mergejoin_patches patches;
+  const text *kept; /* of a state that was read from bytes, which is only combined: these; else NULL */
+} Group;
+
+typedef mergejoin_reply (*OfPatches)(mergejoin_patches *patches, uint8_t *out, size_t capacity, size_t limit);
+
+PG_FUNCTION_INFO_V1(mergejoin_take);
+PG_FUNCTION_INFO_V1(mergejoin_combine);
+PG_FUNCTION_INFO_V1(mergejoin_serialize);
+PG_FUNCTION_INFO_V1(mergejoin_deserialize);
+PG_FUNCTION_INFO_V1(mergejoin_joined);
+PG_FUNCTION_INFO_V1(mergejoin_joined_or_null);
+
+/* Returns what a state gives by a call, as a value in the current memory context, or NULL if that is no result. */
+static text *text_of(Group *group, OfPatches call) {
+  mergejoin_reply reply = {.length = JOIN};
+  size_t size;
+  text *value;
+
+  do {
+    size = reply.length;
+    value = palloc(VARHDRSZ + size);
+    prepare_call(&group->memory);
+    reply = call(&group->patches, (uint8_t *)VARDATA(value), size, LONGEST);
+    if (reply.status == MERGEJOIN_NO_MEMORY) refuse_for_memory(&group->memory);
+    if (reply.status == MERGEJOIN_TOO_LARGE) refuse_length(LONGEST);
+  } while (reply.length > size);
+  SET_VARSIZE(value, VARHDRSZ + reply.length);
+  return reply.status == MERGEJOIN_RESULT ? value : NULL;
+}
+
+/* Returns whether a text that was refused for memory conflicts with the join: at more places than there is memory for. */
+static bool is_conflict(Group *group, mergejoin_text given) {
+  text *joined = text_of(group, mergejoin_patches_text);
+  mergejoin_text texts[] = {given, joined ? borrowed(joined) : given};
+  Request request = {.export = EXPORT_JOIN, .texts = texts, .count = lengthof(texts)};
+
+  return answer_of(&request).reply.status == MERGEJOIN_CONFLICT;
+}
+
+/* Makes the state that two patches conflict, and frees what there was. */
+static void keep_conflict(Group *group) {
+  const mergejoin_text kept = mergejoin_text_of(CONFLICT, strlen(CONFLICT));
+  uint8_t words[WORDS];
+
+  prepare_call(&group->memory);
+  if (mergejoin_patches_from_kept(&group->patches, kept.bytes, kept.length, words, WORDS, WORDS).status != MERGEJOIN_CONFLICT)
+    refuse_for_memory(&group->memory);
+}
+
+/* Takes a text. Of the places of a conflict one is left. */
+static void take(Group *group, mergejoin_text text) {
+  uint8_t words[WORDS];
+  mergejoin_reply reply;
+
+  prepare_call(&group->memory);
+  reply = mergejoin_patches_add(&group->patches, text.bytes, text.length, words, WORDS, WORDS);
+  if (reply.status == MERGEJOIN_PATCH) refuse_patch(text);
+  if (reply.status == MERGEJOIN_PENDING) refuse_for_memory(&group->memory);
+  if (reply.status == MERGEJOIN_NO_MEMORY && !(group->memory.is_over && is_conflict(group, text)))
+    refuse_for_memory(&group->memory);
+  if (reply.status == MERGEJOIN_NO_MEMORY || reply.total > 1) keep_conflict(group);
+}
+
+/* Returns the state that an argument is, or NULL. If it is made, it is without a text, and of the aggregate's memory context. */
+static Group *group_of(FunctionCallInfo fcinfo, int number, bool is_made) {
+  MemoryContext context;
+  Group *group = PG_ARGISNULL(number) ? NULL : (Group *)PG_GETARG_POINTER(number);
+
+  if (!AggCheckCallContext(fcinfo, &context))
+    ereport(ERROR, errcode(ERRCODE_FEATURE_NOT_SUPPORTED), errmsg("this function is for an aggregate to call"));
+  if (!group && is_made) {
+    group = MemoryContextAllocZero(context, sizeof(Group));
+    group->memory.context = context;
+  }
+  return group;
+}
+
+/* Takes the patch of a row, unless that is NULL. */
+Datum mergejoin_take(PG_FUNCTION_ARGS) {
+  Group *group = group_of(fcinfo, 0, !PG_ARGISNULL(1));
+
+  if (!PG_ARGISNULL(1)) take(group, text_of_argument(fcinfo, 1));
+  if (!group) PG_RETURN_NULL();
+  PG_RETURN_POINTER(group);
+}
+
+/* Takes all that another state was given: its join is a patch with the effect of all of them. */
+Datum mergejoin_combine(PG_FUNCTION_ARGS) {
+  Group *other = group_of(fcinfo, 1, false), *group = group_of(fcinfo, 0, other != NULL);
+
+  if (other) {
+    mergejoin_text kept = borrowed(other->kept ? other->kept : text_of(other, mergejoin_patches_kept));
+
+    if (*kept.bytes == *CONFLICT)
+      keep_conflict(group);
+    else
+      take(group, kept);
+  }
+  if (!group) PG_RETURN_NULL();
+  PG_RETURN_POINTER(group);
+}
+
+/* Returns a state as bytes: its kept form. */
+Datum mergejoin_serialize(PG_FUNCTION_ARGS) { PG_RETURN_BYTEA_P(text_of(group_of(fcinfo, 0, false), mergejoin_patches_kept)); }
+
+/* Returns the state of bytes, which is not read before it is combined. */
+Datum mergejoin_deserialize(PG_FUNCTION_ARGS) {
+  Group *group = palloc0(sizeof(Group));
+
+  group->kept = PG_GETARG_BYTEA_PP(0);
+  PG_RETURN_POINTER(group);
+}
+
+/* Returns the join of a group, or raises that two of its patches conflict. There is a state if there was a text. */
+Datum mergejoin_joined(PG_FUNCTION_ARGS) {
+  text *joined = text_of(group_of(fcinfo, 0, false), mergejoin_patches_text);
+
+  if (!joined) refuse_group();
+  return returned(fcinfo, joined);
+}
+
+/* The same, or NULL if two conflict. */
+Datum mergejoin_joined_or_null(PG_FUNCTION_ARGS) {
+  return returned(fcinfo, text_of(group_of(fcinfo, 0, false), mergejoin_patches_text));
+}

@@ -1,0 +1,150 @@
+"""What a value can cost a server whose processes may have 6 GB: a short JSON Patch that asks for all memory, and two patches that
+conflict at very many places, are refused within mergejoin.call_memory, end soon if they are cancelled or the server is stopped, and
+leave the session with little.
+"""
+
+import json
+import pathlib
+import re
+import subprocess
+import time
+
+import pytest
+from server import config, running
+
+# Each copy doubles the document.
+DOUBLING = json.dumps([{"op": "copy", "from": "", "path": f"/{number}"} for number in range(40)])
+COPIES = f"SELECT length(mergejoin_patch('{{}}'::json, '{DOUBLING}')::text)"
+# Two objects of so many names, which conflict at each of them; and the same, below a name of 100 kB, so that the places have 1.2 GB.
+OBJECT = "SELECT json_object_agg(number, {}) FROM generate_series(1, {}) AS number"
+WIDE = f"CREATE TABLE wide (patch) AS {' UNION ALL '.join(f'({OBJECT.format(value, 20000)})' for value in (1, 2))}"
+DEEP = "CREATE TABLE deep AS SELECT json_build_object(repeat('n', 100000), patch) AS patch FROM " \
+    f"({' UNION ALL '.join(OBJECT.format(value, 12000) for value in (1, 2))}) AS inner_objects (patch)"
+GROUPS = {
+    "a join": "SELECT mergejoin_join(VARIADIC array_agg(patch)) FROM deep",
+    "an aggregate": "SELECT mergejoin_agg(patch) FROM deep",
+    "an aggregate over jsonb": "SELECT mergejoin_agg(patch::jsonb) FROM deep",
+}
+LIMIT = "SET mergejoin.call_memory = '{}';\n"
+TIMEOUT = "SET statement_timeout = '500ms';\n"
+
+
+@pytest.fixture(name="attacked", scope="module")
+def server_with_the_tables(server):
+    assert server.ask(f"{DEEP};\n{WIDE};\n") == ""
+    return server
+
+
+def resident_after(server, statements):
+    """Gives what a session prints for statements, the seconds that they took, and the megabytes that it has then."""
+    session = server.begin("-v", "VERBOSITY=sqlstate")
+    session.stdin.write("SELECT mergejoin_join('1'::json);\nSELECT pg_backend_pid();\n")
+    session.stdin.flush()
+    pid = [session.stdout.readline() for _ in range(2)][1].strip()
+    begun = time.monotonic()
+    session.stdin.write(f"{statements};\n\\echo end\n")
+    session.stdin.flush()
+    lines = []
+    while (line := session.stdout.readline()) not in ("end\n", ""):
+        lines.append(line)
+    seconds = time.monotonic() - begun
+    status = pathlib.Path(f"/proc/{pid}/status").read_text("ascii")
+    session.communicate()
+    return "".join(lines), seconds, int(re.search(r"VmRSS:\s+(\d+) kB", status)[1]) / 1024
+
+
+@pytest.mark.parametrize("attack", [COPIES, *GROUPS.values()], ids=["copies", *GROUPS])
+def test_an_attack_ends_soon_after_a_timeout_and_leaves_little(attacked, attack):
+    said, seconds, megabytes = resident_after(attacked, TIMEOUT + attack)
+    assert said.startswith(("ERROR:  57014", "ERROR:  54000", "ERROR:  MJ001"))
+    assert seconds < 2 and megabytes < 64
+
+
+def test_copies_are_refused_without_a_timeout_too(attacked):
+    assert resident_after(attacked, LIMIT.format("64MB") + COPIES)[0] == "ERROR:  54000\n"
+
+
+@pytest.mark.parametrize("attack", GROUPS)
+def test_a_conflict_at_many_places_is_reported_in_little_memory(attacked, attack):
+    """If there is no memory for all of the places, those that are reported are the first."""
+    for limit in ("1GB", "200MB"):
+        assert resident_after(attacked, LIMIT.format(limit) + GROUPS[attack])[0].startswith("ERROR:  MJ001\n")
+
+
+def test_a_conflict_at_many_places_stops_no_other_group(attacked):
+    query = "SELECT number, mergejoin_try_agg(patch) FROM (SELECT 1 AS number, patch FROM deep UNION ALL VALUES (2, '1'::json)) AS all_rows " \
+        "GROUP BY number ORDER BY number"
+    for limit in ("1GB", "200MB"):
+        assert attacked.ask(f"{LIMIT.format(limit)}{query};\n") == "1|\n2|1\n"
+
+
+@pytest.mark.parametrize(("table", "shown", "count"), [("wide", 100, 20000), ("deep", 0, 12000)])
+def test_a_conflict_shows_the_first_places(attacked, table, shown, count):
+    """No more than a hundred, and no more than 8 kB of them."""
+    said = attacked.ask(f"SELECT mergejoin_join(VARIADIC array_agg(patch)) FROM {table};\n")
+    assert len(json.loads(re.search("^DETAIL:  (.*)$", said, re.M)[1])) == shown and len(said) < 9000
+    assert f"HINT:  These are the first {shown} of {count} places; mergejoin_conflicts returns all.\n" in said
+
+
+def test_all_places_are_returned(attacked):
+    query = "SELECT json_array_length(mergejoin_conflicts(min(patch::text)::json, max(patch::text)::json)) FROM {};\n"
+    assert attacked.ask(query.format("wide")) == "20000\n"
+    for_less = LIMIT.format("4MB") + query.format("wide")
+    for given in (for_less, query.format("deep")):
+        assert attacked.ask(given, "-v", "VERBOSITY=sqlstate").startswith(("ERROR:  53200\n", "ERROR:  54000\n"))
+
+
+def test_a_report_has_the_first_places_and_tells_how_many_there_are(attacked):
+    report = json.loads(attacked.ask("SELECT mergejoin_report_agg(patch) FROM deep;\n"))["conflict"]
+    assert (report["first"], report["second"], report["total"]) == (0, 1, 12000) and 0 < len(report["places"]) < 12
+
+
+@pytest.mark.parametrize("text", ["json_build_array(repeat('x', 2000000))", "('[' || repeat('{\"a\":0},', 5000) || '0]')::json"])
+def test_a_call_over_its_memory_says_so(server, text):
+    """One request for memory, or many small ones."""
+    large = f"SELECT length(mergejoin_join({text})::text) > 1;\n"
+    said = "ERROR:  53200: out of memory\nDETAIL:  A call of mergejoin may take no more than mergejoin.call_memory, which is 1024 kB.\n"
+    load = "SELECT mergejoin_join('1'::json);\n"
+    assert server.ask(load + LIMIT.format("1MB") + large) == f"1\n{said}"
+    assert server.ask(load + LIMIT.format("100MB") + large) == "1\nt\n"
+
+
+def test_only_who_may_changes_the_memory_of_a_call(server):
+    given = "CREATE ROLE guest;\nSET ROLE guest;\nSELECT mergejoin_join('1'::json);\nSET mergejoin.call_memory = '2GB';\n" \
+        "SHOW mergejoin.call_memory;\nRESET ROLE;\nDROP ROLE guest;\n"
+    assert server.ask(given) == "1\nERROR:  42501: permission denied to set parameter \"mergejoin.call_memory\"\n1GB\n"
+
+
+# A call that takes long, and little memory: it copies the same value to one place again and again.
+LONG = """SELECT length(mergejoin_patch(json_build_object('a', (SELECT json_agg(n) FROM generate_series(1, 100000) AS n)),
+  (SELECT json_agg(json_build_object('op', 'copy', 'from', '/a', 'path', '/b')) FROM generate_series(1, 50000)))::text)"""
+
+
+def test_a_long_call_ends_soon_after_a_timeout(server):
+    said, seconds, _ = resident_after(server, TIMEOUT + LONG)
+    assert said == "ERROR:  57014\n" and seconds < 2
+
+
+def test_a_server_is_stopped_in_a_long_call(needs, library):
+    with running() as server:
+        server.install()
+        assert server.ask("CREATE EXTENSION mergejoin;\n") == ""
+        session = server.begin()
+        session.stdin.write(f"{LONG};\n")
+        session.stdin.flush()
+        end = time.monotonic() + 60
+        while server.ask("SELECT count(*) FROM pg_stat_activity WHERE query LIKE '%json_agg%' AND state = 'active';\n") != "2\n":
+            assert time.monotonic() < end
+        time.sleep(0.5)
+        begun = time.monotonic()
+        directory = server.ask("SHOW data_directory;\n").strip()
+        done = subprocess.run([*as_owner(directory), f"{config('bindir')}/pg_ctl", "-D", directory, "-m", "fast", "-t", "20", "stop"],
+                              capture_output=True, check=False)
+        assert done.returncode == 0 and time.monotonic() - begun < 3
+        assert "terminating connection" in session.communicate()[0]
+
+
+def as_owner(directory):
+    """Gives what runs a command as the owner of a directory."""
+    owner = pathlib.Path(directory).owner()
+    return ["runuser", "-u", owner, "--"] if pathlib.Path("/").owner() == "root" and owner != "root" else []
