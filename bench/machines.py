@@ -162,4 +162,4 @@ if __name__ == "__main__":
     named = sys.argv[3:] or LOGS
     if not set(named) <= set(LOGS):
         sys.exit(f"a log is one of {', '.join(LOGS)}")
-    main(*numbers, named)
+    main(numbers[0], numbers[1], named)
