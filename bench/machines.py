@@ -2,10 +2,10 @@
 """Prints the table of docs/MANY-MACHINES.md: what join_by_key of mergejoin.dask takes on clusters of 1, 2 and 4 processes, next
 to a plain loop that joins the texts of each document in one process:
 
-    PYTHONPATH=FOLDER /usr/bin/python3 bench/machines.py [PATCHES [FILES]]
+    PYTHONPATH=FOLDER /usr/bin/python3 bench/machines.py [PATCHES [FILES [LOG..]]]
 
-FOLDER has the package mergejoin (`pip install --target FOLDER` of its wheel). Four logs of so many patches, of 30 to 40 bytes each,
-are in so many files; 2,000,000 and 16 without it:
+FOLDER has the package mergejoin (`pip install --target FOLDER` of its wheel). The logs that are named, or all four, have so many
+patches, of 30 to 40 bytes each, in so many files; 2,000,000 and 16 without it:
 
     spread  1,000 documents, each with patches in all files
     keys    a document for each 2 patches, in any files
@@ -32,6 +32,7 @@ from dask.distributed import Client, LocalCluster, wait
 import mergejoin
 from mergejoin.dask import join_by_key
 
+LOGS = ("spread", "keys", "hot", "same")
 DOCUMENTS, RUNS, WORKERS = 1_000, 3, (1, 2, 4)
 PATCHES, FILES = 2_000_000, 16
 EMPTY = 100  # partitions and shares without texts
@@ -138,11 +139,11 @@ def of_nothing():
         return most, (time.perf_counter() - clock) / len(dict(bag.dask))
 
 
-def main(count, file_count):
+def main(count, file_count, kinds):
     print("| log | workers | us of the processor for a patch | over the loop | seconds | over the ideal | MB of a worker |")
     print("|---|---:|---:|---:|---:|---:|---:|")
     with tempfile.TemporaryDirectory() as name:
-        for kind in ("spread", "keys", "hot", "same"):
+        for kind in kinds:
             paths = written(pathlib.Path(name) / kind, kind, count, file_count)
             (loop, clock, longest), joins = of_loop(paths)
             print(f"| {kind} | the loop | {loop / count * 1e6:.1f} | | {clock:.1f} | | |", flush=True)
@@ -157,5 +158,8 @@ def main(count, file_count):
 
 
 if __name__ == "__main__":
-    given = [int(word) for word in sys.argv[1:3]]
-    main(*given, *(PATCHES, FILES)[len(given):])
+    numbers = [int(word) for word in sys.argv[1:3]] + [PATCHES, FILES][len(sys.argv[1:3]):]
+    named = sys.argv[3:] or LOGS
+    if not set(named) <= set(LOGS):
+        sys.exit(f"a log is one of {', '.join(LOGS)}")
+    main(numbers[0], numbers[1], named)

@@ -11,7 +11,7 @@ import dask.bag
 
 import mergejoin
 from mergejoin.dask import conflicts_by_key, join_by_key
-from logs import ALIKE, log_of, log_of_kinds, pairs_of, wanted_of
+from logs import ALIKE, Name, log_of, log_of_kinds, pairs_of, wanted_of
 
 MOST_SPLITS = 50_000
 
@@ -64,6 +64,37 @@ class Joins(Results):
     def test_each_nan_is_a_key_of_its_own(self):
         bag = dask.bag.from_sequence([(kind("nan"), "{}") for kind in (float, Decimal, float)], npartitions=3)
         self.assertEqual([text for _, text in join_by_key(bag, 7).compute(scheduler="synchronous")], ["{}"] * 3)
+
+    def test_keys_that_are_all_str_of_any_characters(self):
+        keys = ["", "\0", "\1", "a\0b", "a\1b", "\1\1", "\ud800", "caf\u00e9", "\U0001f600", "doc", "a", "b"]
+        chance = random.Random(12)
+        for names in (keys, [key for key in keys if "\1" not in key], [""], ["\1"]):
+            log = [(names[int(key[len("doc"):]) % len(names)], text) for key, text in log_of(chance, 200)]
+            bag = dask.bag.from_sequence(log, npartitions=4)
+            for shares in (1, 3, 30):
+                self.same(join_by_key(bag, shares), wanted_of(log), names, shares, scheduler="synchronous")
+                self.same(conflicts_by_key(bag, shares), pairs_of(log), names, shares, scheduler="synchronous")
+
+    def test_a_key_keeps_its_type(self):
+        for keys in ([Name("doc")], [Name(), Name("a"), Name("b")], [True], [1.0], [b"a", b"b"]):
+            log = [(key, f'{{"{number}":1}}') for key in keys for number in range(2)]
+            for count in (1, 2):
+                seen = join_by_key(dask.bag.from_sequence(log, npartitions=count), 2).compute(scheduler="synchronous")
+                self.assertEqual({(type(key), key) for key, _ in seen}, {(type(key), key) for key in keys})
+
+    def test_a_partition_may_be_a_generator(self):
+        log = log_of(random.Random(13), 200)
+        bag = dask.bag.from_sequence(log, npartitions=3).map_partitions(lambda items: ([key, text] for key, text in items))
+        self.same(join_by_key(bag), wanted_of(log), scheduler="synchronous")
+
+    def test_many_keys_of_few_texts(self):
+        log = [(f"doc{number % 700}", f'{{"n{number // 350}":{number % 700}}}') for number in range(1500)]
+        random.Random(14).shuffle(log)
+        log += [("doc5", '{"n0":6}'), ("doc5", "[5]")]
+        for count in (1, 2, 9):
+            bag = dask.bag.from_sequence(log, npartitions=count)
+            self.same(join_by_key(bag, 4), wanted_of(log), count, scheduler="synchronous")
+            self.same(conflicts_by_key(bag, 4), pairs_of(log), count, scheduler="synchronous")
 
     def test_shares_are_about_as_large_as_one_another(self):
         for keys in ([f"doc{number}" for number in range(2000)], range(2000), range(0, 32_000, 16), [it / 16 for it in range(2000)]):
@@ -139,6 +170,23 @@ class Errors(unittest.TestCase):
                 error = self.raised(made, dask.bag.from_sequence(order, npartitions=count), scheduler="synchronous")
                 self.assertEqual((error.key, error.number, error.why), ("a", 0, "not JSON"))
 
+    def test_a_text_that_is_several_documents_is_reported(self):
+        """Texts move in one piece, with separators, which may be in a text that is no document."""
+        for mark, encoding, made in itertools.product("\0\1\2\n", (None, "utf-8"), (join_by_key, conflicts_by_key)):
+            for text in (f'{{"x":1}}{mark}{{"y":2}}', f"{mark}1", f"1{mark}{mark}", "" + mark):
+                log = [("b", "1"), ("a", text if encoding is None else text.encode(encoding)), ("c", "3"), ("c", "3")]
+                if text.strip() == "1":
+                    continue
+                for shares, more in itertools.product((1, 2), ([], [("a", '{"x":1}')], [("a", "4"), ("a", "5")])):
+                    bag = dask.bag.from_sequence(log + more, npartitions=1)
+                    error = self.raised(lambda bag: made(bag, shares), bag, scheduler="synchronous")
+                    self.assertEqual((error.key, error.number, error.why), ("a", 0, "not JSON"))
+
+    def test_an_empty_text_is_reported(self):
+        for key, more, made in itertools.product(("", "a", 1), ([], [("b", "1")]), (join_by_key, conflicts_by_key)):
+            error = self.raised(made, dask.bag.from_sequence([(key, ""), *more], npartitions=1), scheduler="synchronous")
+            self.assertEqual((error.key, error.number, error.why), (key, 0, "not JSON"))
+
     def test_what_is_no_text_raises_a_type_error(self):
         for made, text in itertools.product((join_by_key, conflicts_by_key), (1, None, ["{}"])):
             bag = dask.bag.from_sequence([("a", "{}"), ("a", text)], npartitions=1)
@@ -167,6 +215,13 @@ class Early(Results):
         self.joined([first + small + large], first=[count["first"]], small=[count["small"]], large=[count["large"]])
         both = [first + small + large, [("large", '{"large":1}'), ("small", '{"small":1}')]]
         self.joined(both, first=[count["first"]], small=[count["small"] + 1], large=[2, count["large"]])
+
+    def test_a_key_is_as_large_as_its_bytes(self):
+        first = texts_of_bytes("first", 33_000)
+        wide = {name: [(name, f'{{"{name}{number}":"{1000 * sign}"}}') for number in range(33)] for name, sign in
+                (("wide", "\u00e9"), ("narrow", "e"))}
+        self.joined([first + wide["wide"] + wide["narrow"], [("wide", "{}"), ("narrow", '{"narrow":1}')]],
+                    first=[len(first)], wide=[2, 33], narrow=[34])
 
     def test_all_are_joined_before_they_move_if_joins_shrink(self):
         first = texts_of_bytes("first", 650) * 60

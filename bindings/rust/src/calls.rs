@@ -7,6 +7,15 @@ use crate::Error;
 /// this.
 pub(crate) const LEAST: usize = 64;
 
+/// The guess for a text of what stays in memory is half as many bytes again as it had when it was last read, and these. What was
+/// received since is not counted: repeats change no text.
+const SPARE: usize = 65_536;
+
+/// Gives the guess for a text that had so many bytes when it was last read.
+pub(crate) fn guess_after(length: usize) -> usize {
+    length.saturating_add(length / 2).saturating_add(SPARE)
+}
+
 /// Calls with a buffer of so many bytes and a few more, and once more if the text is longer. It gives the text of a
 /// result, or why there is none.
 ///

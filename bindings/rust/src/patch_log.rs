@@ -1,6 +1,6 @@
 //! A patch log that stays in memory.
 
-use crate::calls::{reply_of, text_of};
+use crate::calls::{guess_after, reply_of, text_of};
 use crate::raw::{self, Handle, OfHandle, Reply, CONFLICT, MISSING, NO_MEMORY, REFUSED, RESULT};
 use crate::{places, Error};
 use std::fmt;
@@ -49,8 +49,10 @@ pub struct Identity {
 /// ```
 pub struct PatchLog {
     held: Handle,
-    /// The bytes that the document's text may have.
+    /// The bytes that the document's text had when it was last read, or the start's.
     shown: usize,
+    /// Those that the text of the conflicts had.
+    listed: usize,
     limit: usize,
 }
 
@@ -125,6 +127,7 @@ impl PatchLog {
         Ok(PatchLog {
             held,
             shown: length,
+            listed: 0,
             limit: usize::MAX,
         })
     }
@@ -166,10 +169,7 @@ impl PatchLog {
             })
         }?;
         match word.as_str() {
-            "stored" => {
-                self.shown = self.shown.saturating_add(length);
-                Ok(Arrival::Stored)
-            }
+            "stored" => Ok(Arrival::Stored),
             "repeat" => Ok(Arrival::Repeat),
             "late" => Ok(Arrival::Late),
             "early" => Ok(Arrival::Early),
@@ -187,7 +187,9 @@ impl PatchLog {
     ///
     /// [`Error::NoMemory`], or [`Error::TooLarge`].
     pub fn document(&mut self) -> Result<String, Error> {
-        self.read(raw::mergejoin_patch_log_document, self.shown)
+        let text = self.read(raw::mergejoin_patch_log_document, self.shown)?;
+        self.shown = text.len();
+        Ok(text)
     }
 
     /// Gives the text of a JSON array of each two patches that conflict, in the order of their identities, the lower one first:
@@ -197,7 +199,9 @@ impl PatchLog {
     ///
     /// [`Error::NoMemory`], or [`Error::TooLarge`].
     pub fn conflicts(&mut self) -> Result<String, Error> {
-        self.read(raw::mergejoin_patch_log_conflicts, 0)
+        let text = self.read(raw::mergejoin_patch_log_conflicts, self.listed)?;
+        self.listed = text.len();
+        Ok(text)
     }
 
     /// Ends the start by the patches with these identities: what they make of it is the new start, whose number is the next.
@@ -231,14 +235,13 @@ impl PatchLog {
         Err(DecideError::of(&reply, text, chosen))
     }
 
-    /// Makes one of the header's calls that read a log.
-    fn read(&mut self, call: OfHandle, guess: usize) -> Result<String, Error> {
+    /// Makes one of the header's calls that read a log, for a text that had so many bytes before.
+    fn read(&mut self, call: OfHandle, length: usize) -> Result<String, Error> {
         let (held, limit) = (&mut self.held, self.limit);
+        let guess = guess_after(length).min(limit);
         // SAFETY: `held` is a log, and no other call has it; the call writes its text alone, and changes nothing.
         unsafe {
-            text_of(guess.min(limit), |out, capacity| {
-                call(held, out, capacity, limit)
-            })
+            text_of(guess, |out, capacity| call(held, out, capacity, limit))
         }
     }
 }

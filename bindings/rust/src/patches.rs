@@ -1,6 +1,6 @@
 //! Patches that are gathered without a start.
 
-use crate::calls::{reply_of, status_of, text_of, LEAST};
+use crate::calls::{guess_after, reply_of, status_of, text_of, LEAST};
 use crate::raw::{self, Handle, OfHandle, OfText, CONFLICT, PATCH, PENDING, RESULT};
 use crate::Error;
 use std::fmt;
@@ -40,7 +40,7 @@ use std::fmt;
 /// ```
 pub struct Patches {
     held: Handle,
-    /// The bytes that the join's text may have.
+    /// The bytes that the text had when it was last read, or a kept form that was taken.
     length: usize,
     limit: usize,
 }
@@ -97,10 +97,7 @@ impl Patches {
                 raw::mergejoin_patches_combine(held, others, out, capacity, limit)
             })
         };
-        let added = added_of(&reply, words)?;
-        self.length = self.length.saturating_add(other.length);
-        other.length = 0;
-        Ok(added)
+        added_of(&reply, words)
     }
 
     /// Gives the text of the join of all patches that were taken, as [`join`](crate::join) does.
@@ -141,8 +138,9 @@ impl Patches {
     /// [`Error::Document`] if the text, or what follows its `!`, is not a document; [`Error::NotKept`] if what follows is not an
     /// array of one JSON Pointer and more; or [`Error::NoMemory`].
     pub fn from_kept(kept: impl AsRef<[u8]>) -> Result<Self, Error> {
-        let mut patches = Patches::new();
-        patches.take(raw::mergejoin_patches_from_kept, kept.as_ref())?;
+        let (mut patches, kept) = (Patches::new(), kept.as_ref());
+        patches.take(raw::mergejoin_patches_from_kept, kept)?;
+        patches.length = kept.len();
         Ok(patches)
     }
 
@@ -161,20 +159,15 @@ impl Patches {
             // SAFETY: as above; after this status the call may be made again, since nothing is changed.
             (reply, words) = unsafe { reply_of(reply.length, make) }?;
         }
-        let added = added_of(&reply, words)?;
-        self.length = self.length.saturating_add(text.len());
-        Ok(added)
+        added_of(&reply, words)
     }
 
     /// Makes one of the header's calls that read patches.
     fn read(&mut self, call: OfHandle) -> Result<String, Error> {
         let (held, limit) = (&mut self.held, self.limit);
+        let guess = guess_after(self.length).min(limit);
         // SAFETY: no other call has `held`; the call writes its text alone, and changes at most that nothing is pending any more.
-        let text = unsafe {
-            text_of(self.length.min(limit), |out, capacity| {
-                call(held, out, capacity, limit)
-            })
-        }?;
+        let text = unsafe { text_of(guess, |out, capacity| call(held, out, capacity, limit)) }?;
         self.length = text.len();
         Ok(text)
     }

@@ -1,6 +1,6 @@
 //! A replica that stays in memory.
 
-use crate::calls::text_of;
+use crate::calls::{guess_after, text_of};
 use crate::raw::{self, Handle, OfHandle, OfText};
 use crate::Error;
 use std::fmt;
@@ -48,9 +48,9 @@ const PART: usize = 4096;
 /// ```
 pub struct Replica {
     held: Handle,
-    /// The bytes that the document's text may have.
+    /// The bytes that the document's text had when it was last read, or the start's.
     shown: usize,
-    /// Those that the join's text may have.
+    /// Those that the join's text had.
     joined: usize,
     limit: usize,
 }
@@ -98,14 +98,11 @@ impl Replica {
     /// - [`Error::NoMemory`].
     pub fn receive(&mut self, patch: impl AsRef<[u8]>) -> Result<Received, Error> {
         let patch = patch.as_ref();
-        let received = match self.call(raw::mergejoin_replica_receive, patch, patch.len()) {
-            Ok(_) => Received::Taken,
-            Err(Error::Pending) => Received::Pending,
-            Err(why) => return Err(why),
-        };
-        self.shown = self.shown.saturating_add(patch.len());
-        self.joined = self.joined.saturating_add(patch.len());
-        Ok(received)
+        match self.call(raw::mergejoin_replica_receive, patch, patch.len()) {
+            Ok(_) => Ok(Received::Taken),
+            Err(Error::Pending) => Ok(Received::Pending),
+            Err(why) => Err(why),
+        }
     }
 
     /// Gives the text of the document that is shown.
@@ -139,7 +136,7 @@ impl Replica {
     /// [`Error::TooLarge`].
     pub fn get(&mut self, pointer: impl AsRef<str>) -> Result<String, Error> {
         let pointer = pointer.as_ref().as_bytes();
-        self.call(raw::mergejoin_replica_get, pointer, PART.min(self.shown))
+        self.call(raw::mergejoin_replica_get, pointer, PART)
     }
 
     /// Makes one of the header's calls of a replica with a text.
@@ -155,15 +152,14 @@ impl Replica {
         }
     }
 
-    /// Makes one of the header's calls that read a replica.
-    fn read(&mut self, call: OfHandle, guess: usize) -> Result<String, Error> {
+    /// Makes one of the header's calls that read a replica, for a text that had so many bytes before.
+    fn read(&mut self, call: OfHandle, length: usize) -> Result<String, Error> {
         let (held, limit) = (&mut self.held, self.limit);
+        let guess = guess_after(length).min(limit);
         // SAFETY: `held` is a replica, and no other call has it; the call writes its text alone, and changes at most that nothing
         // is pending any more.
         unsafe {
-            text_of(guess.min(limit), |out, capacity| {
-                call(held, out, capacity, limit)
-            })
+            text_of(guess, |out, capacity| call(held, out, capacity, limit))
         }
     }
 }

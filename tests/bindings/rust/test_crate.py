@@ -13,7 +13,7 @@ OUT = TOP / "out"
 
 
 def test_with_the_archive(cargo):
-    assert cargo("test").count("test result: ok.") == 5
+    assert cargo("test").count("test result: ok.") == 6
 
 
 @pytest.fixture(name="shared")

@@ -3,15 +3,18 @@
 The page MANY-MACHINES.md of the sources has logs in files, clusters of processes and of hosts, and what is done if patches
 conflict.
 
-Both functions send the texts of a key to one share. Each partition is grouped by key. For each share one pickle of a dict goes
-from there, with the texts of each key of the share in a list. The pickles of a share come together in one task, which gives one
-partition of the result.
+Both functions send the texts of a key to one share. Each partition is grouped by key. For each share one pickle goes from there, with
+the keys of the share and their texts. The pickles of a share come together in one task, which gives one partition of the result.
+
+There may be very many keys, with one short text each. What costs most then is one object more for each of them. So the texts of a key
+are in one piece, with a separator after each text but the last, and the pieces of a share are in one text.
 
 A key and those that equal it have to go to one share on every machine. So the share of a str, or of a subclass, depends on its
 characters, and that of a number on its value: 1, 1.0, True, Decimal(1) and Fraction(1) are one key. Keys of other kinds, as
 tuples, go to one share all together. If there are many of those, make a str of each.
 """
 
+import contextlib
 import math
 import numbers
 import pickle
@@ -28,13 +31,20 @@ from dask.highlevelgraph import HighLevelGraph
 
 from . import Conflict, InputError, conflicts, join
 
-# A text that was not read is bytes, and a join is a str.
 _Given = Union[str, bytes]
-_Texts = Dict[Any, List[_Given]]
+# The texts of a key that were not read, in one piece; or a str, their join, if they were joined before they moved.
+_Piece = Union[str, bytes, bytearray]
+_Pieces = Dict[Any, _Piece]
+# What a partition has for one share: the keys and their pieces, and the keys that were joined.
+_Part = Tuple[List[Any], List[str], Dict[Any, str]]
 _Pair = Tuple[str, str, List[str]]
+_Text = TypeVar("_Text", str, bytes)
 _Made = TypeVar("_Made")
 _Key = Tuple[str, int, int]
 _Graph = Dict[Tuple[Any, ...], Tuple[Any, ...]]  # of Dask: tasks by their keys
+
+# The separators of the texts of a key, and of keys and of their pieces. No document has these characters.
+_OF_TEXTS, _OF_KEYS = "\0", "\1"
 
 # How many shares there are at most, and tasks that give a share its part of a partition, if the caller does not say it.
 _SHARES, _TASKS = 32, 50_000
@@ -91,7 +101,7 @@ def conflicts_by_key(bag: Bag, split_out: Optional[int] = None) -> Bag:
     return _by_key(bag, "conflicts", _conflicting, split_out, None, joins=False)
 
 
-def _by_key(bag: Bag, word: str, made: Callable[[_Texts], List[Any]], split_out: Optional[int], split_every: Optional[int],
+def _by_key(bag: Bag, word: str, made: Callable[[_Pieces], List[Any]], split_out: Optional[int], split_every: Optional[int],
             joins: bool) -> Bag:
     """Gives the bag of what is made of the texts of each share. If joins, those of a partition may be joined before they move."""
     shares = max(1, min(bag.npartitions, _SHARES)) if split_out is None else split_out
@@ -142,52 +152,145 @@ def _share_of(key: Any, shares: int) -> int:
     return 0
 
 
+def _shares_of(keys: Iterable[Any], shares: int) -> List[int]:
+    """Gives the share of each key. It costs little if all are str."""
+    with contextlib.suppress(TypeError, UnicodeEncodeError):
+        return [number % shares for number in map(zlib.crc32, map(str.encode, keys))]
+    return [_share_of(key, shares) for key in keys]
+
+
 def _grouped(partition: Iterable[Tuple[Any, _Given]], shares: int, width: int, joins: bool) -> List[List[bytes]]:
     """Groups a partition by key, and gives one pickle for each share, or no bytes for a share without a key, in sets of width."""
-    texts: _Texts = defaultdict(list)
+    first, more = _read(partition)
+    joined = _join_early(first, more) if joins else {}
+    for key, texts in more.items():
+        first[key] = _OF_TEXTS.join([first[key], *texts])
+    pickles, count = _pickles(first, joined, shares)
+    if count != len(first) + sum(map(len, more.values())):
+        _refuse_separators(first, more)
+    return [pickles[begin:begin + width] for begin in range(0, shares, width)]
+
+
+def _read(partition: Iterable[Tuple[Any, _Given]]) -> Tuple[Dict[Any, str], Dict[Any, List[str]]]:
+    """Gives the first text of each key, and the others of each key that has more."""
+    first: Dict[Any, str] = {}
+    more: Dict[Any, List[str]] = defaultdict(list)
     for key, text in partition:
-        texts[key].append(text if isinstance(text, bytes) else str.encode(text, "utf-8", "surrogatepass"))
-    if joins:
-        _join_early(texts)
-    of_shares: List[_Texts] = [{} for _ in range(shares)]
-    for key, given in texts.items():
-        of_shares[_share_of(key, shares)][key] = given
-    pickles = [cloudpickle.dumps(it) if it else b"" for it in of_shares]
-    return [pickles[first:first + width] for first in range(0, shares, width)]
+        if type(text) is not str:
+            text = _str_of(text)
+        if key in first:
+            more[key].append(text)
+        else:
+            first[key] = text
+    return first, more
 
 
-def _join_early(texts: _Texts) -> None:
-    """Puts the join of a key's texts in their place if they are large, or if the joins before are much shorter than their texts."""
+def _str_of(text: _Given) -> str:
+    """Gives a text as a str. Bytes that are not UTF-8 become halves of surrogate pairs, which are not UTF-8 either when they move."""
+    return text if isinstance(text, str) else bytes.decode(text, "utf-8", "surrogateescape")
+
+
+def _join_early(first: Dict[Any, str], more: Dict[Any, List[str]]) -> Dict[Any, str]:
+    """Joins keys with large texts, and all if the joins before are much shorter than their texts. Gives the joins, and takes these keys
+    away. Of a key with a conflict two texts are left.
+    """
+    joined: Dict[Any, str] = {}
     read = made = 0
-    for key, given in texts.items():
-        length = sum(map(len, given)) if len(given) > 1 else 0
-        if length and (length >= _LARGE or read < _SAMPLE or 2 * made <= read):
-            texts[key] = kept = _with_key(_join_or_pair, key, given)
+    for key, texts in list(more.items()):
+        given = [first[key], *texts]
+        length = _length_of(given)
+        if length >= _LARGE or read < _SAMPLE or 2 * made <= read:
+            kept, *others = _with_key(_join_or_pair, key, given)
             read += length
-            made += sum(len(it.encode("utf-8") if isinstance(it, str) else it) for it in kept)
+            made += _length_of([kept, *others])
+            if others:
+                first[key], more[key] = kept, others
+            else:
+                joined[key] = kept
+                del first[key], more[key]
+    return joined
 
 
-def _gathered(sets: Iterable[Iterable[bytes]]) -> _Texts:
+def _length_of(texts: List[str]) -> int:
+    """Gives how many bytes texts have."""
+    return len("".join(texts).encode("utf-8", "surrogatepass"))
+
+
+def _pickles(pieces: Dict[Any, str], joined: Dict[Any, str], shares: int) -> Tuple[List[bytes], int]:
+    """Gives the pickle of each share, and how many texts their separators part."""
+    parts: List[_Part] = [([], [], {}) for _ in range(shares)]
+    for share, key, piece in zip(_shares_of(pieces, shares), pieces, pieces.values()):
+        keys, texts, _ = parts[share]
+        keys.append(key)
+        texts.append(piece)
+    for share, key in zip(_shares_of(joined, shares), joined):
+        parts[share][2][key] = joined[key]
+    pickles, count, are_str = [], 0, set(map(type, pieces)) <= {str}
+    for keys, texts, of_share in parts:
+        text = _OF_KEYS.join(texts)
+        count += _separators(text) + 1 if texts else 0
+        part = _packed(keys) if are_str else keys, text.encode("utf-8", "surrogatepass"), of_share
+        pickles.append(cloudpickle.dumps(part) if keys or of_share else b"")
+    return pickles, count
+
+
+def _packed(keys: List[str]) -> Union[str, List[str]]:
+    """Gives keys in one str, if there are some, and none has the separator in it."""
+    packed = _OF_KEYS.join(keys)
+    return packed if keys and packed.count(_OF_KEYS) == len(keys) - 1 else keys
+
+
+def _separators(text: str) -> int:
+    return sum(text.count(it) for it in (_OF_TEXTS, _OF_KEYS) if it in text)
+
+
+def _refuse_separators(pieces: Dict[Any, str], more: Dict[Any, List[str]]) -> None:
+    """Raises the InputError of a text that has a separator in it."""
+    for key, piece in pieces.items():
+        if _separators(piece) != len(more.get(key, ())):
+            _with_key(join, key, [piece])
+
+
+def _gathered(sets: Iterable[Iterable[bytes]]) -> _Pieces:
     """Gives the texts of one share by key."""
-    texts: _Texts = {}
+    pieces: _Pieces = {}
     for pickled in chain.from_iterable(sets):
         if pickled:
-            for key, given in pickle.loads(pickled).items():
-                if texts.setdefault(key, given) is not given:
-                    texts[key] += given
-    return texts
+            packed, texts, joined = pickle.loads(pickled)
+            keys = packed.split(_OF_KEYS) if isinstance(packed, str) else packed
+            for key, piece in chain(zip(keys, texts.split(_OF_KEYS.encode())), joined.items()):
+                had = pieces.setdefault(key, piece)
+                if had is not piece:  # a text that is the same object as another is a repeat
+                    pieces[key] = _together(had, piece)
+    return pieces
 
 
-def _joins(texts: _Texts) -> List[Tuple[Any, Optional[str]]]:
-    return [(key, _with_key(_join_or_none, key, given)) for key, given in texts.items()]
+def _together(had: _Piece, more: _Piece) -> bytearray:
+    """Puts another piece at the end of one, of which it makes a bytearray, unlike a list no object that the garbage collector visits."""
+    piece = had if isinstance(had, bytearray) else bytearray(_bytes_of(had))
+    piece += _OF_TEXTS.encode()
+    piece += _bytes_of(more)
+    return piece
 
 
-def _conflicting(texts: _Texts) -> List[Tuple[Any, List[_Pair]]]:
-    found = ((key, _with_key(_pairs, key, given)) for key, given in texts.items())
+def _bytes_of(piece: _Piece) -> Union[bytes, bytearray]:
+    return piece.encode("utf-8") if isinstance(piece, str) else piece
+
+
+def _texts_of(piece: _Piece) -> List[bytes]:
+    return bytes(_bytes_of(piece)).split(_OF_TEXTS.encode())
+
+
+def _joins(pieces: _Pieces) -> List[Tuple[Any, Optional[str]]]:
+    return [(key, piece if isinstance(piece, str) else _with_key(_join_or_none, key, _texts_of(piece))) for key, piece in pieces.items()]
+
+
+def _conflicting(pieces: _Pieces) -> List[Tuple[Any, List[_Pair]]]:
+    found = ((key, _with_key(_pairs, key, _texts_of(piece))) for key, piece in pieces.items())
     return [(key, pairs) for key, pairs in found if pairs]
 
 
-def _with_key(call: Callable[[List[_Given]], _Made], key: Any, texts: List[_Given]) -> _Made:
+def _with_key(call: Callable[[List[_Text]], _Made], key: Any, texts: List[_Text]) -> _Made:
     """Calls with the texts of a key. An InputError has the key, and the number 0: that in one of many orders says nothing."""
     try:
         return call(texts)
@@ -196,16 +299,14 @@ def _with_key(call: Callable[[List[_Given]], _Made], key: Any, texts: List[_Give
         raise
 
 
-def _join_or_none(texts: List[_Given]) -> Optional[str]:
-    if len(texts) == 1 and isinstance(texts[0], str):
-        return texts[0]
+def _join_or_none(texts: List[bytes]) -> Optional[str]:
     try:
         return join(texts)
     except Conflict:
         return None
 
 
-def _join_or_pair(texts: List[_Given]) -> List[_Given]:
+def _join_or_pair(texts: List[str]) -> List[str]:
     """Gives the join, or two texts that conflict: with any others they have no join either, and all texts here are documents."""
     try:
         return [join(texts)]
@@ -213,6 +314,6 @@ def _join_or_pair(texts: List[_Given]) -> List[_Given]:
         return [texts[conflict.first], texts[conflict.second]]
 
 
-def _pairs(texts: List[_Given]) -> List[_Pair]:
-    given = sorted({it for it in texts if isinstance(it, bytes)})
+def _pairs(texts: List[bytes]) -> List[_Pair]:
+    given = sorted(set(texts))
     return [(given[first].decode("utf-8"), given[second].decode("utf-8"), places) for first, second, places in conflicts(given)]
