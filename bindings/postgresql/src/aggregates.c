@@ -8,13 +8,14 @@
 
 /* The kept form of two patches that conflict, at one place, since none is shown. */
 #define CONFLICT "![\"\"]"
-/* The first buffers: of words, and of a join. */
+/* The first buffers: of words, and of a join at most. */
 #define WORDS 256
-#define JOIN 4096
+#define JOIN 65536
 
 typedef struct Group {
   Memory memory;
   mergejoin_patches patches;
+  size_t length;    /* of the texts that were taken */
   const text *kept; /* of a state that was read from bytes, which is only combined: these; else NULL */
 } Group;
 
@@ -29,7 +30,7 @@ PG_FUNCTION_INFO_V1(mergejoin_joined_or_null);
 
 /* Returns what a state gives by a call, as a value in the current memory context, or NULL if that is no result. */
 static text *text_of(Group *group, OfPatches call) {
-  mergejoin_reply reply = {.length = JOIN};
+  mergejoin_reply reply = {.length = Min(group->length + WORDS, JOIN)};
   size_t size;
   text *value;
 
@@ -76,6 +77,7 @@ static void take(Group *group, mergejoin_text text) {
   if (reply.status == MERGEJOIN_NO_MEMORY && !(group->memory.is_over && is_conflict(group, text)))
     refuse_for_memory(&group->memory);
   if (reply.status == MERGEJOIN_NO_MEMORY || reply.total > 1) keep_conflict(group);
+  group->length += text.length;
 }
 
 /* Returns the state that an argument is, or NULL. If it is made, it is without a text, and of the aggregate's memory context. */

@@ -23,8 +23,8 @@
 
 /* What is before each block. */
 typedef struct Header {
-  char *chunk;   /* of the memory context, in which the header and the block are */
-  Size capacity; /* of the block */
+  char *chunk; /* of the memory context, in which the header and the block are */
+  Size space;  /* of the chunk */
 } Header;
 
 extern void *mergejoin_malloc(size_t size);
@@ -72,9 +72,14 @@ static void *block_in(char *chunk) {
   if (!chunk) return NULL;
   block = (char *)TYPEALIGN(ALIGNMENT, chunk + sizeof(Header));
   header_of(block)->chunk = chunk;
-  header_of(block)->capacity = GetMemoryChunkSpace(chunk) - CHUNK_HEADER - (block - chunk);
-  in_use->used += GetMemoryChunkSpace(chunk);
+  header_of(block)->space = GetMemoryChunkSpace(chunk);
+  in_use->used += header_of(block)->space;
   return block;
+}
+
+/* Returns how many bytes a block may have where it is. */
+static Size capacity_of(void *block) {
+  return header_of(block)->space - CHUNK_HEADER - ((char *)block - header_of(block)->chunk);
 }
 
 void *mergejoin_malloc(size_t size) {
@@ -95,7 +100,7 @@ void *mergejoin_realloc(void *block, size_t size) {
   void *moved;
 
   if (!block) return mergejoin_malloc(size);
-  capacity = header_of(block)->capacity;
+  capacity = capacity_of(block);
   if (size <= capacity && (size > capacity / 2 || capacity < SMALL)) return block;
   moved = mergejoin_malloc(size);
   if (!moved) return size <= capacity ? block : NULL;
@@ -106,6 +111,6 @@ void *mergejoin_realloc(void *block, size_t size) {
 
 void mergejoin_free(void *block) {
   if (!block) return;
-  in_use->used -= GetMemoryChunkSpace(header_of(block)->chunk);
+  in_use->used -= header_of(block)->space;
   pfree(header_of(block)->chunk);
 }
