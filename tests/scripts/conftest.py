@@ -1,6 +1,9 @@
 """Copies of the scripts, with a toolchain that proves nothing."""
 
+import shutil
+
 import pytest
+from calls import TOP
 from copies import PROVED, Copy, built
 
 
@@ -19,3 +22,12 @@ def copy_with_a_program(copy):
     assert copy.join() == PROVED
     copy.asked()
     return copy
+
+
+@pytest.fixture(name="installable")
+def copy_with_pages(proved):
+    """A copy with a program and the pages that are installed with it."""
+    shutil.copytree(TOP / "docs", proved.top / "docs")
+    for name in ("README.md", "LICENSE"):
+        shutil.copy(TOP / name, proved.top)
+    return proved

@@ -107,15 +107,6 @@ def test_an_edit_during_a_build_that_stays_is_not_in_it(copy):
     assert copy.join() == (0, "proved join of //! One.\n", "")
 
 
-@pytest.fixture(name="installable")
-def copy_with_pages(proved):
-    """A copy with a program and the pages that are installed with it."""
-    shutil.copytree(TOP / "docs", proved.top / "docs")
-    for name in ("README.md", "LICENSE"):
-        shutil.copy(TOP / name, proved.top)
-    return proved
-
-
 def linked(program):
     program.unlink()
     program.symlink_to("/bin/true")

@@ -1,0 +1,64 @@
+# shellcheck shell=bash
+# How bin/install, bin/package and bin/library put files where others take them: each is made whole in a private directory next to its
+# place, and then all are put there, or none.
+
+declare -A private=() # of each directory in which files are put, the one within it in which they are made
+fresh=() places=()    # what was made, and where it is put
+
+# One at a time puts files into a directory, and the next one waits.
+lock() {
+  mkdir -p -- "$1"
+  exec 8<"$1"
+  flock -n 8 || { say "waiting for another that writes to $1 .."; flock 8; }
+}
+
+# Says by fresh[-1] where a file is made that is put at a path. Nobody else can have put a link or a directory there.
+fresh_for() {
+  local directory=${1%/*}
+  directory=${directory:-/}
+  if [[ -z ${private[$directory]-} ]]; then
+    mkdir -p -- "$directory" && private[$directory]=$(mktemp -d -- "$directory/.mergejoin.XXXXXX") || return
+  fi
+  places+=("$1") fresh+=("${private[$directory]}/${1##*/}")
+}
+
+remove_private() { ((${#private[@]} == 0)) || rm -rf -- "${private[@]}"; }
+
+# Puts all that was made in its place. If one can't be put, what was there is put back. No signal comes between.
+put_all() {
+  local at path
+  trap '' INT TERM HUP
+  for at in "${!places[@]}"; do
+    path=${places[at]}
+    if [[ ! -f $path && ! -L $path ]]; then continue; fi
+    # (some file systems have no second name for a file)
+    ln -P -- "$path" "${fresh[at]}.was" 2>/dev/null || cp -dp -- "$path" "${fresh[at]}.was" || return
+  done
+  for at in "${!places[@]}"; do
+    mv -fT -- "${fresh[at]}" "${places[at]}" || { put_back "$at" && return 1; }
+  done
+  trap - INT TERM HUP
+}
+
+# Puts back what was in the first so many places.
+put_back() {
+  local at
+  for ((at = 0; at < $1; at++)); do
+    if [[ -e ${fresh[at]}.was || -L ${fresh[at]}.was ]]; then
+      mv -fT -- "${fresh[at]}.was" "${places[at]}"
+    else
+      rm -f -- "${places[at]}"
+    fi
+  done
+}
+
+# A text with no control byte.
+plain() { printf '%s\n' "$1" | LC_ALL=C tr '\001-\011\013-\037\177' '?'; }
+
+# Says what was done with each file. All are in place by then, whoever reads it.
+report() {
+  local lines
+  lines=$(printf "$1 %s\n" "${places[@]}")
+  trap '' PIPE
+  plain "$lines" 2>/dev/null || { say "all is $1, but standard output can't be written to"; return 1; }
+}

@@ -1,0 +1,96 @@
+"""bin/install in a copy with a toolchain that proves nothing: by several at once, with a line that can't be printed, and over what others have
+put in its way. All files are put in place, or none, and nothing else is left.
+"""
+
+import os
+import subprocess
+
+import pytest
+from installed import INSTALLED
+
+
+class Prefix:
+    """A directory into which a copy installs."""
+
+    def __init__(self, copy):
+        self.copy, self.path = copy, copy.directory / "prefix"
+
+    def has_all(self):
+        """All files are there as they are in the copy, and no other."""
+        seen = {str(path.relative_to(self.path)): path for path in self.path.rglob("*") if not path.is_dir()}
+        assert list(seen) == [str(path.relative_to(self.path)) for path in seen.values() if not path.is_symlink()]
+        assert {name: path.read_bytes() for name, path in seen.items()} == {
+            name: (self.copy.top / source).read_bytes() for name, source in INSTALLED.items()}
+
+    def left(self):
+        """What is there with its text, but for directories."""
+        return {str(path.relative_to(self.path)): path.read_bytes() for path in self.path.rglob("*") if path.is_file()}
+
+
+@pytest.fixture(name="prefix")
+def directory_to_install_into(installable):
+    return Prefix(installable)
+
+
+def test_six_install_at_once(prefix):
+    words, how = [prefix.copy.top / "bin/install", prefix.path], {"stdin": subprocess.DEVNULL, "stdout": subprocess.PIPE}
+    six = [subprocess.Popen(words, env={**os.environ, **prefix.copy.setting}, stderr=subprocess.DEVNULL, **how) for _ in range(6)]
+    assert [install.communicate()[0].count(b"installed") for install in six] == [len(INSTALLED)] * 6
+    assert [install.returncode for install in six] == [0] * 6
+    prefix.has_all()
+
+
+UNSAID = "mergejoin: all is installed, but standard output can't be written to\n"
+
+
+@pytest.mark.parametrize("end,status,err", [
+    (">/dev/full", 1, UNSAID),
+    (">&-", 1, UNSAID),
+    ("| true; exit ${PIPESTATUS[0]}", 1, UNSAID),
+    ("2>&- >/dev/full", 1, ""),
+], ids=["full", "closed", "a reader that went away", "both"])
+def test_a_line_that_cannot_be_printed_leaves_all_files(prefix, end, status, err):
+    """Also over an older program."""
+    (prefix.path / "bin").mkdir(parents=True)
+    (prefix.path / "bin/mergejoin").write_text("older")
+    # (the reader has gone once the program is new)
+    line = f'"${{0%/*}}/install" {prefix.path} {end}'
+    assert prefix.copy.run(line) == (status, "", err)
+    prefix.has_all()
+
+
+@pytest.mark.parametrize("name", INSTALLED)
+def test_what_others_have_put_next_to_a_place_is_left(prefix, name):
+    """A link to a file, or a directory, by a name with an end that a script might use."""
+    other, place = prefix.copy.directory / "other", prefix.path / name
+    other.write_text("other")
+    place.parent.mkdir(parents=True)
+    place.with_name(f"{place.name}.new").symlink_to(other)
+    place.with_name(f"{place.name}.was").mkdir()
+    assert prefix.copy.run(["bin/install", prefix.path])[::2] == (0, "")
+    place.with_name(f"{place.name}.new").unlink()
+    assert other.read_text() == "other" and not list(place.with_name(f"{place.name}.was").iterdir())
+    prefix.has_all()
+
+
+def test_a_link_in_a_place_is_replaced_and_not_followed(prefix):
+    other = prefix.copy.directory / "other"
+    other.write_text("other")
+    (prefix.path / "bin").mkdir(parents=True)
+    (prefix.path / "bin/mergejoin").symlink_to(other)
+    assert prefix.copy.run(["bin/install", prefix.path])[::2] == (0, "")
+    assert other.read_text() == "other"
+    prefix.has_all()
+
+
+@pytest.mark.parametrize("name", ["bin/mergejoin", "share/doc/mergejoin/REPLICAS.md"])
+def test_if_one_file_cannot_be_put_in_its_place_none_is(prefix, name):
+    """A directory is made there after bin/install has looked."""
+    older = {"bin/mergejoin-feed": b"older", "share/doc/mergejoin/README.md": b"older"}
+    for file, text in older.items():
+        (prefix.path / file).parent.mkdir(parents=True)
+        (prefix.path / file).write_bytes(text)
+    prefix.copy.write("bin/prove", f"#!/bin/sh\nmkdir -p '{prefix.path}/{name}'\n", 0o755)
+    status, out, err = prefix.copy.run(["bin/install", prefix.path])
+    assert (status, out, prefix.left()) == (1, "", older) and f"cannot overwrite directory '{prefix.path}/{name}'" in err
+    assert not list((prefix.path / name).iterdir())
