@@ -1,6 +1,41 @@
 # shellcheck shell=bash
-# How bin/install, bin/package and bin/library put files where others take them: each is made whole in a private directory next to its
-# place, and then all are put there, or none.
+# How bin/prove, bin/library, bin/install and bin/package make what others take: in an environment that changes nothing of it. Files are made
+# whole in a private directory next to their places, and then all are put there, or none.
+
+# All that may be set where something is made; what is not here is unset.
+allowed=(HOME LC_ALL LOGNAME MERGEJOIN_SIGN OLDPWD PATH PWD SHLVL TMPDIR TZ USER _)
+
+# A directory for temporary files whose path make and each shell take as it is: that of TMPDIR, or else another.
+plain_tmpdir() {
+  local LC_ALL=C each
+  for each in "${TMPDIR-}" /var/tmp /tmp; do
+    if [[ $each =~ ^/[A-Za-z0-9/._+-]*$ && -d $each && -w $each && -x $each ]]; then printf '%s\n' "$each" && return; fi
+  done
+  say 'no directory for temporary files can be written to: set TMPDIR to the absolute path of one'
+  return 1
+}
+
+# Whether a function or a variable is exported that may not be, or one has another value than it has to.
+is_strange() {
+  local name
+  [[ ${LC_ALL-} == C && ${TZ-} == UTC && -z $(declare -Fx) ]] || return 0
+  for name in $(compgen -e); do
+    [[ " ${allowed[*]} " == *" $name "* ]] || return 0
+  done
+  [[ ${TMPDIR-} != "$1" ]]
+}
+
+# Goes on with what is allowed alone, by running the script anew if something else is set. It is given the script's arguments.
+clean_environment() {
+  local directory name kept=()
+  umask 022
+  directory=$(plain_tmpdir) || exit
+  is_strange "$directory" || return 0
+  for name in "${allowed[@]}"; do
+    if [[ -n ${!name-} ]]; then kept+=("$name=${!name}"); fi
+  done
+  exec env -i "${kept[@]}" LC_ALL=C TZ=UTC TMPDIR="$directory" "$BASH" -- "${BASH_SOURCE[-1]}" "$@"
+}
 
 declare -A private=() # of each directory in which files are put, the one within it in which they are made
 fresh=() places=()    # what was made, and where it is put

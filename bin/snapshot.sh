@@ -4,7 +4,7 @@
 # rt ci refuses sources at any other place within. Whoever reads this holds the lock of builds.
 
 # One place for each repository, so that the next build takes away what one that was killed has left there.
-snapshot=${TMPDIR:-/var/tmp}/mergejoin-build-$(id -u)-$(sum_of <<<"$top" | head -c 16)
+snapshot=$TMPDIR/mergejoin-build-$(id -u)-$(sum_of <<<"$top" | head -c 16)
 
 remove_snapshot() { if [[ -O $snapshot && ! -L $snapshot ]]; then rm -rf -- "$snapshot"; fi; }
 
@@ -14,7 +14,7 @@ make_snapshot() {
   if [[ -e $top/HANDLES ]]; then files+=(HANDLES); fi
   # What another user has put there stays, and is no place to build in.
   remove_snapshot
-  mkdir -m 700 -- "$snapshot" || return
+  mkdir -m 700 -- "$snapshot" && chmod g-s -- "$snapshot" || return
   tar -C "$top" --anchored --no-wildcards-match-slash --exclude='crates/*/out' -cf - "${files[@]}" | tar -C "$snapshot" -xf -
 }
 

@@ -75,9 +75,16 @@ def test_the_packages_are_made_and_the_sums_are_theirs(packed, run):
     assert run(["sha256sum", "-c", "SHA256SUMS"], cwd=one) == (0, "".join(f"{name}: OK\n" for name in MADE[:-1]), "")
 
 
+def commit_of(top):
+    """The commit of a tree that is a repository itself."""
+    asked = ["git", "-C", top, "rev-parse", "--show-toplevel", "HEAD"]
+    named = calls.run(asked)[1].split() if shutil.which("git") else []
+    return named[1] if named[:1] == [str(top)] else "unknown"
+
+
 def test_the_sums_name_the_commit_and_the_toolchain(one, run):
     first, second = (one / "SHA256SUMS").read_text().splitlines()[:2]
-    commit = run(["git", "-C", TOP, "rev-parse", "HEAD"])[1].strip() or "unknown"
+    commit = commit_of(TOP)
     assert first.removesuffix(", with changes") == f"# commit {commit}"
     assert second == f"# toolchain {run(['rt', 'version'])[1].strip()}"
 
@@ -247,15 +254,39 @@ def test_the_c_library_that_a_package_needs_is_enough(program, library, path, en
     assert max(int(minor) for minor in re.findall(rb"GLIBC_2\.([0-9]+)", path.read_bytes())) <= enough
 
 
-def test_a_library_that_was_replaced_is_not_packed(needs, program, library, run, tmp_path):
-    """A byte is added to it after bin/library has made it."""
+@pytest.fixture(name="top")
+def copy_with_what_was_built(needs, program, library, tmp_path):
+    """A copy of the sources with the program and the library, in a directory with a space."""
     needs("dpkg-deb")
-    top = tmp_path / "copy"
+    top = tmp_path / "a copy"
     for name in ("bin", "bindings", "docs", "crates", "out/lib", "out/include"):
         shutil.copytree(TOP / name, top / name, ignore=shutil.ignore_patterns("out", "target"))
-    for name in ("README.md", "LICENSE", "CHANGELOG.md", "crates.txt", "HANDLES",
-                 "out/library.sum", "out/mergejoin", "out/mergejoin.sum"):
-        shutil.copy2(TOP / name, top / name)
+    for path in (*TOP.glob("*"), *TOP.glob("out/*")):
+        if path.is_file() and not path.name.startswith("."):
+            shutil.copy2(path, top / path.relative_to(TOP))
+    return top
+
+
+def test_the_bytes_do_not_depend_on_the_environment(one, top, run, tmp_path):
+    """Nor on the directory. The commit of a repository around the sources is none of theirs, and a link at a name is not followed."""
+    (tmp_path / "first.sh").write_text("umask 077\ngzip() { command gzip -1; }\n")
+    strange = {"TAR_OPTIONS": "--owner=7 --mode=a+w", "GZIP": "-1", "DPKG_DEB_COMPRESSOR_TYPE": "gzip", "DPKG_DEB_COMPRESSOR_LEVEL": "1",
+               "COPT": "-O0", "PROFILE": "-DMORE", "CFLAGS": "-O0 -g", "MAKEFLAGS": "-B", "BASH_ENV": str(tmp_path / "first.sh"),
+               "GIT_DIR": str(TOP / ".git"), "GIT_WORK_TREE": str(top)}
+    if shutil.which("git"):
+        made = "git init -q . && git -c user.name=a -c user.email=a@b commit -q --allow-empty -m one"
+        assert run(made, shell=True) == (0, "", "")
+    (tmp_path / "other").write_text("other")
+    (tmp_path / "packed").mkdir()
+    (tmp_path / "packed/SHA256SUMS.new").symlink_to(tmp_path / "other")
+    is_made(run([top / "bin/package", "packed"], setting=strange), tmp_path / "packed")
+    assert [name for name in MADE[:-1] if (one / name).read_bytes() != (tmp_path / "packed" / name).read_bytes()] == []
+    assert (tmp_path / "packed/SHA256SUMS").read_text().startswith("# commit unknown\n")
+    assert (tmp_path / "other").read_text() == "other"
+
+
+def test_a_library_that_was_replaced_is_not_packed(top, run, tmp_path):
+    """A byte is added to it after bin/library has made it."""
     (top / "bin/library").write_text(f"#!/bin/sh\nprintf x >>'{top}/out/lib/libmergejoin.so.1'\n")
     says = f"package: the library in {top}/out is not what was built there: its checksums differ\n"
     assert run([top / "bin/package", "packed"]) == (125, "", says)

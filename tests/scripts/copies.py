@@ -4,6 +4,7 @@ import hashlib
 import os
 import pathlib
 import re
+import shlex
 import shutil
 
 from calls import TOP, run
@@ -36,6 +37,7 @@ class Copy:
         shutil.copy(pathlib.Path(__file__).with_name("kit.sh"), self.kit / "rt")
         shutil.copytree(TOP / "bin", self.top / "bin")
         shutil.copy(TOP / "crates.txt", self.top)
+        self.hand_on({})
         for crate in CRATES:
             for file, text in (("src/lib.rt", "//! One.\n"), ("specs/Lib.antt", "-- One.\n"), ("args", "merge\n")):
                 self.write(f"crates/{crate}/{file}", text)
@@ -46,10 +48,16 @@ class Copy:
         path.write_text(text)
         path.chmod(mode)
 
+    def hand_on(self, more):
+        """Hands on to the toolchain what bin/prove takes away."""
+        names = {"LOG": str(self.log), **{name: more[name] for name in ("FAILS", "EDITS", "STAYS") if name in more}}
+        (self.kit / "setting").write_text("".join(f"{name}={shlex.quote(text)}\n" for name, text in names.items()))
+
     def run(self, words, more=None, **how):
         """Runs a script of the copy, or a line of the shell in which it is $0, and gives the status and both streams: seconds are
         reported as N s, and the directory of the copy as TOP.
         """
+        self.hand_on(more or {})
         words = [self.top / words[0], *words[1:]] if isinstance(words, list) else ["bash", "-c", words, self.top / "bin/mergejoin"]
         status, out, err = run(words, setting={**self.setting, **(more or {})}, **{"cwd": self.directory, **how})
         return status, out, re.sub(r"\b[0-9]+ s\b", "N s", err).replace(str(self.top), "TOP")

@@ -4,12 +4,18 @@
 # where REFUSES is; where SLOW names a file it makes it and waits, until a signal stops it, and then takes the file away. If
 # EDITS names a source of mp_tree, that is edited just before mp_tree is proved, and put back at the end unless STAYS is set;
 # what is built says which text was read. Its ci says what is in GATE, and ends with ENDS; if TOUCHES names a file or a
-# directory, it changes or moves that, and puts it back.
+# directory, it changes or moves that, and puts it back. bin/prove hands on no variable, so these stand in a file too. If one comes
+# with it all the same, that is noted.
+setting=${BASH_SOURCE[0]%/*}/setting
+if [[ -n ${STRAY-} ]]; then echo "$STRAY came too" >>"$STRAY"; fi
+# shellcheck disable=SC1090
+if [[ -r $setting ]]; then . "$setting"; fi
 case $1 in
 version) echo 'a kit for tests' ;;
 lib)
   if [[ -n ${FAILS-} && $PWD == */mp_patch ]]; then echo 'not proved' && exit 1; fi
   echo "${PWD##*/}" >>"$LOG"
+  if [[ $TMPDIR != /* || $TMPDIR == *' '* ]]; then echo "temporary files in $TMPDIR" >>"$LOG"; fi
   if [[ -n ${EDITS-} && $PWD == */mp_tree ]]; then
     printf '//! Two.\n' >"$EDITS"
     mkdir -p out && cp src/lib.rt out/read

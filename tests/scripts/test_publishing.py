@@ -1,11 +1,12 @@
-"""bin/install in a copy with a toolchain that proves nothing: by several at once, with a line that can't be printed, and over what others have
-put in its way. All files are put in place, or none, and nothing else is left.
+"""bin/install and bin/prove in a copy with a toolchain that proves nothing: by several at once, with a line that can't be printed, over what
+others have put in the way, and in environments that would change what is made. All files are put in place, or none, and nothing else is left.
 """
 
 import os
 import subprocess
 
 import pytest
+from copies import CRATES, PROVED, built
 from installed import INSTALLED
 
 
@@ -94,3 +95,37 @@ def test_if_one_file_cannot_be_put_in_its_place_none_is(prefix, name):
     status, out, err = prefix.copy.run(["bin/install", prefix.path])
     assert (status, out, prefix.left()) == (1, "", older) and f"cannot overwrite directory '{prefix.path}/{name}'" in err
     assert not list((prefix.path / name).iterdir())
+
+
+@pytest.fixture(name="strange")
+def environment_that_changes_what_is_made(copy):
+    """A file that bash reads first, an exported function, and a variable that the toolchain notes."""
+    copy.write(copy.directory / "first.sh", "umask 077\nmkdir() { :; }\nset -x\n")
+    return {"BASH_ENV": str(copy.directory / "first.sh"), "BASH_FUNC_mv%%": "() { :; }", "STRAY": str(copy.directory / "stray"), "SHELLOPTS": "noglob"}
+
+
+def test_what_is_built_is_built_without_the_environment(copy, strange):
+    status, out, err = copy.run(["bin/prove"], strange)
+    assert (status, out) == (0, "") and err.endswith(built())
+    assert copy.asked() == CRATES and not (copy.directory / "stray").exists()
+    assert copy.join() == PROVED
+
+
+def test_what_is_installed_is_installed_without_the_environment(prefix, strange):
+    """By a narrow mask too: also others can use it."""
+    assert prefix.copy.run(f'umask 077; "${{0%/*}}/install" {prefix.path}', strange)[0] == 0
+    prefix.has_all()
+    assert [path for path in (prefix.path, *prefix.path.rglob("*")) if path.is_dir() and path.stat().st_mode & 0o777 != 0o755] == []
+
+
+@pytest.mark.parametrize("name", ["workspace", "a b", "nowhere", "file", ""])
+def test_a_directory_for_temporary_files_that_does_not_do_is_not_used(copy, name):
+    """It is relative, has a space in its path, is not there or is a file."""
+    (copy.directory / "a b").mkdir()
+    (copy.directory / "file").touch()
+    before = sorted(copy.directory.rglob("*"))
+    setting = name if name in ("workspace", "") else str(copy.directory / name)
+    assert copy.run(["bin/prove"], {"TMPDIR": setting}) == (0, "", built())
+    assert copy.asked() == CRATES
+    assert copy.join() == PROVED
+    assert [path for path in sorted(copy.directory.rglob("*")) if path not in before and copy.top not in path.parents] == []
