@@ -37,6 +37,26 @@ clean_environment() {
   exec env -i "${kept[@]}" LC_ALL=C TZ=UTC TMPDIR="$directory" "$BASH" -- "${BASH_SOURCE[-1]}" "$@"
 }
 
+# A text with no control byte.
+plain() { printf '%s\n' "$1" | LC_ALL=C tr '\001-\011\013-\037\177' '?'; }
+
+# Ends the script, of which nothing was done, with why.
+refuse() {
+  plain "${0##*/}: $1" >&2
+  exit 2
+}
+
+# Looks at each directory on the way to a path, and at the path itself: what is there must be of its kind.
+look_at() {
+  local path=$1 directory=${1%/*}
+  [[ ! -d $path ]] || refuse "$path is a directory"
+  [[ ! -e $path || -f $path ]] || refuse "$path is there, and is not a file"
+  while [[ -n $directory && ! -e $directory && ! -L $directory ]]; do directory=${directory%/*}; done
+  directory=${directory:-/}
+  [[ -d $directory ]] || refuse "$directory is there, and is not a directory"
+  [[ -w $directory && -x $directory ]] || refuse "$directory can't be written to"
+}
+
 declare -A private=() # of each directory in which files are put, the one within it in which they are made
 fresh=() places=()    # what was made, and where it is put
 
@@ -86,9 +106,6 @@ put_back() {
     fi
   done
 }
-
-# A text with no control byte.
-plain() { printf '%s\n' "$1" | LC_ALL=C tr '\001-\011\013-\037\177' '?'; }
 
 # Says what was done with each file. All are in place by then, whoever reads it.
 report() {

@@ -41,6 +41,8 @@ reads_input() {
   [[ ${1-} =~ ^(get|patch|merge|join|replay|rewrite)$ ]]
 }
 
+# shellcheck source=bin/publish.sh
+. "$top/bin/publish.sh"
 directory='' run=''
 command -v rt >/dev/null || { say "the Rattle toolchain's command rt is not on the PATH"; exit; }
 [[ -r $top/crates.txt && -d $top/crates/mergejoin ]] || { say "$top has no crates to run"; exit; }
@@ -51,6 +53,9 @@ for signal in INT TERM HUP; do
   # shellcheck disable=SC2064
   trap "stop $signal" "$signal"
 done
+# (rt runs in another directory, so a relative TMPDIR does not do)
+TMPDIR=$(plain_tmpdir) || exit
+export TMPDIR
 directory=$(mktemp -d) || { say 'there is no directory to write to for a run'; exit; }
 
 # All of standard input: rt takes what arrived before a silence of two seconds.

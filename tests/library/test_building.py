@@ -1,5 +1,5 @@
-"""bin/library: its help, its usage, and that it leaves no link, at which rt would stop; and it links no other archive than the one that
-was built.
+"""bin/library: its help, its usage, and that it leaves no link, at which rt would stop; it links no other archive than the one that was
+built, and nothing again that is there, for which it needs neither the toolchain nor a directory that it can write to.
 """
 
 import shutil
@@ -51,3 +51,31 @@ def test_an_archive_of_other_bytes_is_not_linked(made, tmp_path):
     status, is_reported, left = made()
     assert (status, is_reported, left == linked) == (125, True, True)
     assert list(tmp_path.glob("mergejoin-build-*")) == []
+
+
+def kept(directory):
+    """When each file and directory was last written to or replaced."""
+    return {path: (path.stat().st_ino, path.stat().st_ctime_ns) for path in (directory, *directory.rglob("*"))}
+
+
+def test_a_library_that_is_made_needs_no_toolchain_and_is_not_written_to(made, tmp_path, run):
+    """Its directory may be one that can't be written to. If one part is another, all is made anew."""
+    assert made()[0] == 0
+    out, words = tmp_path / "copy/out", f"{tmp_path}/copy/bin/library"
+    before = kept(out)
+    if run(["unshare", "-m", "true"])[0] == 0:
+        words = f"unshare -m sh -c 'mount -o bind,ro {out} {out} && {words}'"
+    assert run(words, shell=True, setting={"PATH": "/usr/sbin:/usr/bin:/sbin:/bin"}) == (0, "", "")
+    assert kept(out) == before
+    (out / "include/mergejoin.h").write_text("another")
+    assert made()[0] == 0 and (out / "include/mergejoin.h").read_bytes() == (tmp_path / "copy/bindings/c/mergejoin.h").read_bytes()
+
+
+def test_what_is_made_of_another_header_or_version_is_made_anew(made, tmp_path):
+    assert made()[0] == 0
+    for name, more in (("bindings/c/mergejoin.h", "/* more */\n"), ("CHANGELOG.md", None)):
+        path, was = tmp_path / "copy" / name, (tmp_path / "copy/out/library.of").read_text()
+        text = path.read_text("utf-8")
+        path.write_text(text + more if more else text.replace("## 0.", "## 9.", 1), "utf-8")
+        assert made()[0] == 0 and (tmp_path / "copy/out/library.of").read_text() != was
+    assert "Version: 9." in (tmp_path / "copy/out/lib/pkgconfig/mergejoin.pc").read_text()

@@ -90,9 +90,12 @@ def test_the_sums_name_the_commit_and_the_toolchain(one, run):
 
 
 def test_made_again_the_packages_have_the_same_bytes(one, run, tmp_path):
-    """By another mask, in another place and time and in a directory with a space. Nothing else is left."""
+    """By another mask, in another place and time, in a directory with a space, and with one for temporary files whose group all within
+    gets. Nothing else is left.
+    """
     again = {"TZ": "Asia/Tokyo", "TMPDIR": str(tmp_path), "SOURCE_DATE_EPOCH": "1", "CDPATH": "/"}
     other = one.parent / "a b"
+    tmp_path.chmod(0o2755)
     is_made(run(f"umask 0; {PACKAGE} 'a b'", shell=True, setting=again, cwd=one.parent), other)
     assert [name for name in MADE if (one / name).read_bytes() != (other / name).read_bytes()] == []
     assert not list(tmp_path.iterdir())
@@ -296,6 +299,13 @@ def test_a_library_that_was_replaced_is_not_packed(top, run, tmp_path):
 @pytest.mark.parametrize("words", [["a", "b"], [""], ["-x"]], ids=repr)
 def test_wrong_words_are_refused(run, words):
     assert run([PACKAGE, *words]) == (2, "", "usage: bin/package [FOLDER]\n")
+
+
+@pytest.mark.parametrize("word,way", [("file", "file"), ("file/below", "file")])
+def test_a_directory_that_cannot_be_made_is_refused(needs, run, tmp_path, word, way):
+    needs("dpkg-deb")
+    (tmp_path / "file").touch()
+    assert run([PACKAGE, word]) == (2, "", f"package: {tmp_path}/{way} is there, and is not a directory\n")
 
 
 @pytest.mark.parametrize("word", ["--help", "-h"])

@@ -71,6 +71,12 @@ def test_an_unproved_answer_with_cdpath(copy):
     assert copy.run(["bin/mergejoin", "join"], {"CDPATH": f".:{copy.top}"}, cwd=copy.top) == (0, tried(["join"]), UNPROVED)
 
 
+@pytest.mark.parametrize("name", ["workspace", "nowhere", "a copy"])
+def test_an_unproved_answer_with_an_odd_directory_for_temporary_files(copy, name):
+    assert copy.run(["bin/mergejoin", "join"], {"TMPDIR": name}) == (0, tried(["join"]), UNPROVED)
+    assert sorted(os.listdir(copy.top)) == ["bin", "crates", "crates.txt"]
+
+
 def test_what_rt_refuses_is_no_answer(copy):
     says = "mergejoin: the sources gave no answer: rt try ended with status 2, and said:\nerror: no such thing\nrun=none proved=no\n"
     assert copy.run(["bin/mergejoin", "join"], {"REFUSES": "no such thing"}) == (125, "", UNPROVED + says)

@@ -112,6 +112,23 @@ def linked(program):
     program.symlink_to("/bin/true")
 
 
+NO_PROGRAM = "mergejoin: TOP/out/mergejoin is what was built, and is no program: remove it and run bin/prove\n"
+
+
+@pytest.mark.parametrize("text,says", [
+    ("", NO_PROGRAM),
+    ("exit 0\n", NO_PROGRAM),
+    ("#!/no/such/interpreter\n", "required file not found"),
+    ("\x7fELF and no more", "Exec format error"),
+], ids=["empty", "no head", "no interpreter", "no code"])
+def test_a_program_that_cannot_be_run_is_no_answer(proved, text, says):
+    """Though it is what the toolchain has built."""
+    proved.write("out/mergejoin", text, 0o755)
+    proved.run('. "${0%/*}/program.sh" && write_sums "$(sources_sum "$top")" "$program" >"$built_from"')
+    status, out, err = proved.join()
+    assert (status, out) == (125, "") and says in err
+
+
 @pytest.mark.parametrize("replace,says", [
     (lambda program: shutil.copy("/bin/true", program), DIFFERS.format("used")),
     (lambda program: program.write_bytes(program.read_bytes().replace(b"proved", b"Proved")), DIFFERS.format("used")),

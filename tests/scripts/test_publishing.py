@@ -97,6 +97,14 @@ def test_if_one_file_cannot_be_put_in_its_place_none_is(prefix, name):
     assert not list((prefix.path / name).iterdir())
 
 
+def test_what_is_built_is_installed_without_a_toolchain_and_a_place_to_write_to(prefix):
+    out = prefix.copy.top / "out"
+    out.chmod(0o555)
+    assert prefix.copy.run(["bin/install", prefix.path], {"PATH": "/usr/bin:/bin"})[::2] == (0, "")
+    out.chmod(0o755)
+    prefix.has_all()
+
+
 @pytest.fixture(name="strange")
 def environment_that_changes_what_is_made(copy):
     """A file that bash reads first, an exported function, and a variable that the toolchain notes."""

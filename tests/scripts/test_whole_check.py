@@ -108,3 +108,14 @@ def test_nothing_is_begun_after_an_interrupt(copy, ran):
 
 def test_other_words_are_refused(copy):
     assert copy.run(["bin/test", "slow"]) == (2, "", "mergejoin: usage: bin/test [quick]\n")
+
+
+def test_no_toolchain_is_said_in_one_line(copy):
+    ended = copy.run(["bin/test"], {"PATH": "/usr/bin:/bin"})
+    assert ended == (1, "mergejoin: the Rattle toolchain's command rt is not on the PATH\n", "")
+
+
+@pytest.mark.parametrize("word", ["--help", "-h"])
+def test_help(copy, word):
+    status, out, err = copy.run(["bin/test", word])
+    assert (status, err) == (0, "") and out.startswith("The project's whole check") and copy.asked() == []
