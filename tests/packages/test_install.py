@@ -9,6 +9,7 @@ import shutil
 import pytest
 from calls import TOP
 from installed import INSTALLED, copies
+from package import VERSION
 
 INSTALL = TOP / "bin/install"
 pytestmark = pytest.mark.usefixtures("program")
@@ -42,6 +43,10 @@ def test_what_was_installed_runs(run, tmp_path):
     assert run(pipe, shell=True, setting=setting) == (0, 'two: no whole number: 1.5, at "/n"\n', "")
     assert run("mergejoin-conflicts one three", shell=True, setting=setting) == (1, 'one\tthree\t"/n"\n', "")
     assert run(["mergejoin", "merge"], "[5]", setting=setting) == (0, "5\n", "")
+    for name in ("feed", "conflicts", "locate"):
+        assert run([f"mergejoin-{name}"], setting=setting)[2].startswith(f"mergejoin-{name}: usage: mergejoin-{name} ")
+        assert run([f"mergejoin-{name}", "--version"], setting=setting) == (0, f"mergejoin-{name} {VERSION}\n", "")
+    assert run(["mergejoin-conflicts", "four"], setting=setting) == (2, "", "mergejoin-conflicts: four: there is no such file\n")
 
 
 @pytest.fixture(name="place")

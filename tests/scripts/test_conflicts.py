@@ -48,7 +48,7 @@ CALLS = {
     "files after --": (["--", "--help", "\ttab"], ['--help\t\\u0009tab\t"/size"']),
     "a file named by an option among others": (["blue", "--help"], ['blue\t--help\t"/size"']),
     "longer than an input": (["third 0", "third 1", "third 2"], ['third 0\tthird 2\t"/n"', 'third 1\tthird 2\t"/n"']),
-    "no file": ([], "usage: mergejoin-conflicts FILE.."),
+    "no file": ([], "usage: conflicts FILE.."),
     "a missing file": (["red", "three"], "three: there is no such file"),
     "a file of two texts": (["red", "two texts"], "two texts: there is more than one JSON text, at line 1, column 8"),
     "an empty file": (["empty", "red"], "empty: it is empty"),

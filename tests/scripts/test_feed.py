@@ -1,20 +1,36 @@
 """bin/feed on files that are there, missing, empty, odd and no JSON, on pipes and on streams that are closed or full."""
 
+import signal
+import subprocess
 import time
 
 import pytest
 from calls import TOP
+from package import VERSION
 
 FEED = TOP / "bin/feed"
 ODD = b' {"b" :1.50,\r\n"a":[1E2,-0,"\\u0041\xc3\xa9"],"b":18446744073709551616}\n'
 FILES = {"one": b'{"a":1}\n', "two": b'{"b":2}', "odd": ODD, "-": b'"dash"', "--help": b'"help"', "--": b"3"}
 
+LINES = {"log": b'{"a":\t1}\n\n2 \r\n \t\r\n[]', "blank": b"\n \r\n", "wrong": b"1\n\n[1, ]\n", "bytes": b'1\n"\xff"', "--lines": b"4"}
+USAGE = "feed: usage: feed [--lines] FILE..\n"
+
 # Words, and what is printed, which is the bytes of the files, whatever they are; or what is said.
 CALLS = {
     "files": ([FEED, "one", "odd", "two"], f'[{{"a":1}}\n,{ODD.decode()},{{"b":2}}]\n'),
     "files, by sh": (["sh", FEED, "one", "two"], '[{"a":1}\n,{"b":2}]\n'),
-    "no file": ([FEED], "[]\n"),
-    "no file after --": ([FEED, "--"], "[]\n"),
+    "no file": ([FEED], USAGE),
+    "no file after --": ([FEED, "--"], USAGE),
+    "no file of lines": ([FEED, "--lines"], USAGE),
+    "no file of lines after --": ([FEED, "--lines", "--"], USAGE),
+    "lines": ([FEED, "--lines", "log", "two"], '[{"a":\t1},2 \r,[],{"b":2}]\n'),
+    "lines after --": ([FEED, "--lines", "--", "--lines"], "[4]\n"),
+    "a file named --lines": ([FEED, "--", "--lines"], "[4]\n"),
+    "lines of which there is none": ([FEED, "--lines", "blank"], "[]\n"),
+    "a line that is no text": ([FEED, "--lines", "log", "wrong"], "feed: wrong: line 3: it is not JSON: Expecting value, at column 5\n"),
+    "a line with two texts": ([FEED, "--lines", "odd"], "feed: odd: line 1: it is not JSON: Expecting property name enclosed in double quotes,"
+                              " at column 14\n"),
+    "a line that is not UTF-8": ([FEED, "--lines", "bytes"], "feed: bytes: line 2: it is not UTF-8 at byte 1\n"),
     "a file named -": ([FEED, "-", "two"], '["dash",{"b":2}]\n'),
     "a file named --help": ([FEED, "--", "--help", "--"], '["help",3]\n'),
     "a file named by an option among others": ([FEED, "two", "--help"], '[{"b":2},"help"]\n'),
@@ -30,6 +46,8 @@ CALLS = {
 REFUSED = {
     b"": "it is empty",
     b" \r\n\t": "it is empty",
+    b"\x0b": "it is not JSON: Expecting value, at line 1, column 1",
+    b'"\x01"': "it is not JSON: Invalid control character at, at line 1, column 2",
     b'{"x":1},{"y":2}': "there is more than one JSON text, at line 1, column 8",
     b"1\n2": "there is more than one JSON text, at line 2, column 1",
     b"[1]]": "there is more than one JSON text, at line 1, column 4",
@@ -60,7 +78,7 @@ SHELL = {
 
 @pytest.fixture(autouse=True)
 def files(tmp_path):
-    for name, text in FILES.items():
+    for name, text in {**FILES, **LINES}.items():
         (tmp_path / name).write_bytes(text)
 
 
@@ -101,3 +119,26 @@ def test_many_files_are_read_by_one_process(run, tmp_path):
     begin = time.monotonic()
     assert run([FEED, *names]) == (0, "[" + ",".join(f'{{"{name}":1}}' for name in names) + "]\n", "")
     assert time.monotonic() - begin < 10
+
+
+def test_version(run):
+    assert run([FEED, "--version"]) == (0, f"feed {VERSION}\n", "")
+
+
+def test_what_is_next_to_the_script_or_is_set_is_not_run(run, tmp_path):
+    """A module in the directory of the script, in the current one, and in one of the environment; and by a link of another name."""
+    (tmp_path / "json.py").write_text("print('mine')")
+    (tmp_path / "other").write_bytes(FEED.read_bytes())
+    (tmp_path / "other").chmod(0o755)
+    setting = {"PYTHONPATH": str(tmp_path), "PYTHONSTARTUP": str(tmp_path / "json.py"), "PYTHONINSPECT": "1"}
+    for words in (["./other", "two"], ["sh", "./other", "two"]):
+        assert run(words, setting=setting) == (0, '[{"b":2}]\n', "")
+    assert run(["./other", "three"]) == (2, "", "other: three: there is no such file\n")
+
+
+def test_an_interrupt_ends_it_with_no_line(run, tmp_path):
+    run(["mkfifo", "pipe"])
+    with subprocess.Popen([FEED, "pipe"], cwd=tmp_path, stdout=subprocess.PIPE, stderr=subprocess.PIPE) as feed:
+        with open(tmp_path / "pipe", "wb"):  # (which waits until it is opened there too)
+            feed.send_signal(signal.SIGINT)
+            assert (*feed.communicate(timeout=20), feed.returncode) == (b"", b"", -signal.SIGINT)

@@ -4,11 +4,14 @@ refusal is made by the program of the same files, where it can be.
 
 import json
 import os
+import signal
+import subprocess
 import time
 
 import calls
 import pytest
 from calls import TOP
+from package import VERSION
 
 LOCATE = TOP / "bin/locate"
 NONE = "these files show no place for this line"
@@ -188,7 +191,7 @@ def test_a_text_has_a_place_if_it_is_refused(located, data, line, place):
 
 
 CONFLICT, SHAPE = 'conflict: patches 0 and 1 at "/a"', "input: wrong shape"
-USAGE = "usage: mergejoin-locate SUBCOMMAND FILE.. <REFUSAL, or get POINTER FILE <REFUSAL"
+USAGE = "usage: locate SUBCOMMAND FILE.. <REFUSAL, or get POINTER FILE <REFUSAL"
 OF_NO_FILE = "'{}' is of memory or a stream, and of no file"
 
 # A line, the words, the status, and what is in the way of a place: one line on standard error, and nothing on standard output.
@@ -271,3 +274,45 @@ def test_each_file_of_many_clashes_is_read_once(located):
     begin = time.monotonic()
     located.has_places(["join"], ["left", "right"], line, places, limit=10)
     assert time.monotonic() - begin < 5
+
+
+def test_version(located):
+    assert located.run([LOCATE, "--version"]) == (0, f"locate {VERSION}\n", "")
+
+
+@pytest.mark.parametrize("locale", ["C", "C.UTF-8", "en_US.ISO-8859-1"])
+def test_arguments_are_bytes_in_every_locale(located, latin, locale):
+    """Of a pointer the offset is one in bytes, and the name of a file is the one that it has."""
+    setting = {"LC_ALL": locale, "LOCPATH": latin}
+    says = 'the pointer "/é~" has after "/é" a tilde that is neither ~0 nor ~1\n'
+    assert located.run([LOCATE, "get", "/é~", "one"], given="pointer: bad tilde at 3", setting=setting) == (0, says, "")
+    (located.directory / "né").write_text("1.5")
+    assert located.run([LOCATE, "merge", "né"], given=NOT_WHOLE, setting=setting) == (0, 'né: no whole number: 1.5, at ""\n', "")
+
+
+@pytest.fixture(name="latin", scope="module")
+def directory_of_a_latin_locale(needs, tmp_path_factory):
+    needs("localedef")
+    directory = tmp_path_factory.mktemp("locales")
+    calls.run(["localedef", "-i", "en_US", "-f", "ISO-8859-1", directory / "en_US.ISO-8859-1"])
+    return str(directory)
+
+
+def test_standard_input_that_does_not_end_is_refused(located):
+    line = f"ulimit -v 1000000; timeout 50 {LOCATE} merge one </dev/zero"
+    assert located.run(line, shell=True) == (2, "", "locate: standard input has more than 67,108,864 bytes\n")
+
+
+def test_values_that_differ_in_the_order_of_their_names_do_not_conflict(located):
+    for name, text in ("ordered", '{"a":{"x":1,"y":2}}'), ("reversed", '{"a":{"y":2,"x":1}}'):
+        (located.directory / name).write_text(text)
+    says = 'locate: these files have no conflict at "/a": the line is of others\n'
+    assert located.run([LOCATE, "join", "ordered", "reversed"], given=CONFLICT) == (1, "", says)
+
+
+def test_an_interrupt_ends_it_with_no_line(located):
+    with subprocess.Popen([LOCATE, "merge", "one"], cwd=located.directory, stdin=subprocess.PIPE, stdout=subprocess.PIPE,
+                          stderr=subprocess.PIPE) as locate:
+        time.sleep(1)
+        locate.send_signal(signal.SIGINT)
+        assert (*locate.communicate(timeout=20), locate.returncode) == (b"", b"", -signal.SIGINT)
