@@ -3,7 +3,7 @@
 # whole in a private directory next to their places, and then all are put there, or none.
 
 # All that may be set where something is made; what is not here is unset.
-allowed=(HOME LC_ALL LOGNAME MERGEJOIN_SIGN OLDPWD PATH PWD SHLVL TMPDIR TZ USER _)
+allowed=(HOME LC_ALL LOGNAME OLDPWD PATH PWD SHLVL SSH_AUTH_SOCK TMPDIR TZ USER _)
 
 # A directory for temporary files whose path make and each shell take as it is: that of TMPDIR, or else another.
 plain_tmpdir() {

@@ -32,7 +32,7 @@ print(mergejoin.replay('{"title": "Notes"}', ['{"author": "Ada"}', '{"title": nu
 FOLDER = "lib/x86_64-linux-gnu"
 # Each .deb and what it needs.
 NEEDS = {
-    "mergejoin": "libc6 (>= 2.34), python3",
+    "mergejoin": "libc6 (>= 2.34)",
     "libmergejoin1": "libc6 (>= 2.14)",
     "libmergejoin-dev": f"libmergejoin1 (= {VERSION})",
 }
@@ -49,10 +49,10 @@ MADE = [*DEBS.values(), "SHA256SUMS"]
 MADE[3:3] = [TAR] if lacks() else [TAR, WHEEL]
 
 
-def is_made(ended, directory):
-    """What was run has made all packages in a directory. It may wait for another build, and say what it lacks."""
+def is_made(ended, directory, *more):
+    """What was run has made all packages in a directory, and more. It may wait for another build, and say what it lacks."""
     status, out, err = ended
-    reported = "".join(f"made {directory}/{name}\n" for name in MADE)
+    reported = "".join(f"made {directory}/{name}\n" for name in (*MADE, *more))
     assert (status, out, re.sub(r"^(mergejoin: waiting for|package: no) .*\n", "", err, flags=re.M)) == (0, reported, "")
 
 
@@ -89,16 +89,32 @@ def test_the_sums_name_the_commit_and_the_toolchain(one, run):
     assert second == f"# toolchain {run(['rt', 'version'])[1].strip()}"
 
 
-def test_made_again_the_packages_have_the_same_bytes(one, run, tmp_path):
-    """By another mask, in another place and time, in a directory with a space, and with one for temporary files whose group all within
-    gets. Nothing else is left.
+@pytest.fixture(name="again", scope="module")
+def directory_of_packages_that_are_made_again(one, tmp_path_factory):
+    """Made by another mask, in another place and time, in a directory with a space, with one for temporary files whose group all within
+    gets, and signed if that can be done. Nothing else is left.
     """
-    again = {"TZ": "Asia/Tokyo", "TMPDIR": str(tmp_path), "SOURCE_DATE_EPOCH": "1", "CDPATH": "/"}
-    other = one.parent / "a b"
-    tmp_path.chmod(0o2755)
-    is_made(run(f"umask 0; {PACKAGE} 'a b'", shell=True, setting=again, cwd=one.parent), other)
-    assert [name for name in MADE if (one / name).read_bytes() != (other / name).read_bytes()] == []
-    assert not list(tmp_path.iterdir())
+    workspace, key = tmp_path_factory.mktemp("workspace"), one.parent / "key"
+    workspace.chmod(0o2755)
+    setting = {"TZ": "Asia/Tokyo", "TMPDIR": str(workspace), "SOURCE_DATE_EPOCH": "1", "CDPATH": "/"}
+    signs = shutil.which("ssh-keygen") and calls.run(["ssh-keygen", "-q", "-t", "ed25519", "-N", "", "-f", key]) == (0, "", "")
+    ended = calls.run(f"umask 0; {PACKAGE} {'--sign key' if signs else ''} 'a b'", shell=True, setting=setting, cwd=one.parent)
+    is_made(ended, one.parent / "a b", *["SHA256SUMS.sig"] * bool(signs))
+    assert not list(workspace.iterdir())
+    return one.parent / "a b"
+
+
+def test_made_again_the_packages_have_the_same_bytes(one, again):
+    assert [name for name in MADE if (one / name).read_bytes() != (again / name).read_bytes()] == []
+
+
+def test_the_sums_are_signed(needs, again, run):
+    needs("ssh-keygen")
+    (again.parent / "signers").write_text("project " + (again.parent / "key.pub").read_text())
+    words = ["ssh-keygen", "-Y", "verify", "-f", "signers", "-I", "project", "-n", "file", "-s", again / "SHA256SUMS.sig"]
+    sums = (again / "SHA256SUMS").read_bytes()
+    assert run(words, sums, cwd=again.parent)[0] == 0
+    assert run(words, sums.replace(b"1", b"2"), cwd=again.parent)[0] != 0
 
 
 def unpack(package, root):
@@ -144,6 +160,10 @@ def has_files(below, wanted, others):
             seen[name.replace(".1.gz", ".1")] = gzip.decompress(path.read_bytes()) if name.endswith(".1.gz") else path.read_bytes()
     assert set(seen) - set(wanted) == set(others)
     assert [name for name in wanted if seen.get(name) != wanted[name]] == []
+
+
+def test_the_program_wants_no_python(one, run):
+    assert run(["dpkg-deb", "-f", one / DEBS["mergejoin"], "Recommends"]) == (0, "python3\n", "")
 
 
 @pytest.mark.parametrize("name", NEEDS)
@@ -281,11 +301,12 @@ def test_the_bytes_do_not_depend_on_the_environment(one, top, run, tmp_path):
         assert run(made, shell=True) == (0, "", "")
     (tmp_path / "other").write_text("other")
     (tmp_path / "packed").mkdir()
+    (tmp_path / "packed/SHA256SUMS.sig").write_text("of other sums")
     (tmp_path / "packed/SHA256SUMS.new").symlink_to(tmp_path / "other")
     is_made(run([top / "bin/package", "packed"], setting=strange), tmp_path / "packed")
     assert [name for name in MADE[:-1] if (one / name).read_bytes() != (tmp_path / "packed" / name).read_bytes()] == []
     assert (tmp_path / "packed/SHA256SUMS").read_text().startswith("# commit unknown\n")
-    assert (tmp_path / "other").read_text() == "other"
+    assert (tmp_path / "other").read_text() == "other" and not (tmp_path / "packed/SHA256SUMS.sig").exists()
 
 
 def test_a_library_that_was_replaced_is_not_packed(top, run, tmp_path):
@@ -296,9 +317,15 @@ def test_a_library_that_was_replaced_is_not_packed(top, run, tmp_path):
     assert not (tmp_path / "packed").exists()
 
 
-@pytest.mark.parametrize("words", [["a", "b"], [""], ["-x"]], ids=repr)
+@pytest.mark.parametrize("words", [["a", "b"], [""], ["-x"], ["--sign"], ["--sign", PACKAGE, "a", "b"], ["--sign", PACKAGE, "-x"]], ids=repr)
 def test_wrong_words_are_refused(run, words):
-    assert run([PACKAGE, *words]) == (2, "", "usage: bin/package [FOLDER]\n")
+    assert run([PACKAGE, *words]) == (2, "", "usage: bin/package [--sign KEY] [FOLDER]\n")
+
+
+@pytest.mark.parametrize("key", ["nowhere", "."])
+def test_a_key_that_is_not_there_is_refused(needs, run, key):
+    needs("dpkg-deb")
+    assert run([PACKAGE, "--sign", key, "packed"]) == (2, "", f"package: {key} is no file of a key\n")
 
 
 @pytest.mark.parametrize("word,way", [("file", "file"), ("file/below", "file")])

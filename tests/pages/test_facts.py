@@ -11,7 +11,7 @@ import re
 import pytest
 
 TOP = pathlib.Path(__file__).resolve().parents[2]
-PAGES = ["README.md", "CONTRIBUTING.md", "CHANGELOG.md",
+PAGES = ["README.md", "CONTRIBUTING.md", "SECURITY.md", "CHANGELOG.md",
          *sorted(str(page.relative_to(TOP)) for where in ("docs/*.md", "crates/*/README.md") for page in TOP.glob(where))]
 LINES, COLUMNS = 120, 100  # of README.md
 # What a table of times or of memory has in a cell, or in its head; and what has to stand above it.
@@ -48,9 +48,12 @@ NEEDS = r"^Depends: libc6 \(>= ([0-9.]+)\)"
 FACTS = {
     "version of the crate": ("bindings/rust/Cargo.toml", r'^version = "(.*)"$', [VERSION]),
     "version of the wheel": ("bindings/python/pyproject.toml", r'^version = "(.*)"$', [VERSION]),
+    "version of the header": ("bindings/c/mergejoin.h", '^#define MERGEJOIN_VERSION_STRING "(.*)"$', [VERSION]),
+    **{f"version of bin/{name}": (f"bin/{name}", '^VERSION = "(.*)"$', [VERSION]) for name in ("conflicts", "feed", "locate")},
+    "version of the wheel that a page installs": ("docs/LIBRARIES.md", r"mergejoin-([0-9.]+)-cp310", [VERSION]),
     "version for SQL": ("bindings/postgresql/mergejoin.control", "^default_version = '(.*)'$", [VERSION.rsplit(".", 1)[0]]),
-    "glibc of the program": ("README.md", r"glibc\s+([0-9.]*[0-9])", found_in("bin/package", f"{NEEDS}, python3$")),
-    "glibc of the library": ("docs/LIBRARIES.md", r"glibc\s+([0-9.]*[0-9])", found_in("bin/package", f"{NEEDS}$")),
+    "glibc of the program": ("README.md", r"glibc\s+([0-9.]*[0-9])", found_in("bin/package", f"{NEEDS}\nRecommends: python3$")),
+    "glibc of the library": ("docs/LIBRARIES.md", r"glibc\s+([0-9.]*[0-9])", found_in("bin/package", f"{NEEDS}\nSection: libs$")),
     "statuses": ("docs/LIBRARIES.md", r"^\| ([0-9]+) `(MERGEJOIN_\w+)`", sorted((number, name) for name, number in STATUSES)),
     "commands": ("README.md", r"^`mergejoin (\w+)", COMMANDS),
     "inputs": ("docs/BEHAVIOUR.md", r"^\| `(\w+)[\w ]*` \| `\[", COMMANDS),
