@@ -2,13 +2,17 @@
 
 from calls import TOP
 
+PAGES = ("mergejoin", "mergejoin-feed", "mergejoin-conflicts", "mergejoin-locate")
 INSTALLED = {
     "bin/mergejoin": "out/mergejoin",
     "bin/mergejoin-feed": "bin/feed",
     "bin/mergejoin-conflicts": "bin/conflicts",
     "bin/mergejoin-locate": "bin/locate",
-    "share/bash-completion/completions/mergejoin": "bin/completion.bash",
-    **{f"share/man/man1/{page}.1": f"docs/{page}.1" for page in ("mergejoin", "mergejoin-feed", "mergejoin-conflicts", "mergejoin-locate")},
+    "share/zsh/site-functions/_mergejoin": "bin/completion.zsh",
+    **{where.format(page): source.format(page) for page in PAGES for where, source in (
+        ("share/man/man1/{}.1", "docs/{}.1"),
+        ("share/bash-completion/completions/{}", "bin/completion.bash"),
+        ("share/fish/vendor_completions.d/{}.fish", "bin/completion.fish"))},
     **{f"share/doc/mergejoin/{file}": file for file in ("README.md", "LICENSE")},
     **{f"share/doc/mergejoin/{page}.md": f"docs/{page}.md" for page in ("REFUSALS", "BEHAVIOUR", "REPLICAS")},
 }

@@ -3,7 +3,6 @@ before anything is written.
 """
 
 import os
-import re
 import shutil
 
 import pytest
@@ -112,23 +111,3 @@ def test_a_write_that_fails_leaves_no_part(run, tmp_path):
     status, out, err = run(f"trap '' XFSZ; ulimit -f 8; {INSTALL} full", shell=True)
     assert (status, out, err.count("\n")) == (1, "", 1) and "File too large" in err
     assert not [path for path in (tmp_path / "full").rglob("*") if path.is_file()]
-
-
-COMPLETE = f'. {TOP}/bin/completion.bash; COMP_WORDS=($1 "${{@:2}}") COMP_CWORD=$(($# - 1)); ' \
-           '$(complete -p $1 | sed "s/.*-F \\([a-z_]*\\).*/\\1/"); printf "%s\\n" "${COMPREPLY[@]}"'
-
-
-@pytest.mark.parametrize("words,wanted", [
-    (["mergejoin", ""], ["--help", "SUBCOMMANDS"]),
-    (["mergejoin", "re"], ["replay", "rewrite"]),
-    (["mergejoin", "x"], [""]),
-    (["mergejoin", "get", ""], ["--help"]),
-    (["mergejoin-locate", ""], ["--help", "SUBCOMMANDS"]),
-    (["mergejoin-locate", "get", ""], [""]),
-], ids=repr)
-def test_bash_completes_the_subcommands_of_the_help(program, run, words, wanted):
-    helped = run([program, "--help"])[1].split("Commands:\n")[1].split("\n\n")[0]
-    names = re.findall(r"^ +(\w+)", helped, re.M)
-    status, out, err = run(["bash", "-c", COMPLETE, "sh", *words])
-    wanted = [name for word in wanted for name in (names if word == "SUBCOMMANDS" else [word])]
-    assert (status, sorted(out.splitlines()), err) == (0, sorted(wanted), "")

@@ -129,7 +129,8 @@ def files_of_debs():
     asked, found = f"{FOLDER}/pkgconfig/mergejoin.pc", f"{FOLDER}/cmake/mergejoin/mergejoin-config.cmake"
     placed[asked] = placed[asked].replace(b"${pcfiledir}/../..", b"/usr").replace(b"${prefix}/lib", b"${prefix}/" + FOLDER.encode())
     placed[found] = placed[found].replace(b"/../include", b"/../../include")
-    files = {"mergejoin": copies({name: source for name, source in INSTALLED.items() if source != "LICENSE"}),
+    program = {name.replace("site-functions", "vendor-completions"): source for name, source in INSTALLED.items() if source != "LICENSE"}
+    files = {"mergejoin": copies(program),
              "libmergejoin1": {f"{FOLDER}/libmergejoin.so.1": placed.pop(f"{FOLDER}/libmergejoin.so.1")},
              "libmergejoin-dev": {**placed, **copies({"share/doc/libmergejoin-dev/LIBRARIES.md": "docs/LIBRARIES.md"})}}
     if EXTENSION:
