@@ -131,8 +131,9 @@ def main(count):
     print_aggregates("of one document", {name: AGGREGATES[name] for name in ONE}, count, 1)
     print("\n| rows of a moving frame | a row |\n|---:|---:|")
     for length in (1, 10, 100, 1_000):
-        rows = max(2_000, min(count, 400_000 // length))
-        print(f"| {length:,} | {alone_in_a_process(frame(length), rows, 1)[0] / rows * 1e6:,.1f} us |", flush=True)
+        rows = max(2 * length, 50_000 // length)  # in addition to those until the frame moves
+        growing, moving = (alone_in_a_process(frame(length), number, 1)[0] for number in (length, length + rows))
+        print(f"| {length:,} | {(moving - growing) / rows * 1e6:,.0f} us |", flush=True)
     print("\n| patches so far | joined with the join so far | inserted |\n|---:|---:|---:|")
     times = [list(one_by_one(statement, 4_000)) for statement in RECEIVED]
     for number in (100, 1_000, 2_000, 4_000):
