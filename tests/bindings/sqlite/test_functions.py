@@ -17,7 +17,7 @@ CASES = [*vector_rows(), *ROWS,
            for count in (2, 9, 33) for _, export, status, first, second, answer, given in many(count))]
 ENCODINGS = ("UTF-8", "UTF-16le", "UTF-16be")
 DEEPEST = "[" * 126 + "]" * 126
-BOMB = json.dumps([{"op": "copy", "from": "", "path": f"/{name}"} for name in "abcdefghijklmnopqrstuvwxyz"])
+COPIES = [{"op": "copy", "from": "", "path": f"/{name}"} for name in "abcdefghijklmnopqrstuvwxyz"]
 
 
 def asked(connection, export, *values):
@@ -159,7 +159,12 @@ def test_places_that_no_value_has_are_too_many(connection):
 
 @pytest.mark.parametrize("document", ["{}", '{"z":[[[]]]}'])
 def test_copies_that_double_a_document_end_soon(connection, document):
-    assert asked(limited(connection, 100_000), "patch", document, BOMB) == TOO_BIG
+    """Also if the result itself would be short."""
+    limited(connection, 100_000)
+    assert asked(connection, "patch", document, json.dumps(COPIES)) == TOO_BIG
+    replaced = {"op": "replace", "path": "", "value": 1}
+    assert asked(connection, "patch", document, json.dumps([*COPIES[:3], replaced])) == [("1",)]
+    assert asked(connection, "patch", document, json.dumps([*COPIES[:13], replaced])) == TOO_BIG
 
 
 def test_small_objects_are_no_bomb(connection):
@@ -179,6 +184,14 @@ def test_codes_part_what_went_wrong(connection):
     said = [asked(connection, export, *texts)[0] for export, texts in (
         ("join", ["1", "2"]), ("patch", ["1", '[{"op":"test","path":"","value":2}]']), ("join", ["["]), ("patch", ["1", "{}"]))]
     assert said == ["SQLITE_CONSTRAINT_FUNCTION", "SQLITE_CONSTRAINT_CHECK", "SQLITE_ERROR", "SQLITE_ERROR"]
+
+
+def test_an_error_undoes_its_statement_and_no_more(connection):
+    connection.isolation_level = None
+    connection.executescript("CREATE TABLE log (patch); INSERT INTO log VALUES ('1'), ('{'); BEGIN; INSERT INTO log VALUES ('2')")
+    for statement in "UPDATE log SET patch = mergejoin_join(patch)", "INSERT INTO log SELECT mergejoin_join(patch) FROM log":
+        assert outcome(connection, statement) == ("SQLITE_ERROR", "patch 0: not JSON")
+    assert connection.in_transaction and outcome(connection, "SELECT patch FROM log") == [("1",), ("{",), ("2",)]
 
 
 @pytest.mark.parametrize("export,texts", itertools.product(["join", "merge", "replay"], [["[" * n + "]" * n, "{}"] for n in (126, 127)]))

@@ -18,6 +18,7 @@ STATEMENTS = [
     "SELECT mergejoin_replay('{\"a\":0}', '{\"a\":{\"b\":null}}'), mergejoin_merge('{}', 1, '{\"c\":\"x\"}')",
     "SELECT mergejoin_rewrite('{\"a\":1}', '{\"a\":null,\"b\":2}'), mergejoin_patch('{}', '[{\"op\":\"add\",\"path\":\"/a\",\"value\":1}]')",
     "SELECT mergejoin_get('{\"a\":[7]}', '/a/0'), mergejoin_get('1', '/a'), mergejoin_is_patch('{'), mergejoin_is_patch(4)",
+    "SELECT mergejoin_is_patch(zeroblob(40)), mergejoin_join(12345678901)",
     "SELECT mergejoin_join('{\"a\":1}', '{\"a\":2}')",
     "SELECT mergejoin_join('{\"a\\n\":1.5}')",
     "SELECT mergejoin_patch('1', '[{\"op\":\"test\",\"path\":\"\",\"value\":2}]')",
