@@ -40,21 +40,18 @@ NEEDS = {
     "libmergejoin1": "libc6 (>= 2.14)",
     "libmergejoin-dev": f"libmergejoin1 (= {VERSION})",
 }
-# The extensions, if what makes them is there.
-SQLITE = None if lacking_sqlite() else "libsqlite3-mod-mergejoin"
-if SQLITE:
-    NEEDS[SQLITE] = "libc6 (>= 2.14), libsqlite3-0 (>= 3.31.0)"
+# The extension, if what makes it is there.
 EXTENSION = None
 if not lacking("includedir-server"):
     SERVER = "postgresql-" + re.findall(r"^PostgreSQL (\d+)", config("version"))[0]
     EXTENSION = f"{SERVER}-mergejoin"
     NEEDS[EXTENSION] = f"{SERVER}, libc6 (>= 2.14)"
+SQLITE = None if lacking_sqlite() else "libsqlite3-mod-mergejoin"
+if SQLITE:
+    NEEDS[SQLITE] = "libc6 (>= 2.14), libsqlite3-0 (>= 3.31.0)"
 DEBS, TAR = {name: f"{name}_{VERSION}_amd64.deb" for name in NEEDS}, f"mergejoin_{VERSION}_amd64.tar.gz"
 # What bin/package makes, in the order in which it is reported.
-MADE = [*DEBS.values(), "SHA256SUMS"]
-MADE.insert(3, TAR)
-if not lacks():
-    MADE.insert(5 if SQLITE else 4, WHEEL)
+MADE = [DEBS.get(it, it) for it in (*list(NEEDS)[:3], TAR, SQLITE, None if lacks() else WHEEL, EXTENSION, "SHA256SUMS") if it]
 
 
 def is_made(ended, directory):

@@ -86,13 +86,15 @@ FRAMES = [f"{kind} BETWEEN {BOUNDS[one]} AND {BOUNDS[other]}" for kind in ("ROWS
 EXCLUDED = ["", " EXCLUDE CURRENT ROW", " EXCLUDE GROUP", " EXCLUDE TIES"]
 
 
+@pytest.mark.parametrize("filtered", ["true", "number % 3"])
 @pytest.mark.parametrize("frame", FRAMES)
-def test_each_frame_is_one_join(connection, log, frame):
+def test_each_frame_is_one_join(connection, log, frame, filtered):
     """SQLite says by a function of its own which rows are in the frame."""
     for excluded in EXCLUDED:
         window = f"(PARTITION BY doc % 40 ORDER BY doc / 40 {frame}{excluded})"
-        query = "SELECT json_group_array(patch) FILTER (WHERE patch IS NOT NULL) OVER it, mergejoin_try_agg(patch) OVER it, " \
-            f"mergejoin_conflict_agg(patch) OVER it FROM log WHERE doc % 40 IN (1, 2) WINDOW it AS {window}"
+        over = f"FILTER (WHERE {filtered}) OVER it"
+        query = f"SELECT json_group_array(patch) FILTER (WHERE patch IS NOT NULL AND {filtered}) OVER it, mergejoin_try_agg(patch) {over}, " \
+            f"mergejoin_conflict_agg(patch) {over} FROM log WHERE doc % 40 IN (1, 2) WINDOW it AS {window}"
         rows = outcome(connection, query)
         assert len(rows) > 40 and [(join, conflict) for _, join, conflict in rows] == [joined(connection, json.loads(it)) for it, _, _ in rows]
 

@@ -2,6 +2,7 @@
 for Python, which contains the library too, and after it was unloaded.
 """
 
+import concurrent.futures
 import re
 import shutil
 import sqlite3
@@ -56,6 +57,20 @@ def test_by_another_name_it_has_no_entry_point(needs, extension, run, tmp_path):
     shutil.copy(extension, tmp_path / "mergejoin.so")
     status, _, err = run(["sqlite3", "-batch", ":memory:"], f".load ./mergejoin\n{JOINED};\n")
     assert status == 1 and "sqlite3_mergejoin_init" in err and "no such function: mergejoin_join" in err
+
+
+def test_threads_have_it_at_once(extension):
+    """Each with connections of its own, of which each loads it."""
+    def joined(number):
+        connection = connected(extension)
+        query = "SELECT mergejoin_agg(json_object('' || value, ?)) FROM json_each('[1,2,3,4,5,6,7,8,9]')"
+        found = {connection.execute(query, [number]).fetchone() for _ in range(100)}
+        connection.close()
+        return found
+
+    wanted = [{("{%s}" % ",".join(f'"{name}":{number}' for name in range(1, 10)),)} for number in range(16)]
+    with concurrent.futures.ThreadPoolExecutor(8) as threads:
+        assert list(threads.map(joined, range(16))) == wanted
 
 
 def test_it_is_loaded_again_after_it_was_unloaded(extension):
