@@ -11,6 +11,10 @@ mergejoin.sqlite.load(connection)
 print(mergejoin.sqlite.path())
 print(*connection.execute("SELECT mergejoin_join('1', 1)").fetchone())
 try:
+    mergejoin.sqlite.load(object())
+except sqlite3.NotSupportedError as error:
+    print(error)
+try:
     connection.load_extension("another")
 except sqlite3.OperationalError as error:
     print(error)
@@ -31,9 +35,9 @@ except FileNotFoundError as error:
 def test_the_package_loads_its_own(python, tmp_path):
     status, out, err = run(tmp_path, python, "-I", "-W", "error", "-c", LOADED)
     assert (status, err) == (0, "")
-    path, joined, refused, conflict = out.splitlines()
+    path, joined, other, refused, conflict = out.splitlines()
     assert path.startswith(str(python.parents[1])) and path.endswith(f"/mergejoin/lib/{NAME}") and joined == "1"
-    assert refused == "not authorized"
+    assert other == "this Python's sqlite3 loads no extensions" and refused == "not authorized"
     assert conflict == 'conflict: patches 0 and 1: [""] SQLITE_CONSTRAINT_FUNCTION 1'
 
 
