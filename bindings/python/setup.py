@@ -1,5 +1,6 @@
 """Builds the extension module of the package, with the library for C in it: libmergejoin.a of out/lib, where bin/library makes it, or of
-the directory that MERGEJOIN_LIB names. What else there is to say of the package stands in pyproject.toml.
+the directory that MERGEJOIN_LIB names. The extension for SQLite is packed too if it was made: in bindings/sqlite, or as MERGEJOIN_SQLITE
+names it. What else there is to say of the package stands in pyproject.toml.
 """
 
 import importlib.util
@@ -17,18 +18,23 @@ if not any(map(importlib.util.find_spec, ("setuptools.command.bdist_wheel", "whe
 HERE = pathlib.Path(__file__).resolve().parent
 LIBRARY, HEADER = "libmergejoin.a", "mergejoin.h"
 LIBRARIES = pathlib.Path(os.environ.get("MERGEJOIN_LIB") or HERE / "../../out/lib").resolve()
+SQLITE = pathlib.Path(os.environ.get("MERGEJOIN_SQLITE") or HERE / "../sqlite/mergejoin_sqlite.so").resolve()
 # Where the header is next to the library: as bin/library makes it, or as it is installed.
 HEADERS = [LIBRARIES.parent / "include", LIBRARIES.parents[1] / "include"]
 
 
 class WithLibrary(build_ext):
-    """Looks first that the library and its header are there."""
+    """Looks first that the library and its header are there. In a directory that is no module is what SQLite loads."""
 
     def run(self):
         for name, places in ((LIBRARY, [LIBRARIES]), (HEADER, HEADERS)):
             if not any((place / name).is_file() for place in places):
                 raise SystemExit(f"there is no {name}: bin/library makes it, and MERGEJOIN_LIB may name the directory of {LIBRARY}")
         super().run()
+        if SQLITE.is_file():
+            directory = pathlib.Path(self.get_ext_fullpath(MODULE.name)).parent / "lib"
+            self.mkpath(str(directory))
+            self.copy_file(str(SQLITE), str(directory / SQLITE.name))
 
 
 MODULE = Extension(

@@ -2,6 +2,7 @@
 the Rattle, `rt ci` holds the layout of `rt fmt`.
 """
 
+import pathlib
 import sysconfig
 
 import pytest
@@ -51,8 +52,9 @@ def what_runs_a_linter(needs):
 
 
 @pytest.fixture(name="headers", scope="session")
-def headers_of_a_server_and_of_python(says):
-    """Where the headers of a PostgreSQL server and of Python are."""
+def headers_of_a_server_and_of_python(needs, says):
+    """Where the headers of a PostgreSQL server and of Python are. Those of SQLite are where the compiler looks."""
+    needs(lacking=None if pathlib.Path("/usr/include/sqlite3ext.h").exists() else "not installed: libsqlite3-dev")
     return ["-isystem", says("pg_config", "--includedir-server").strip(), "-isystem", sysconfig.get_path("include")]
 
 

@@ -1,7 +1,8 @@
 """bin/package makes the packages twice, by other masks, times and directories, and they have the same bytes. Each .deb and the
 .tar.gz are unpacked into fresh roots, where what was installed is run with nothing of the repository on the PATH. With the library
 of each a program in C is linked by what pkg-config and CMake find of it, and run. The wheel is installed in a virtual environment,
-where its functions are called, the extension for PostgreSQL is run in a server of its own, and lintian looks at each .deb.
+where its functions are called, the extension for PostgreSQL is run in a server of its own, that for SQLite is loaded from both, and
+lintian looks at each .deb.
 """
 
 import gzip
@@ -17,6 +18,9 @@ from calls import PROGRAM, TOP
 from installed import INSTALLED, copies
 from package import VERSION, WHEEL, environment, lacks
 from server import config, lacking, running
+from sqlite_extension import NAME as MODULE
+from sqlite_extension import connected
+from sqlite_extension import lacking as lacking_sqlite
 
 PACKAGE, SHARED = TOP / "bin/package", TOP / "out/lib/libmergejoin.so.1"
 TREE = f"mergejoin-{VERSION}"  # in the .tar.gz
@@ -43,10 +47,12 @@ if not lacking("includedir-server"):
     SERVER = "postgresql-" + re.findall(r"^PostgreSQL (\d+)", config("version"))[0]
     EXTENSION = f"{SERVER}-mergejoin"
     NEEDS[EXTENSION] = f"{SERVER}, libc6 (>= 2.14)"
+SQLITE = None if lacking_sqlite() else "libsqlite3-mod-mergejoin"
+if SQLITE:
+    NEEDS[SQLITE] = "libc6 (>= 2.14), libsqlite3-0 (>= 3.31.0)"
 DEBS, TAR = {name: f"{name}_{VERSION}_amd64.deb" for name in NEEDS}, f"mergejoin_{VERSION}_amd64.tar.gz"
 # What bin/package makes, in the order in which it is reported.
-MADE = [*DEBS.values(), "SHA256SUMS"]
-MADE[3:3] = [TAR] if lacks() else [TAR, WHEEL]
+MADE = [DEBS.get(it, it) for it in (*list(NEEDS)[:3], TAR, SQLITE, None if lacks() else WHEEL, EXTENSION, "SHA256SUMS") if it]
 
 
 def is_made(ended, directory, *more):
@@ -133,6 +139,9 @@ def files_of_debs():
     files = {"mergejoin": copies(program),
              "libmergejoin1": {f"{FOLDER}/libmergejoin.so.1": placed.pop(f"{FOLDER}/libmergejoin.so.1")},
              "libmergejoin-dev": {**placed, **copies({"share/doc/libmergejoin-dev/LIBRARIES.md": "docs/LIBRARIES.md"})}}
+    if SQLITE:
+        files[SQLITE] = copies({f"share/doc/{SQLITE}/SQLITE.md": "docs/SQLITE.md",
+                                f"share/doc/{SQLITE}/examples/replica.py": "bindings/sqlite/replica.py"})
     if EXTENSION:
         sources, page = TOP / "bindings/postgresql", {f"share/doc/{EXTENSION}/POSTGRESQL.md": "docs/POSTGRESQL.md"}
         parts = {"mergejoin.control": sources / "mergejoin.control", f"mergejoin--{SHORT}.sql": sources / "sql/mergejoin.sql"}
@@ -143,8 +152,10 @@ def files_of_debs():
 def others_of(name):
     """Gives the files of a .deb that are made for Debian alone, or built of the extension's sources."""
     yield from (f"share/doc/{name}/changelog.gz", f"share/doc/{name}/copyright")
-    if name in ("mergejoin", "libmergejoin1"):
+    if name in ("mergejoin", "libmergejoin1", SQLITE):
         yield f"share/lintian/overrides/{name}"
+    if name == SQLITE:
+        yield f"{FOLDER}/{MODULE}"
     if name == EXTENSION:
         yield config("pkglibdir").removeprefix("/usr/") + "/mergejoin.so"
         yield f"{PLACE}/mergejoin--0.2--{SHORT}.sql"
@@ -266,6 +277,23 @@ def test_the_extension_runs_in_a_server_into_whose_directory_it_is_unpacked(need
         unpack(one / DEBS[EXTENSION], server.root)
         given = "CREATE EXTENSION mergejoin;\nSELECT mergejoin_agg(patch) FROM (VALUES ('1'::json), ('1')) AS log (patch);\n"
         assert server.ask(given) == "1\n"
+
+
+JOINED = "SELECT mergejoin_agg(column1) FROM (VALUES ('{\"a\":1}'), ('{\"b\":null}'))"
+
+
+def test_the_extension_for_sqlite_is_loaded_from_its_package(needs, one, tmp_path):
+    needs(lacking=lacking_sqlite())
+    unpack(one / DEBS[SQLITE], tmp_path)
+    assert connected(tmp_path / "usr" / FOLDER / MODULE).execute(JOINED).fetchall() == [('{"a":1,"b":null}',)]
+
+
+def test_the_wheel_has_the_extension_for_sqlite(needs, one, run, tmp_path):
+    needs(lacking=lacks() or lacking_sqlite())
+    python = environment(tmp_path, one / WHEEL)
+    program = f"import sqlite3, mergejoin.sqlite as it\nc = sqlite3.connect('')\nit.load(c)\nprint(it.path(), *c.execute({JOINED!r}).fetchone())"
+    status, out, err = run([python, "-I", "-B", "-c", program], setting={"PATH": "/usr/bin:/bin"})
+    assert (status, err) == (0, "") and out.startswith(f"{tmp_path}/env/") and out.endswith(f'/mergejoin/lib/{MODULE} {{"a":1,"b":null}}\n')
 
 
 def test_lintian_finds_no_error(needs, one, run):

@@ -143,8 +143,16 @@ def groups_with_a_text_that_is_no_patch(server):
     return range(len(groups))
 
 
+@pytest.mark.parametrize("plan", PLANS)
+def test_two_patches_of_a_group_that_conflict_are_reported(server, outcomes, plan):
+    conflicting = ", ".join(str(document) for document, (join, _) in enumerate(outcomes) if not join)
+    query = "SELECT document, mergejoin_agg({}) FROM log WHERE document IN ({}) GROUP BY document;\n"
+    for patch in ("patch", "patch::jsonb"):
+        assert server.ask(PLANS[plan][0] + query.format(patch, conflicting), "-v", "VERBOSITY=sqlstate") == "ERROR:  MJ001\n"
+
+
 @pytest.mark.parametrize("aggregate", AGGREGATES)
-@pytest.mark.parametrize("plan", ["hashing", "one_worker", "four_workers"])
+@pytest.mark.parametrize("plan", PLANS)
 def test_a_text_that_is_no_patch_is_reported(server, wrong, plan, aggregate):
     given = "".join(f"SELECT {aggregate} FROM wrong WHERE document = {document};\n" for document in wrong)
     seen = server.ask(PLANS[plan][0] + given, "-v", "VERBOSITY=sqlstate").splitlines()

@@ -1,0 +1,114 @@
+/*
+ * The functions: each makes one call, which borrows its arguments.
+ */
+#include "calls.h"
+
+SQLITE_EXTENSION_INIT3
+
+/* The library limits what a result of a JSON Patch, and a rewriting, take in memory: small objects take at most about so many bytes for
+ * a byte of their text. */
+#define WEIGHT 650
+
+/* A function that makes a call with texts. */
+typedef struct Function {
+  const char *name;
+  int count; /* of its arguments, or -1 for any number */
+  int least; /* of these */
+  char *(*call)(const mergejoin_text *texts, size_t count, size_t limit, mergejoin_reply *reply);
+} Function;
+
+static char *join(const mergejoin_text *texts, size_t count, size_t limit, mergejoin_reply *reply) {
+  return mergejoin_join_new(texts, count, limit, reply);
+}
+
+static char *replay(const mergejoin_text *texts, size_t count, size_t limit, mergejoin_reply *reply) {
+  return mergejoin_replay_new(texts->bytes, texts->length, texts + 1, count - 1, limit, reply);
+}
+
+static char *merge(const mergejoin_text *texts, size_t count, size_t limit, mergejoin_reply *reply) {
+  return mergejoin_merge_new(texts->bytes, texts->length, texts + 1, count - 1, limit, reply);
+}
+
+static char *rewrite(const mergejoin_text *texts, size_t count, size_t limit, mergejoin_reply *reply) {
+  limit += WEIGHT * mergejoin_lengths_(0, texts, count);
+  return mergejoin_rewrite_new(texts[0].bytes, texts[0].length, texts[1].bytes, texts[1].length, limit, reply);
+}
+
+static char *patch(const mergejoin_text *texts, size_t count, size_t limit, mergejoin_reply *reply) {
+  limit += WEIGHT * mergejoin_lengths_(0, texts, count);
+  return mergejoin_patch_new(texts[0].bytes, texts[0].length, texts[1].bytes, texts[1].length, limit, reply);
+}
+
+static char *get(const mergejoin_text *texts, size_t count, size_t limit, mergejoin_reply *reply) {
+  (void)count;
+  return mergejoin_get_new(texts[0].bytes, texts[0].length, texts[1].bytes, texts[1].length, limit, reply);
+}
+
+static const Function functions[] = {
+    {"mergejoin_join", -1, 0, join},       {"mergejoin_replay", -1, 1, replay}, {"mergejoin_merge", -1, 1, merge},
+    {"mergejoin_rewrite", 2, 2, rewrite}, {"mergejoin_patch", 2, 2, patch},    {"mergejoin_get", 2, 2, get},
+};
+
+/* Makes the call with texts, and gives what it returns. What is missing is NULL. */
+static void make_call(sqlite3_context *context, const Function *function, const mergejoin_text *texts, size_t count) {
+  mergejoin_reply reply;
+  char *text = function->call(texts, count, longest(context), &reply);
+
+  if (text && reply.status == MERGEJOIN_RESULT) {
+    give(context, text, reply.length, free);
+    return;
+  }
+  if (!text || reply.status != MERGEJOIN_MISSING) refuse(context, text, &reply, false);
+  free(text);
+}
+
+/* Calls with the arguments, unless one is NULL. */
+static void call(sqlite3_context *context, int count, sqlite3_value **values) {
+  const Function *function = sqlite3_user_data(context);
+  mergejoin_text *texts;
+  bool is_borrowed = true;
+
+  if (count < function->least) {
+    char *message = sqlite3_mprintf("wrong number of arguments to function %s()", function->name);
+    sqlite3_result_error(context, message, -1);
+    sqlite3_free(message);
+    return;
+  }
+  for (int number = 0; number < count; number += 1)
+    if (sqlite3_value_type(values[number]) == SQLITE_NULL) return;
+  texts = sqlite3_malloc64(sizeof *texts * ((size_t)count + 1));
+  for (int number = 0; texts && number < count; number += 1) is_borrowed = borrow(values[number], &texts[number]) && is_borrowed;
+  if (texts && is_borrowed)
+    make_call(context, function, texts, (size_t)count);
+  else
+    sqlite3_result_error_nomem(context);
+  sqlite3_free(texts);
+}
+
+/* Whether a text is a patch, that is, a document. Of its join no byte is wanted. */
+static void is_patch(sqlite3_context *context, int count, sqlite3_value **values) {
+  mergejoin_text text;
+  mergejoin_reply reply;
+
+  (void)count;
+  if (sqlite3_value_type(values[0]) == SQLITE_NULL) return;
+  if (!borrow(values[0], &text)) {
+    sqlite3_result_error_nomem(context);
+    return;
+  }
+  reply = mergejoin_join(&text, 1, NULL, 0, 0);
+  if (reply.status == MERGEJOIN_NO_MEMORY)
+    sqlite3_result_error_nomem(context);
+  else
+    sqlite3_result_int(context, reply.status != MERGEJOIN_PATCH);
+}
+
+int add_functions(sqlite3 *db) {
+  int status = sqlite3_create_function_v2(db, "mergejoin_is_patch", 1, FUNCTION_FLAGS, NULL, is_patch, NULL, NULL, NULL);
+
+  for (size_t number = 0; status == SQLITE_OK && number < sizeof functions / sizeof *functions; number += 1) {
+    const Function *function = &functions[number];
+    status = sqlite3_create_function_v2(db, function->name, function->count, FUNCTION_FLAGS, (void *)function, call, NULL, NULL, NULL);
+  }
+  return status;
+}
