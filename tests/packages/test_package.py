@@ -39,6 +39,7 @@ NEEDS = {
     "mergejoin": "libc6 (>= 2.34)",
     "libmergejoin1": "libc6 (>= 2.14)",
     "libmergejoin-dev": f"libmergejoin1 (= {VERSION})",
+    "mergejoin-doc": "",
 }
 # The extension, if what makes it is there, and where its scripts are.
 EXTENSION = None
@@ -50,9 +51,9 @@ if not lacking("includedir-server"):
 SQLITE = None if lacking_sqlite() else "libsqlite3-mod-mergejoin"
 if SQLITE:
     NEEDS[SQLITE] = "libc6 (>= 2.14), libsqlite3-0 (>= 3.31.0)"
-DEBS, TAR = {name: f"{name}_{VERSION}_amd64.deb" for name in NEEDS}, f"mergejoin_{VERSION}_amd64.tar.gz"
+DEBS, TAR = {name: f"{name}_{VERSION}_{'amd64' if need else 'all'}.deb" for name, need in NEEDS.items()}, f"mergejoin_{VERSION}_amd64.tar.gz"
 # What bin/package makes, in the order in which it is reported.
-MADE = [DEBS.get(it, it) for it in (*list(NEEDS)[:3], TAR, SQLITE, None if lacks() else WHEEL, EXTENSION, "SHA256SUMS") if it]
+MADE = [DEBS.get(it, it) for it in (*list(NEEDS)[:3], TAR, "mergejoin-doc", SQLITE, None if lacks() else WHEEL, EXTENSION, "SHA256SUMS") if it]
 
 
 def is_made(ended, directory, *more):
@@ -129,6 +130,12 @@ def unpack(package, root):
     assert calls.run(words) == (0, "", "")
 
 
+def pages():
+    """Gives each page and figure, and the licence, to which pages lead."""
+    where = ("*.md", "LICENSE", "docs/*.md", "docs/*/*.svg", "crates/*/README.md", "bindings/*/README.md")
+    return [str(path.relative_to(TOP)) for pattern in where for path in TOP.glob(pattern)]
+
+
 def files_of_debs():
     """Gives the files of each .deb that are in the sources and in the library."""
     placed = {name.replace("lib/", f"{FOLDER}/"): data for name, data in {**copies(LIBRARY), **LINKED}.items()}
@@ -137,6 +144,7 @@ def files_of_debs():
     placed[found] = placed[found].replace(b"/../include", b"/../../include")
     program = {name.replace("site-functions", "vendor-completions"): source for name, source in INSTALLED.items() if source != "LICENSE"}
     files = {"mergejoin": copies(program),
+             "mergejoin-doc": copies({f"share/doc/mergejoin-doc/{page}": page for page in pages()}),
              "libmergejoin1": {f"{FOLDER}/libmergejoin.so.1": placed.pop(f"{FOLDER}/libmergejoin.so.1")},
              "libmergejoin-dev": {**placed, **copies({"share/doc/libmergejoin-dev/LIBRARIES.md": "docs/LIBRARIES.md"})}}
     if SQLITE:
@@ -176,6 +184,14 @@ def has_files(below, wanted, others):
 
 def test_the_program_wants_no_python(one, run):
     assert run(["dpkg-deb", "-f", one / DEBS["mergejoin"], "Recommends"]) == (0, "python3\n", "")
+
+
+def test_the_links_of_all_pages_lead_to_pages(one, tmp_path):
+    """But those into the sources."""
+    unpack(one / DEBS["mergejoin-doc"], tmp_path)
+    for page in tmp_path.rglob("*.md"):
+        for target in re.findall(r"\]\(([^)#:]+\.(?:md|svg))[#)]", page.read_text("utf-8")):
+            assert (page.parent / target).exists(), f"{page.name} leads to {target}"
 
 
 @pytest.mark.parametrize("name", NEEDS)

@@ -41,6 +41,14 @@ def test_six_install_at_once(prefix):
     prefix.has_all()
 
 
+def test_the_second_waits_for_the_first(prefix):
+    """So that no file is of the one and another of the other, whatever they install."""
+    line = f'mkdir -p {prefix.path}; flock {prefix.path} sleep 2 & sleep 0.5; "${{0%/*}}/install" {prefix.path}'
+    status, _, err = prefix.copy.run(line)
+    assert (status, err) == (0, f"mergejoin: waiting for another that writes to {prefix.path} ..\n")
+    prefix.has_all()
+
+
 UNSAID = "mergejoin: all is installed, but standard output can't be written to\n"
 
 
