@@ -2,7 +2,7 @@
 # How bin/prove, bin/library, bin/install and bin/package make what others take: in an environment that changes nothing of it. Files are made
 # whole in a private directory next to their places, and then all are put there, or none.
 
-# All that may be set where something is made; what is not here is unset.
+# All that may be set where something is made, next to the toolchain's own settings; what is not here is unset.
 allowed=(HOME LC_ALL LOGNAME OLDPWD PATH PWD SHLVL SSH_AUTH_SOCK TMPDIR TZ USER _)
 
 # A directory for temporary files whose path make and each shell take as it is: that of TMPDIR, or else another.
@@ -15,14 +15,13 @@ plain_tmpdir() {
   return 1
 }
 
+# The names of what is set, and may be.
+kept_names() { compgen -e | grep -xE "$(IFS='|' && printf '%s' "${allowed[*]}")|(RT|RATTLE)_.*"; }
+
 # Whether a function or a variable is exported that may not be, or one has another value than it has to.
 is_strange() {
-  local name
-  [[ ${LC_ALL-} == C && ${TZ-} == UTC && -z $(declare -Fx) ]] || return 0
-  for name in $(compgen -e); do
-    [[ " ${allowed[*]} " == *" $name "* ]] || return 0
-  done
-  [[ ${TMPDIR-} != "$1" ]]
+  [[ ${LC_ALL-} == C && ${TZ-} == UTC && ${TMPDIR-} == "$1" && -z $(declare -Fx) && $(compgen -e) == "$(kept_names)" ]] || return 0
+  return 1
 }
 
 # Goes on with what is allowed alone, by running the script anew if something else is set. It is given the script's arguments.
@@ -31,9 +30,7 @@ clean_environment() {
   umask 022
   directory=$(plain_tmpdir) || exit
   is_strange "$directory" || return 0
-  for name in "${allowed[@]}"; do
-    if [[ -n ${!name-} ]]; then kept+=("$name=${!name}"); fi
-  done
+  for name in $(kept_names); do kept+=("$name=${!name}"); done
   exec env -i "${kept[@]}" LC_ALL=C TZ=UTC TMPDIR="$directory" "$BASH" -- "${BASH_SOURCE[-1]}" "$@"
 }
 
