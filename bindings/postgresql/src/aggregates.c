@@ -46,15 +46,6 @@ static text *text_of(Group *group, OfPatches call) {
   return reply.status == MERGEJOIN_RESULT ? value : NULL;
 }
 
-/* Returns whether a text that was refused for memory conflicts with the join: at more places than there is memory for. */
-static bool is_conflict(Group *group, mergejoin_text given) {
-  text *joined = text_of(group, mergejoin_patches_text);
-  mergejoin_text texts[] = {given, joined ? borrowed(joined) : given};
-  Request request = {.export = EXPORT_JOIN, .texts = texts, .count = lengthof(texts)};
-
-  return answer_of(&request).reply.status == MERGEJOIN_CONFLICT;
-}
-
 /* Makes the state that two patches conflict, and frees what there was. */
 static void keep_conflict(Group *group) {
   const mergejoin_text kept = mergejoin_text_of(CONFLICT, strlen(CONFLICT));
@@ -65,7 +56,7 @@ static void keep_conflict(Group *group) {
     refuse_for_memory(&group->memory);
 }
 
-/* Takes a text. Of the places of a conflict one is left. */
+/* Takes a text. Of the places of a conflict one is left, and there may be no memory for all of them. */
 static void take(Group *group, mergejoin_text text) {
   uint8_t words[WORDS];
   mergejoin_reply reply;
@@ -74,7 +65,7 @@ static void take(Group *group, mergejoin_text text) {
   reply = mergejoin_patches_add(&group->patches, text.bytes, text.length, words, WORDS, WORDS);
   if (reply.status == MERGEJOIN_PATCH) refuse_patch(text);
   if (reply.status == MERGEJOIN_PENDING) refuse_for_memory(&group->memory);
-  if (reply.status == MERGEJOIN_NO_MEMORY && !(group->memory.is_over && is_conflict(group, text)))
+  if (reply.status == MERGEJOIN_NO_MEMORY && !(group->memory.is_over && conflict(text_of(group, mergejoin_patches_text), text)))
     refuse_for_memory(&group->memory);
   if (reply.status == MERGEJOIN_NO_MEMORY || reply.total > 1) keep_conflict(group);
   group->length += text.length;
@@ -85,12 +76,10 @@ static Group *group_of(FunctionCallInfo fcinfo, int number, bool is_made) {
   MemoryContext context;
   Group *group = PG_ARGISNULL(number) ? NULL : (Group *)PG_GETARG_POINTER(number);
 
-  if (!AggCheckCallContext(fcinfo, &context))
-    ereport(ERROR, errcode(ERRCODE_FEATURE_NOT_SUPPORTED), errmsg("this function is for an aggregate to call"));
-  if (!group && is_made) {
-    group = MemoryContextAllocZero(context, sizeof(Group));
-    group->memory.context = context;
-  }
+  if (!AggCheckCallContext(fcinfo, &context)) refuse_caller();
+  if (group || !is_made) return group;
+  group = MemoryContextAllocZero(context, sizeof(Group));
+  group->memory.context = context;
   return group;
 }
 

@@ -79,6 +79,11 @@ void refuse_group(void) {
           errhint("mergejoin_conflict_agg(patch ORDER BY ..) returns the first two, and where they conflict."));
 }
 
+/* Raises that a part of an aggregate is called by itself. */
+void refuse_caller(void) {
+  ereport(ERROR, errcode(ERRCODE_FEATURE_NOT_SUPPORTED), errmsg("this function is for an aggregate to call"));
+}
+
 /* Raises that a result is longer than a value can be. */
 void refuse_length(size_t length) {
   ereport(ERROR, errcode(ERRCODE_PROGRAM_LIMIT_EXCEEDED), errmsg("the result is longer than a value can be"),
