@@ -117,7 +117,7 @@ def test_only_who_may_changes_the_memory_of_a_call(server):
 
 # A call that takes long, and little memory: it copies the same value to one place again and again.
 LONG = """SELECT length(mergejoin_patch(json_build_object('a', (SELECT json_agg(n) FROM generate_series(1, 100000) AS n)),
-  (SELECT json_agg(json_build_object('op', 'copy', 'from', '/a', 'path', '/b')) FROM generate_series(1, 50000)))::text)"""
+  (SELECT json_agg(json_build_object('op', 'copy', 'from', '/a', 'path', '/b')) FROM generate_series(1, 10000)))::text)"""
 
 
 def test_a_long_call_ends_soon_after_a_timeout(server):
