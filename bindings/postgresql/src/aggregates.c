@@ -40,7 +40,7 @@ static text *text_of(Group *group, OfPatches call) {
     prepare_call(&group->memory);
     reply = call(&group->patches, (uint8_t *)VARDATA(value), size, LONGEST);
     if (reply.status == MERGEJOIN_NO_MEMORY) refuse_for_memory(&group->memory);
-    if (reply.status == MERGEJOIN_TOO_LARGE) refuse_length(LONGEST);
+    if (reply.status == MERGEJOIN_TOO_LARGE) refuse_length();
   } while (reply.length > size);
   SET_VARSIZE(value, VARHDRSZ + reply.length);
   return reply.status == MERGEJOIN_RESULT ? value : NULL;

@@ -126,7 +126,7 @@ Answer answer_of(const Request *request) {
     answer.reply = called_in_memory(request, &memory, (uint8_t *)VARDATA(answer.value), size);
     wanted = wanted_length(request, &answer.reply);
     if (wanted <= size) break;
-    if (wanted > LONGEST) refuse_length(wanted);
+    if (wanted > LONGEST) refuse_length();
     size = wanted;
     pfree(answer.value);
   }

@@ -30,19 +30,27 @@ static size_t end_of_string(const char *bytes, size_t length, size_t offset) {
 }
 
 /*
- * Appends the first places of a conflict as a JSON array: so many at most, of so many bytes together. The text of the answer has
- * all of them, or as many as were wanted, and the last one may be cut. Returns how many are appended.
+ * Returns how many places of a conflict are among the first ones, so many at most, of so many bytes together; *end is where they end in
+ * the text of the answer. That has all of them, or as many as were wanted, and the last one may be cut.
  */
-size_t append_places(StringInfo list, const Answer *answer, size_t most, size_t longest) {
+size_t first_places(const Answer *answer, size_t most, size_t longest, size_t *end) {
   const char *bytes = VARDATA(answer->value);
-  size_t length = Min(VARSIZE(answer->value) - VARHDRSZ, longest), end = 0, next, count = 0;
+  size_t length = Min(VARSIZE(answer->value) - VARHDRSZ, longest), next, count = 0;
 
-  while (count < most && end + 1 < length && bytes[end + 1] == '"' && (next = end_of_string(bytes, length, end + 1)) != 0) {
-    end = next;
+  *end = 0;
+  while (count < most && *end + 1 < length && bytes[*end + 1] == '"' && (next = end_of_string(bytes, length, *end + 1)) != 0) {
+    *end = next;
     count += 1;
   }
+  return count;
+}
+
+/* Appends these places as a JSON array, and returns how many they are. */
+size_t append_places(StringInfo list, const Answer *answer, size_t most, size_t longest) {
+  size_t end, count = first_places(answer, most, longest, &end);
+
   appendStringInfoChar(list, '[');
-  if (count > 0) appendBinaryStringInfo(list, bytes + 1, (int)(end - 1));
+  if (count > 0) appendBinaryStringInfo(list, VARDATA(answer->value) + 1, (int)(end - 1));
   appendStringInfoChar(list, ']');
   return count;
 }
@@ -85,9 +93,9 @@ void refuse_caller(void) {
 }
 
 /* Raises that a result is longer than a value can be. */
-void refuse_length(size_t length) {
+void refuse_length(void) {
   ereport(ERROR, errcode(ERRCODE_PROGRAM_LIMIT_EXCEEDED), errmsg("the result is longer than a value can be"),
-          errdetail("It has %zu bytes.", length));
+          errdetail("It has more than %zu bytes.", (size_t)LONGEST));
 }
 
 /* Raises that two patches conflict at more places than a call may list. */

@@ -94,12 +94,11 @@ Datum mergejoin_sql_conflicts(PG_FUNCTION_ARGS) {
   mergejoin_text texts[] = {text_of_argument(fcinfo, 0), text_of_argument(fcinfo, 1)};
   Request request = {.export = EXPORT_JOIN, .texts = texts, .count = lengthof(texts), .places = allowed_memory()};
   Answer answer = answer_of(&request);
-  StringInfoData list;
+  size_t end;
 
   if (answer.reply.status == MERGEJOIN_RESULT) return returned(fcinfo, cstring_to_text("[]"));
   if (answer.reply.status != MERGEJOIN_CONFLICT) refuse(&answer);
-  initStringInfo(&list);
-  if (append_places(&list, &answer, SIZE_MAX, SIZE_MAX) < answer.reply.total) refuse_places(answer.reply.total);
+  if (first_places(&answer, SIZE_MAX, SIZE_MAX, &end) < answer.reply.total) refuse_places(answer.reply.total);
   return returned(fcinfo, answer.value);
 }
 
