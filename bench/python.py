@@ -1,5 +1,5 @@
 #!/usr/bin/env python3
-"""Prints the table of docs/LIBRARIES.md of the package for Python next to Python alone: the same over json, in fifteen lines.
+"""Prints the table of docs/FROM-PYTHON.md of the package for Python next to Python alone: the same over json, in fifteen lines.
 
     PYTHONPATH=FOLDER /usr/bin/python3 bench/python.py
 

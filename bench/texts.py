@@ -1,6 +1,6 @@
 #!/usr/bin/env python3
-"""Prints the tables of docs/LIBRARIES.md: what a call of the library takes for each byte that it reads, in time and in memory; and
-what a patch takes in Python, joined in three ways:
+"""Prints tables of two pages. Of docs/FROM-C.md: what a call of the library takes for each byte that it reads, in time and in memory.
+Of docs/FROM-PYTHON.md: what a patch takes in Python, joined in three ways:
 
     PYTHONPATH=FOLDER /usr/bin/python3 bench/texts.py
 

@@ -1,5 +1,5 @@
 """The header as C99, C11, C17 and C++17 with all warnings of two compilers, and its helpers called (header.c); the names that it
-declares and the libraries export; and each program of docs/LIBRARIES.md and of docs/REPLICAS.md prints what the page
+declares and the libraries export; and each program of docs/FROM-C.md prints what the page
 shows below it.
 """
 
@@ -16,8 +16,7 @@ ALL = ["-Weverything", "-Wno-padded", "-Wold-style-cast", "-Wno-c++98-compat-ped
 STANDARDS = [[compiler, f"-std={standard}", *more, *OF_C] for standard in ("c99", "c11", "c17")
              for compiler, more in (("gcc", ["-O0"]), ("gcc", ["-O2", "-flto"]), ("clang", ALL))]
 STANDARDS += [["g++", "-std=c++17", *OF_CXX, "-Wuseless-cast", "-x", "c++"], ["clang++", "-std=c++17", *OF_CXX, *ALL, "-x", "c++"]]
-EXAMPLES = [found for page in ("LIBRARIES", "REPLICAS")
-            for found in re.findall(r"^```c\n(.*?)^```$.*?^```text\n(.*?)^```$", (TOP / f"docs/{page}.md").read_text("utf-8"), re.M | re.S)]
+EXAMPLES = re.findall(r"^```c\n(.*?)^```$.*?^```text\n(.*?)^```$", (TOP / "docs/FROM-C.md").read_text("utf-8"), re.M | re.S)
 
 
 @pytest.mark.parametrize("library_of", ["static", "pkg-config"])

@@ -146,7 +146,7 @@ def files_of_debs():
     files = {"mergejoin": copies(program),
              "mergejoin-doc": copies({f"share/doc/mergejoin-doc/{page}": page for page in pages()}),
              "libmergejoin1": {f"{FOLDER}/libmergejoin.so.1": placed.pop(f"{FOLDER}/libmergejoin.so.1")},
-             "libmergejoin-dev": {**placed, **copies({"share/doc/libmergejoin-dev/LIBRARIES.md": "docs/LIBRARIES.md"})}}
+             "libmergejoin-dev": {**placed, **copies({"share/doc/libmergejoin-dev/FROM-C.md": "docs/FROM-C.md"})}}
     if SQLITE:
         files[SQLITE] = copies({f"share/doc/{SQLITE}/SQLITE.md": "docs/SQLITE.md",
                                 f"share/doc/{SQLITE}/examples/replica.py": "bindings/sqlite/replica.py"})
@@ -203,7 +203,7 @@ def test_a_deb_has_its_part_and_says_what_it_needs(one, run, tmp_path, name):
 
 def test_the_tar_has_all_of_it(one, tmp_path):
     unpack(one / TAR, tmp_path)
-    pages = {"share/doc/mergejoin/LIBRARIES.md": "docs/LIBRARIES.md"}
+    pages = {"share/doc/mergejoin/FROM-C.md": "docs/FROM-C.md"}
     has_files(tmp_path / TREE, {**copies({**INSTALLED, **LIBRARY, **pages}), **LINKED}, ())
 
 
@@ -241,8 +241,8 @@ def test_the_man_page_is_shown(needs, unpacked, run):
 
 @pytest.fixture(name="shown")
 def what_the_page_shows(tmp_path):
-    """The output that docs/LIBRARIES.md shows of its program in C, which becomes replica.c."""
-    page = (TOP / "docs/LIBRARIES.md").read_text("utf-8")
+    """The output that docs/FROM-C.md shows of its program in C, which becomes replica.c."""
+    page = (TOP / "docs/FROM-C.md").read_text("utf-8")
     source, shown = (re.search(rf"^```{kind}\n(.*?)^```$", page, re.M | re.S)[1] for kind in ("c", "text"))
     (tmp_path / "replica.c").write_text(source, "utf-8")
     return shown

@@ -4,7 +4,7 @@ An example is a block that begins with a line ```console. Its lines that begin w
 command are what it prints on standard output and standard error together. A command that ends with a backslash goes on in the
 next line, which may begin with '> '. One bash runs the commands of a block, in order and with no standard input, so `$ echo $?`
 shows the status of the command before it. And one runs those of a page once more, as someone does who follows the page in one
-terminal. They find the scripts and the program, and have an out/demo of their own.
+terminal. They find the scripts and the program, by their names when they are installed too, and have a directory of their own.
 
 Not run: the command bin/test, and blocks that are marked otherwise, as ```console not-run.
 
@@ -24,7 +24,8 @@ PAGES = ["README.md",
 # A command with the lines that it goes on in, and what stands below it.
 STEP = re.compile(r"^\$ ((?:.*\\\n)*.*\n)((?:(?!\$ ).*\n)*)", re.M)
 # Shows a command as the page does, and leaves $? as it was.
-PRELUDE = 'exec 2>&1\nshow() { local status=$?; printf "%s" "$1"; return $status; }\n'
+PRELUDE = 'exec 2>&1\nPATH=$PWD/installed:$PATH\nshow() { local status=$?; printf "%s" "$1"; return $status; }\n'
+INSTALLED = {"mergejoin": "out/mergejoin", **{f"mergejoin-{name}": f"bin/{name}" for name in ("conflicts", "feed", "locate")}}
 SOURCES = {"rust": "crates/*/src/**/*.rt", "antt": "crates/*/*/**/*.antt", "crates": "crates.txt"}
 
 
@@ -47,6 +48,9 @@ def what_runs_an_example(program, run, tmp_path):
     for path in [program, *(TOP / "bin").iterdir()]:
         (tmp_path / path.relative_to(TOP)).parent.mkdir(exist_ok=True)
         (tmp_path / path.relative_to(TOP)).symlink_to(path)
+    (tmp_path / "installed").mkdir()
+    for name, path in INSTALLED.items():
+        (tmp_path / "installed" / name).symlink_to(TOP / path)
 
     def prints(example):
         assert STEP.sub("", example) == "", "the first line of an example is no command"
@@ -58,7 +62,7 @@ def what_runs_an_example(program, run, tmp_path):
 
 
 def test_pages_have_not_lost_their_examples():
-    assert {"README.md", "crates/mergejoin/README.md", "docs/COST.md", "docs/REFUSALS.md", "docs/REPLICAS.md"} <= {*WITH_EXAMPLES}
+    assert {"README.md", "crates/mergejoin/README.md", "docs/COST.md", "docs/REFUSALS.md", "docs/TUTORIAL.md"} <= {*WITH_EXAMPLES}
 
 
 @pytest.mark.parametrize("page", WITH_EXAMPLES)

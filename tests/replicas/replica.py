@@ -1,4 +1,4 @@
-"""A replica that follows docs/REPLICAS.md, as a process of its own: it keeps the patches of its start in a patch log of the library, and
+"""A replica that follows docs/NEW-START.md, as a process of its own: it keeps the patches of its start in a patch log of the library, and
 shows the start with those that conflict with no other. The first one decides what a start ends with.
 
     replica.py NAME FOLDER EPOCHS

@@ -24,7 +24,7 @@ class Pages(unittest.TestCase):
         self.assertGreaterEqual(count, 30)
 
     def test_pages(self):
-        for page, least in (("docs/LIBRARIES.md", 10), ("bindings/python/README.md", 3)):
+        for page, least in (("docs/FROM-PYTHON.md", 10), ("docs/FIND-BAD-INPUT.md", 2), ("README.md", 3), ("bindings/python/README.md", 3)):
             blocks = re.findall(r"^```python\n(.*?)^```$", (TOP / page).read_text("utf-8"), re.M | re.S)
             example = doctest.DocTestParser().get_doctest("\n".join(blocks), {}, page, page, 0)
             result = doctest.DocTestRunner().run(example)

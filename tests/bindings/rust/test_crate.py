@@ -46,7 +46,7 @@ def test_nothing_is_lost(cargo, name):
 
 
 def test_the_program_of_the_page_prints_what_it_shows(cargo, crate):
-    page = (TOP / "docs/LIBRARIES.md").read_text("utf-8")
+    page = (TOP / "docs/FROM-RUST.md").read_text("utf-8")
     source, shown = re.search(r"^```rs\n(.*?)^```\n\nIt prints:\n\n```text\n(.*?)^```$", page, re.M | re.S).groups()
     (crate / "examples").mkdir()
     (crate / "examples/page.rs").write_text(source, "utf-8")

@@ -244,7 +244,7 @@ class PatchLog:
     ('{"colour":"blue","size":2}', 2)
 
     Any threads may use it: they take it one after the other. Nothing of it is on disk: store the messages that it was given, and
-    give them to a new one. docs/REPLICAS.md of the sources says how replicas agree on a decision.
+    give them to a new one. docs/NEW-START.md of the sources says how replicas agree on a decision.
     """
 
     __slots__ = ("_held",)
