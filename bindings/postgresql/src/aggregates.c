@@ -1,16 +1,12 @@
-/*
- * mergejoin_agg and mergejoin_try_agg. The state of each is what the library has of the patches of a group, their join, in the memory
+/* mergejoin_agg and mergejoin_try_agg. The state of each is what the library has of the patches of a group, their join, in the memory
  * context of the aggregate. That two patches conflict is a state too, which still reads all further texts, so that one which is not a
- * patch is an error in every order and plan.
- */
+ * patch is an error in every order and plan. */
 #include "errors.h"
 #include "values.h"
 
 /* The kept form of two patches that conflict, at one place, since none is shown. */
 #define CONFLICT "![\"\"]"
-/* The first buffers: of words, and of a join at most. */
-#define WORDS 256
-#define JOIN 65536
+enum { WORDS = 256, JOIN = 65536 }; /* the first buffers: of words, and of a join at most */
 
 typedef struct Group {
   Memory memory;
@@ -18,8 +14,6 @@ typedef struct Group {
   size_t length;    /* of the texts that were taken */
   const text *kept; /* of a state that was read from bytes, which is only combined: these; else NULL */
 } Group;
-
-typedef mergejoin_reply (*OfPatches)(mergejoin_patches *patches, uint8_t *out, size_t capacity, size_t limit);
 
 PG_FUNCTION_INFO_V1(mergejoin_take);
 PG_FUNCTION_INFO_V1(mergejoin_combine);
@@ -29,7 +23,7 @@ PG_FUNCTION_INFO_V1(mergejoin_joined);
 PG_FUNCTION_INFO_V1(mergejoin_joined_or_null);
 
 /* Returns what a state gives by a call, as a value in the current memory context, or NULL if that is no result. */
-static text *text_of(Group *group, OfPatches call) {
+static text *text_of(Group *group, mergejoin_reply (*call)(mergejoin_patches *, uint8_t *, size_t, size_t)) {
   mergejoin_reply reply = {.length = Min(group->length + WORDS, JOIN)};
   size_t size;
   text *value;
@@ -64,8 +58,8 @@ static void take(Group *group, mergejoin_text text) {
   prepare_call(&group->memory);
   reply = mergejoin_patches_add(&group->patches, text.bytes, text.length, words, WORDS, WORDS);
   if (reply.status == MERGEJOIN_PATCH) refuse_patch(text);
-  if (reply.status == MERGEJOIN_PENDING) refuse_for_memory(&group->memory);
-  if (reply.status == MERGEJOIN_NO_MEMORY && !(group->memory.is_over && conflict(text_of(group, mergejoin_patches_text), text)))
+  if (reply.status == MERGEJOIN_PENDING ||
+      (reply.status == MERGEJOIN_NO_MEMORY && !(group->memory.is_over && conflict(text_of(group, mergejoin_patches_text), text))))
     refuse_for_memory(&group->memory);
   if (reply.status == MERGEJOIN_NO_MEMORY || reply.total > 1) keep_conflict(group);
   group->length += text.length;
@@ -99,10 +93,8 @@ Datum mergejoin_combine(PG_FUNCTION_ARGS) {
   if (other) {
     mergejoin_text kept = borrowed(other->kept ? other->kept : text_of(other, mergejoin_patches_kept));
 
-    if (*kept.bytes == *CONFLICT)
-      keep_conflict(group);
-    else
-      take(group, kept);
+    if (*kept.bytes == *CONFLICT) keep_conflict(group);
+    if (*kept.bytes != *CONFLICT) take(group, kept);
   }
   if (!group) PG_RETURN_NULL();
   PG_RETURN_POINTER(group);
