@@ -13,10 +13,10 @@ patches, of 30 to 40 bytes each, in so many files; 2,000,000 and 16 without it:
     same    1,000 documents, each with all patches in one file
 
 A figure is the least of three runs. It has the reading of the files, and ends when the joins are there, in the workers or in the
-loop. The time of the processor is that of all workers and of the scheduler, but not of their start. The ideal is the time of the
-loop shared among the workers; but if the joining of one document takes longer, it is that. Memory is the most that was resident
-in a worker in all of its runs. Each result is compared with that of the loop. Below the table are what a worker has before, and
-how long a task takes that moves nothing. Nothing else should run on the machine.
+loop. The time of the processor is that of all workers and of the scheduler, but not of their start. The ideal is that time, shared
+among the workers, but for the joining of the largest document. No two workers can share that, and it begins when all texts are read.
+Memory is the most that was resident in a worker in all of its runs. Each result is compared with that of the loop. Below the table
+are what a worker has before, and how long a task takes that moves nothing. Nothing else should run on the machine.
 """
 
 import contextlib
@@ -149,7 +149,7 @@ def main(count, file_count, kinds):
             print(f"| {kind} | the loop | {loop / count * 1e6:.1f} | | {clock:.1f} | | |", flush=True)
             for workers in WORKERS:
                 (used, seconds), most = of_cluster(paths, workers, joins)
-                over = [used / loop, seconds / max(clock / workers, longest)]
+                over = [used / loop, seconds / ((used - longest) / workers + longest)]
                 print(f"| {kind} | {workers} | {used / count * 1e6:.1f} | {over[0]:.2f} | {seconds:.1f} | {over[1]:.2f} "
                       f"| {most / 1e6:.0f} |", flush=True)
     most, seconds = of_nothing()
