@@ -1,4 +1,4 @@
-//! What a program does with the library, in short: the README and `docs/REPLICAS.md` show lines of it.
+//! What a program does with the library, in short: the pages show lines of it.
 #![tactic(auto)]
 
 mod deciding;

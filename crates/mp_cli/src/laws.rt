@@ -73,6 +73,15 @@ fn laws_below()
     ensures merges { MergeLaws }
     ensures rewritings { RewritingLaws }
 {
+    laws_of_texts();
+    laws_of_merges();
+}
+
+fn laws_of_texts()
+    ensures texts { TextLaws }
+    ensures pointers { PointerLaws }
+    ensures patches { PatchLaws }
+{
     tree::readings_are_documents();
     tree::bytes_have_faults();
     tree::arrays_read_back();
@@ -91,6 +100,12 @@ fn laws_below()
     patch::runs_are_not_refused();
     patch::one_refusal();
     patch::runs_or_is_refused();
+}
+
+fn laws_of_merges()
+    ensures merges { MergeLaws }
+    ensures rewritings { RewritingLaws }
+{
     merge::application_is_outcome();
     merge::merged_is_readable();
     merge::one_outcome();

@@ -1,5 +1,5 @@
 // What an operation does to the object or the array that holds its place (RFC 6902 section 4.1).
-ghost use Rattle.std.specs.Prelude.{◌≡◌, ◌≢◌, ◌<◌, ◌≤◌, ◌⊎◌, ℕ, IsTrue, IsFalse, MatchOption, MatchResult, OnOk};
+ghost use Rattle.std.specs.Prelude.{◌≡◌, ◌≢◌, ◌<◌, ◌≤◌, ◌⊎◌, ℕ, IsTrue, IsFalse, MatchOption, MatchResult, OnOk, string_bytes};
 ghost use Rattle.mp_tree.specs.Document.{IsDocument, list, put};
 ghost use Rattle.mp_tree.specs.View.{items_by, members_by};
 ghost use Rattle.mp_pointer.specs.Part.{numeral};
@@ -9,7 +9,7 @@ ghost use Rattle.mp_patch.specs.Private.Steps.{Inserts, TakesOutBy};
 use crate::fault::{Cause, Refusal};
 use mp_pointer::index_of;
 use mp_tree::Node;
-use std::alloc::{AllocError, Global};
+use std::alloc::AllocError;
 use std::collections::BTreeMap;
 
 pub(crate) fn set<T: Node>(part: &mut T, value: T, fits: bool) -> Result<(), Refusal<Cause>>
@@ -26,21 +26,20 @@ pub(crate) fn set<T: Node>(part: &mut T, value: T, fits: bool) -> Result<(), Ref
 // Adds the value to the object or the array, at the token.
 pub(crate) fn insert<T: Node>(
     container: &mut T,
-    token: &str,
+    token: String,
     value: T,
     fits: bool,
-    alloc: Global,
 ) -> Result<(), Refusal<Cause>>
-    ensures { Inserts result fits token.now (T.means value)
+    ensures { Inserts result fits (string_bytes token) (T.means value)
         (T.means container.old) (T.means container.new) }
 {
     if let Some(elements) = container.items_mut() {
-        insert_element(elements, token, value, fits)
+        insert_element(elements, token.as_str(), value, fits)
     } else if let Some(entries) = container.members_mut() {
         if !fits {
             return Err(Refusal::By(Cause::TooDeep));
         }
-        set_member(entries, token, value, alloc)?;
+        set_member(entries, token, value)?;
         Ok(())
     } else {
         Err(Refusal::By(Cause::NoPlace))
@@ -69,15 +68,14 @@ fn insert_element<T: Node>(
 // What had the name before is looked at only if there is something: to move it out costs more than that.
 fn set_member<T: Node>(
     entries: &mut BTreeMap<String, T>,
-    name: &str,
+    name: String,
     value: T,
-    alloc: Global,
 ) -> Result<(), AllocError>
     requires documents { (d : T) → IsDocument (T.means d) }
     ensures { OnOk result (members_by T.means entries.new.entries
-        ≡ put name.now (T.means value) (members_by T.means entries.old.entries)) }
+        ≡ put (string_bytes name) (T.means value) (members_by T.means entries.old.entries)) }
 {
-    if let Some(before) = entries.insert(String::from_str(alloc, name)?, value)? {
+    if let Some(before) = entries.insert(name, value)? {
         drop(before);
     }
     Ok(())

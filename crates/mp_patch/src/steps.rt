@@ -36,7 +36,7 @@ pub(crate) fn step(
     match op {
         Op::Add(path, value) => add(doc, path, value.copy(alloc)?, bound, alloc),
         Op::Remove(path) => {
-            drop(remove(doc, path)?);
+            drop(remove(doc, path, alloc)?);
             Ok(())
         }
         Op::Replace(path, value) => replace(doc, path, value.copy(alloc)?, bound),
@@ -134,7 +134,7 @@ impl StepOwned<Value> for ValueOp {
         match self {
             ValueOp::Add(path, value) => add(doc, &path, value, bound, alloc),
             ValueOp::Remove(path) => {
-                drop(remove(doc, &path)?);
+                drop(remove(doc, &path, alloc)?);
                 Ok(())
             }
             ValueOp::Replace(path, value) => replace(doc, &path, value, bound),
@@ -162,7 +162,8 @@ fn add<T: Node>(
     put(doc, path, value, fits, alloc)
 }
 
-// Adds a value of which is known whether it fits.
+// Adds a value of which is known whether it fits. The token is copied for an array too: so each operation that shifts elements
+// asks for memory, and an allocator that refuses it can end a long patch.
 pub(crate) fn put<T: Node>(
     doc: &mut T,
     path: &Pointer,
@@ -177,19 +178,20 @@ pub(crate) fn put<T: Node>(
     let Some((last, token)) = last_token(path) else {
         return set(doc, value, fits);
     };
+    let token = String::from_str(alloc, token)?;
     match edit_part_in(
         doc,
         path,
         last,
-        |container| insert(container, token, value, fits, alloc),
+        |container| insert(container, token, value, fits),
     ) {
         Some(inserted) => inserted,
         None => Err(Refusal::By(Cause::NoPlace)),
     }
 }
 
-// The part that was at the place.
-fn remove<T: Node>(doc: &mut T, path: &Pointer) -> Result<T, Refusal<Cause>>
+// The part that was at the place. The token is copied as in `put`.
+fn remove<T: Node>(doc: &mut T, path: &Pointer, alloc: Global) -> Result<T, Refusal<Cause>>
     ensures { MatchResult result
         (λ x. (path.now ≢ []) × (part (T.means doc.old) path.now ≡ Some (T.means x))
         × Removes path.now (T.means doc.old) (T.means doc.new))
@@ -199,7 +201,9 @@ fn remove<T: Node>(doc: &mut T, path: &Pointer) -> Result<T, Refusal<Cause>>
     let Some((last, token)) = last_token(path) else {
         return Err(Refusal::By(Cause::RemoveRoot));
     };
-    let Some(taken) = edit_part_in(doc, path, last, |container| take(container, token)) else {
+    let token = String::from_str(alloc, token)?;
+    let Some(taken) = edit_part_in(doc, path, last, |container| take(container, token.as_str()))
+    else {
         return Err(Refusal::By(Cause::Missing));
     };
     match taken {
@@ -241,7 +245,7 @@ fn move_part<T: Node>(
         (T.means doc.new) }
     ensures bounds { OnOk result (Bounds bound.new.most 0 (T.means doc.new)) }
 {
-    match take_to_move(doc, origin, path, bound)? {
+    match take_to_move(doc, origin, path, bound, alloc)? {
         Some((part, fits)) => put(doc, path, part, fits, alloc),
         None => Ok(()),
     }
@@ -253,6 +257,7 @@ pub(crate) fn take_to_move<T: Node>(
     origin: &Pointer,
     path: &Pointer,
     bound: &mut DepthBound,
+    alloc: Global,
 ) -> Result<Option<(T, bool)>, Refusal<Cause>>
     requires documents { (d : T) → IsDocument (T.means d) }
     requires bounds { Bounds bound.old.most 0 (T.means doc.old) }
@@ -271,7 +276,7 @@ pub(crate) fn take_to_move<T: Node>(
             None => Err(Refusal::By(Cause::Missing)),
         };
     }
-    let part = remove(doc, origin)?;
+    let part = remove(doc, origin, alloc)?;
     let fits = bound.admit_part(&part, origin.len(), doc, path.len());
     Ok(Some((part, fits)))
 }

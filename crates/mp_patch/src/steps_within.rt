@@ -60,7 +60,7 @@ fn move_within<T: Node>(
     ensures bounds { OnOk result (Bounds bound.new.most 0 (T.means doc.new)) }
 {
     let named = name_at(doc, origin);
-    let Some((part, fits)) = take_to_move(doc, origin, path, bound)? else {
+    let Some((part, fits)) = take_to_move(doc, origin, path, bound, alloc)? else {
         return Ok(at_most(scale.weight, scale.limit));
     };
     let unnamed = Scale {

@@ -1,6 +1,7 @@
 -- The order of identities, and what is found in a map under one.
-use Rattle.std.proofs.Common.{◌≡◌, ◌≢◌, ◌↔◌, ◌⊎◌, inl, inr, ℕ, List, Bool, true, false, true≢false, Option, None, Some, option_map, refl, sym, ap, ◌∙◌, subst}
+use Rattle.std.proofs.Common.{◌≡◌, ◌≢◌, ◌↔◌, ◌⊎◌, inl, inr, ℕ, List, [], ◌∷◌, ◌++◌, Bool, true, false, true≢false, cond, Option, None, Some, option_map, refl, sym, ap, ◌∙◌, subst}
 use Rattle.std.specs.BTreeMap.{is_at}
+use Rattle.std.specs.BTreeSet.{BTreeSet, IsEmpty, Updates, contains}
 use Rattle.std.specs.Cmp.{IsTotalOrder}
 use Rattle.std.specs.List.{Contains}
 use Rattle.std.specs.List.Sorted.{IsStrictlySortedBy}
@@ -9,6 +10,7 @@ use Rattle.std.specs.Ordering.{nat_cmp}
 use Rattle.std.specs.declared.cmp.Ordering.{Ordering}
 use Rattle.std.specs.declared.cmp.Ordering.TheVariants.{Less, Equal, Greater}
 use Rattle.std.proofs.lemmas.Cmp.{eq_by_cmp_equiv, nat_cmp_total, on_total, then_total, tied_itself}
+use Rattle.std.proofs.lemmas.List.Elements.{Contains-append_left, Contains-push, Contains-push_cases}
 use Rattle.std.proofs.lemmas.Map.Keys.{IsDistinct-from_sorted}
 use Rattle.std.proofs.lemmas.Map.Lookups.{CmpEqualImpliesEq, exact_pairs, exact_unsigned}
 use Rattle.std.proofs.lemmas.Map.Views.{Contains-from_lookup, Contains-keys_from_lookup, IsSome-lookup_from_Contains, lookup-from_Contains, tells_apart}
@@ -16,8 +18,9 @@ use Rattle.std.specs.Option.{is_some}
 use Rattle.mp_tree.specs.Document.{Document, IsDocument}
 use Rattle.mp_tree.specs.View.{document}
 use Rattle.mp_tree.specs.declared.doc.Doc.{Doc}
-use Rattle.mp_tree.proofs.Facts.{IsDocument-document}
+use Rattle.mp_tree.proofs.Facts.{Contains-nil, IsDocument-document}
 use Rattle.mp_replica.specs.PatchLog.{StoresAlso, identity_cmp, stored_in}
+use Rattle.mp_replica.specs.Private.Identities.{HasThese}
 use Rattle.mp_replica.specs.declared.message.Identity.{Identity}
 
 pub identities_total : IsTotalOrder identity_cmp
@@ -94,3 +97,29 @@ key_stored es i = (
   λ at. some_then (lookup (is_at (identity_cmp i)) es) (sym (IsSome-lookup_from_Contains (eq_by_cmp_equiv identities_total) i es at)),
   λ some. Contains-keys_from_lookup (tells_apart exact_identities) i es (sym (some_if (lookup (is_at (identity_cmp i)) es) some)),
 )
+
+-- ---- a set of identities
+
+pub none_has : (s : BTreeSet Identity) → IsEmpty s → HasThese s []
+none_has s empty i = (
+  λ has. absurd (true≢false (sym has ∙ ap (λ ks. contains identity_cmp (record { keys = ks }) i) empty)),
+  λ at. absurd (Contains-nil i at),
+)
+
+-- one more was inserted
+pub one_more : (s n : BTreeSet Identity) (xs : List Identity) (k : Identity) → Updates identity_cmp s n k true → HasThese s xs → HasThese n (xs ++ k ∷ [])
+one_more s n xs k updates has i = (
+  by (is_at (identity_cmp k) i) refl,
+  λ at. elim (Contains-push_cases xs k i at) [
+    | inl there ↦ kept (is_at (identity_cmp k) i) ((has i).1 there) (updates.0 i)
+    | inr same ↦ subst (λ j. contains identity_cmp n j ≡ true) same updates.1
+  ],
+)
+  where
+    by : (b : Bool) → is_at (identity_cmp k) i ≡ b → contains identity_cmp n i ≡ true → Contains (xs ++ k ∷ []) i
+    by true is yes = subst (Contains (xs ++ k ∷ [])) (tells_apart exact_identities k i is) (Contains-push xs k)
+    by false is yes = Contains-append_left xs (k ∷ []) i ((has i).0 (sym (updates.0 i ∙ ap (λ b. cond b true (contains identity_cmp s i)) is) ∙ yes))
+
+    kept : (b : Bool) → contains identity_cmp s i ≡ true → contains identity_cmp n i ≡ cond b true (contains identity_cmp s i) → contains identity_cmp n i ≡ true
+    kept true old now = now
+    kept false old now = now ∙ old

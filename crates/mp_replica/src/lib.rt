@@ -3,6 +3,7 @@
 #![tactic(auto)]
 
 mod fault;
+mod identity_set;
 mod kept;
 pub mod laws;
 mod live_join;

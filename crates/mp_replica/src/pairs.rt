@@ -1,11 +1,12 @@
 //! The pairs of stored patches that conflict.
-ghost use Rattle.std.specs.Prelude.{◌≡◌, ◌≢◌, ◌+◌, ◌<◌, ◌↔◌, List, [], None, length, map, IsTrue, IfOk, MatchOption, OnOk};
+ghost use Rattle.std.specs.Prelude.{◌≡◌, ◌≢◌, ◌+◌, ◌<◌, ◌↔◌, List, [], None, length, map, IfOk, MatchOption, OnOk};
 ghost use Rattle.std.specs.List.{Contains};
 ghost use Rattle.std.specs.List.Sorted.{IsStrictlySortedBy};
 ghost use Rattle.std.specs.declared.cmp.Ordering.TheVariants.{Less};
 ghost use Rattle.mp_replica.specs.PatchLog.{DoClash, IsClashing, identities_of, identity_cmp, seen, stored_in};
 ghost use Rattle.mp_replica.specs.Private.Pairs.{ArePairsBefore, IsFirstFrom};
 
+use crate::identity_set::set_of;
 use crate::laws::merge_laws;
 use crate::message::Identity;
 use mp_merge::{compatible, conflict};
@@ -37,24 +38,15 @@ pub(crate) fn ascending(
         ↔ ((stored_in patches.now.entries i ≢ None)
         × Contains these.now i × Contains those.now i)) }
 {
+    let in_these = set_of(alloc, these)?;
+    let in_those = set_of(alloc, those)?;
     let mut found = Vec::new(alloc);
     for identity in patches.keys() {
-        if is_among(*identity, these) && is_among(*identity, those) {
+        if in_these.contains(*identity) && in_those.contains(*identity) {
             found.push(*identity)?;
         }
     }
     Ok(found)
-}
-
-pub(crate) fn is_among(identity: Identity, chosen: &[Identity]) -> bool
-    ensures { IsTrue result ↔ Contains chosen.now identity }
-{
-    for other in chosen {
-        if *other == identity {
-            return true;
-        }
-    }
-    false
 }
 
 // Each two of these that conflict.

@@ -8,10 +8,11 @@ ghost use Rattle.mp_merge.specs.Outcome.{IsOutcome};
 ghost use Rattle.mp_replica.specs.PatchLog.{AreAllPairs, AreChosen, HaveArrived, IsFirstMissing, IsFirstPair, Shows, StoresAlso, seen, stored_in};
 ghost use Rattle.mp_replica.specs.Private.StoredPatches.{AreApart, AreConflictingWith, FitsAll, JoinsOthers};
 
+use crate::identity_set::set_of;
 use crate::laws::{merge_laws, text_laws};
 use crate::live_join::LiveJoin;
 use crate::message::Identity;
-use crate::pairs::{ConflictingPair, all_pairs, ascending, first_pair, is_among};
+use crate::pairs::{ConflictingPair, all_pairs, ascending, first_pair};
 use mp_merge::{compatible, merge_into};
 use mp_tree::Doc;
 use std::alloc::{AllocError, Global};
@@ -197,9 +198,10 @@ fn conflicting_with(
     ensures { IfOk result (λ found. AreConflictingWith (stored_in patches.now.entries) identity
         (document patch.now) known.now found.items) }
 {
+    let before = set_of(alloc, known)?;
     let mut found = Vec::new(alloc);
     for (other, stored) in patches.iter() {
-        if is_among(*other, known) || !compatible(patch, stored) {
+        if before.contains(*other) || !compatible(patch, stored) {
             found.push(*other)?;
         }
     }
@@ -220,9 +222,10 @@ fn join_of_others(
         JoinsOthers (stored_in patches.now.entries) conflicting.now join) }
 {
     merge_laws();
+    let left_out = set_of(alloc, conflicting)?;
     let mut join = LiveJoin::new();
     for (identity, patch) in patches.iter() {
-        if !is_among(*identity, conflicting) {
+        if !left_out.contains(*identity) {
             let copy = patch.copy(alloc)?;
             join.put(copy);
             if !join.settle(alloc) {

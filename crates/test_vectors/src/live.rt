@@ -1,4 +1,4 @@
-//! Test vectors of mp_replica: those of the README and of `docs/REPLICAS.md`, and the kept forms.
+//! Test vectors of mp_replica: those of the pages, and the kept forms.
 use crate::written::{answers, equal};
 use mp_pointer::Pointer;
 use mp_replica::{Added, LiveFault, Patches, Received, Replica};

@@ -1,4 +1,4 @@
-//! Test vectors of a patch log: those of `docs/REPLICAS.md`, which pairs are reported and in which order, what becomes of
+//! Test vectors of a patch log: those of the pages, which pairs are reported and in which order, what becomes of
 //! decisions, with the texts of the errors, and the calls over texts.
 use crate::written::{answers, equal, is_spelled, is_text, says};
 use mp_pointer::Pointer;
@@ -9,7 +9,7 @@ use std::alloc::Global;
 use std::process::Abort;
 use std::test::Fail;
 
-/// The start of the recipe in `docs/REPLICAS.md`, and its patches: Ann's first conflicts with Bob's first, Bob's second
+/// The start of the recipe of a new start in the pages, and its patches: Ann's first conflicts with Bob's first, Bob's second
 /// with none.
 const BOX: &str = r#"{"colour":"red","size":1}"#;
 

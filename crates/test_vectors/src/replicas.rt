@@ -1,4 +1,4 @@
-//! Test vectors of `library_example`: those of the README and of `docs/REPLICAS.md`, and the texts of the errors.
+//! Test vectors of `library_example`: those of the pages, and the texts of the errors.
 use crate::written::{equal, holds, is_spelled, is_text, says};
 use library_example::{
     Delivery, EpochReplica, PatchMessage, at, follow_decision, for_a_peer, show, shown_after,

@@ -1,47 +1,7 @@
 use Rattle.mp_cli.proofs.laws.laws_below.Goals as goal
 
 pub returns : goal.returns
-returns c = record {
-  texts = record { readable = c.readings_are_documents.ensures.elements; faults = c.bytes_have_faults.ensures.elements; arrays = c.arrays_read_back.ensures };
-  pointers = record {
-    one_spelling = c.one_spelling.ensures;
-    spells_or_is_faulty = c.spells_or_is_faulty.ensures;
-    spelling_unfaulty = c.spellings_have_no_fault.ensures;
-    one_fault = c.one_fault.ensures;
-  };
-  patches = record {
-    one_reading = c.one_reading.ensures;
-    form_or_faulty = c.is_form_or_faulty.ensures;
-    form_documents = c.forms_have_documents.ensures;
-    form_unfaulty = c.forms_have_no_fault.ensures;
-    one_fault = c.one_fault-2.ensures;
-    shapes = c.shapes_are_forms.ensures;
-    readable_shapes = c.shapes_are_readable.ensures;
-    one_end = c.one_end.ensures;
-    unrefused = c.runs_are_not_refused.ensures;
-    one_refusal = c.one_refusal.ensures;
-    runs_or_is_refused = c.runs_or_is_refused.ensures;
-  };
-  merges = record {
-    application = c.application_is_outcome.ensures;
-    readable_merge = c.merged_is_readable.ensures;
-    one_outcome = c.one_outcome.ensures;
-    outcome_exists = c.outcome_exists.ensures;
-    replicas_agree = c.replicas_agree.ensures;
-    compatible_or_reported = c.reported_pair.ensures.exists;
-    reported_is_incompatible = c.reported_pair.ensures.none;
-    one_reported_pair = c.reported_pair.ensures.one;
-    none_has_no_join = c.empty_has_no_join.ensures;
-    one_join = c.one_join.ensures;
-    join_exists = c.join_exists.ensures;
-    join_outcome = c.join_gives_outcome.ensures;
-    readable_join = c.join_is_readable.ensures;
-  };
-  rewritings = record {
-    exists = c.rewriting_exists.ensures;
-    one = c.one_rewriting.ensures;
-    documents = c.rewritings_have_documents.ensures;
-    writable = c.rewritings_are_writable.ensures.writable;
-    runs = c.rewriting_runs.ensures;
-  };
-}
+returns c =
+    let texts = c.laws_of_texts.ensures in
+    let merges = c.laws_of_merges.ensures in
+    record { texts = texts.texts; pointers = texts.pointers; patches = texts.patches; merges = merges.merges; rewritings = merges.rewritings }

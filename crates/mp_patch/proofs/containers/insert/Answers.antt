@@ -1,4 +1,4 @@
-use Rattle.std.proofs.Common.{Some, IsTrue, ap, ◌∙◌}
+use Rattle.std.proofs.Common.{Some, IsTrue, ap, string_bytes, sym, ◌∙◌}
 use Rattle.mp_tree.specs.View.{members_by}
 use Rattle.mp_patch.specs.Operation.{AddsTo}
 use Rattle.mp_patch.specs.Refusal.{LacksPlace}
@@ -12,13 +12,13 @@ returns-in-Some g c =
     let w = c.insert_element.new.elements in
     let made = c.in-Some.ensures.made in
     let before = ap f c.in-Some.ensures.value ∙ made c.in-Some.elements.now in
-    let out : Inserts c.insert_element.result c.args.fits c.args.token.now (f c.args.value) (f c.args.container.now) (f (g.T.Node.of_items w)) = rw (before, made w) c.insert_element.ensures in
+    let out : Inserts c.insert_element.result c.args.fits (string_bytes c.args.token) (f c.args.value) (f c.args.container.now) (f (g.T.Node.of_items w)) = rw (before, made w, sym c.as_str.ensures.value) c.insert_element.ensures in
     out
 
 pub returns-in_ok-set_member : goal.returns-in_ok-set_member
 returns-in_ok-set_member g c =
     let f = g.T.Node.means in
-    let token = c.args.token.now in
+    let token = string_bytes c.args.token in
     let v = f c.args.value in
     let old = c.in-Some-members_mut.entries.now in
     let w = c.set_member.new.entries in

@@ -12,8 +12,8 @@ returns-in_default-edit_part_in g c =
     let token = c.in-Some.token.now in
     nothing_there path (take c.in-Some.last path) token (f c.args.doc.now) c.in-Some.ensures (ap (option_and_then (child token)) c.in_default-edit_part_in.ensures.0)
 
-pub returns-in-None : goal.returns-in-None
-returns-in-None g c =
+pub returns : goal.returns
+returns g c =
     let f = g.T.Node.means in
     let path = c.args.path.now in
     let token = c.in-Some.token.now in

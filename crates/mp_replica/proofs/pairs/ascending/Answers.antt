@@ -6,7 +6,7 @@ use Rattle.mp_replica.specs.PatchLog.{identity_cmp}
 use Rattle.mp_replica.proofs.Identities.{key_stored}
 use Rattle.mp_replica.proofs.PairsFound.{AreIn, none_in, none_more_in, one_in}
 use Rattle.mp_replica.proofs.pairs.ascending.Goals as goal
-use Rattle.mp_replica.proofs.pairs.ascending.Goals.{else-is_among-via-then-is_among+else-is_among-2, else-is_among-via-else-is_among}
+use Rattle.mp_replica.proofs.pairs.ascending.Goals.{else-contains-via-then-contains+else-contains-2, else-contains-via-else-contains}
 
 pub loop-identity-init : goal.loop-identity-init
 loop-identity-init c = record {
@@ -15,22 +15,22 @@ loop-identity-init c = record {
   holds = subst (AreIn [] c.args.these.now c.args.those.now) (sym c.new-found.ensures.items) (none_in c.args.these.now c.args.those.now);
 }
 
-pub loop-identity-preserved-then-is_among-2 : goal.loop-identity-preserved-then-is_among-2
-loop-identity-preserved-then-is_among-2 c =
+pub loop-identity-preserved-then-contains-2 : goal.loop-identity-preserved-then-contains-2
+loop-identity-preserved-then-contains-2 c =
     let inv = c.loop-identity.invariant in
     let i = c.in-Some.identity.now in
     let sorted = subst (IsStrictlySortedBy identity_cmp) (Passed-next inv c.in-Some.ensures.steps) c.keys-identity-items.ensures.ordered in
     Passed-step inv c.in-Some.ensures.steps (subst (AreIn (inv.passed ++ i ∷ []) c.args.these.now c.args.those.now) (sym c.in_ok-push.ensures.items)
-    (one_in c.args.these.now c.args.those.now inv.passed c.next.new.self c.loop-identity.found.items i sorted (c.is_among.ensures.0 c.if-is_among.true)
-    (c.is_among-then-is_among.ensures.0 c.if-is_among-2.true) inv.holds))
+    (one_in c.args.these.now c.args.those.now inv.passed c.next.new.self c.loop-identity.found.items i sorted ((c.in_ok-in_these.ensures i).0 (sym c.contains.ensures ∙ c.if-contains.true))
+    ((c.in_ok-in_those.ensures i).0 (sym c.contains-then-contains.ensures ∙ c.if-contains-2.true)) inv.holds))
 
 pub loop-identity-preserved : goal.loop-identity-preserved
 loop-identity-preserved c =
     let inv = c.loop-identity.invariant in
     let i = c.in-Some.identity.now in
-    let out : ¬ (Contains c.args.these.now i × Contains c.args.those.now i) = elim c.else-is_among.branch [
-      | else-is_among-via-then-is_among+else-is_among-2 w ↦ λ both. true≢false (sym (w.is_among-then-is_among.ensures.1 both.1) ∙ w.if-is_among-2.false)
-      | else-is_among-via-else-is_among w ↦ λ both. true≢false (sym (c.is_among.ensures.1 both.0) ∙ w.if-is_among.false)
+    let out : ¬ (Contains c.args.these.now i × Contains c.args.those.now i) = elim c.else-contains.branch [
+      | else-contains-via-then-contains+else-contains-2 w ↦ λ both. true≢false (sym (w.contains-then-contains.ensures ∙ (c.in_ok-in_those.ensures i).1 both.1) ∙ w.if-contains-2.false)
+      | else-contains-via-else-contains w ↦ λ both. true≢false (sym (c.contains.ensures ∙ (c.in_ok-in_these.ensures i).1 both.0) ∙ w.if-contains.false)
     ] in
     Passed-step inv c.in-Some.ensures.steps (none_more_in c.args.these.now c.args.those.now inv.passed c.loop-identity.found.items i out inv.holds)
 

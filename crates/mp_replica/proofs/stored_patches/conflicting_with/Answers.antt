@@ -7,7 +7,7 @@ use Rattle.mp_replica.specs.PatchLog.{stored_in}
 use Rattle.mp_replica.specs.Private.StoredPatches.{AreConflictingWith}
 use Rattle.mp_replica.proofs.Conflicting.{AreFoundIn, all_found, none_found, none_more_found, one_found}
 use Rattle.mp_replica.proofs.stored_patches.conflicting_with.Goals as goal
-use Rattle.mp_replica.proofs.stored_patches.conflicting_with.Goals.{then-is_among-via-then-is_among, then-is_among-via-else-is_among+then-not-compatible}
+use Rattle.mp_replica.proofs.stored_patches.conflicting_with.Goals.{then-contains-via-then-contains, then-contains-via-else-contains+then-not-compatible}
 
 pub loop-other-init : goal.loop-other-init
 loop-other-init c = record {
@@ -23,9 +23,9 @@ loop-other-preserved-in-loop-other c =
     let i = c.in-Some.other.now in
     let d = c.in-Some.stored.now in
     let inv = c.loop-other.invariant in
-    let why : Contains known i ⊎ (¬ Compatible p (document d)) = elim c.then-is_among.branch [
-      | then-is_among-via-then-is_among w ↦ inl (c.is_among.ensures.0 w.if-is_among.true)
-      | then-is_among-via-else-is_among+then-not-compatible w ↦ inr (λ agree. true≢false (sym (w.compatible.ensures.1 agree) ∙ w.if-not-compatible.true))
+    let why : Contains known i ⊎ (¬ Compatible p (document d)) = elim c.then-contains.branch [
+      | then-contains-via-then-contains w ↦ inl ((c.in_ok-before.ensures i).0 (sym c.contains.ensures ∙ w.if-contains.true))
+      | then-contains-via-else-contains+then-not-compatible w ↦ inr (λ agree. true≢false (sym (w.compatible.ensures.1 agree) ∙ w.if-not-compatible.true))
     ] in
     Passed-step inv c.in-Some.ensures.steps
     (subst (AreFoundIn (inv.passed ++ (i, d) ∷ []) p known) (sym c.in_ok-push.ensures.items) (one_found inv.passed p known c.loop-other.found.items i d why inv.holds))
@@ -35,7 +35,7 @@ loop-other-preserved c =
     let known = c.args.known.now in
     let i = c.in-Some.other.now in
     let inv = c.loop-other.invariant in
-    let out : ¬ Contains known i = λ at. true≢false (sym (c.is_among.ensures.1 at) ∙ c.if-is_among.false) in
+    let out : ¬ Contains known i = λ at. true≢false (sym (c.contains.ensures ∙ (c.in_ok-before.ensures i).1 at) ∙ c.if-contains.false) in
     Passed-step inv c.in-Some.ensures.steps
     (none_more_found inv.passed (document c.args.patch.now) known c.loop-other.found.items i c.in-Some.stored.now out (c.compatible.ensures.0 c.if-not-compatible.false) inv.holds)
 

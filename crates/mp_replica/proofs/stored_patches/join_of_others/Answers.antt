@@ -21,7 +21,7 @@ put-requires c =
     let inv = c.loop-identity.invariant.joins in
     let i = c.in-Some.identity.now in
     let d = c.in-Some.patch.now in
-    let out : ¬ Contains c.args.conflicting.now i = λ at. true≢false (sym (c.is_among.ensures.1 at) ∙ c.if-not-is_among.true) in
+    let out : ¬ Contains c.args.conflicting.now i = λ at. true≢false (sym (c.contains.ensures ∙ (c.in_ok-left_out.ensures i).1 at) ∙ c.if-not-contains.true) in
     record {
       fits = other_fits c.merge_laws.ensures c.args.patches.now.entries inv.passed i d c.in_ok-copy.copy c.args.conflicting.now c.loop-identity.join c.iter-identity-items.ensures.ordered
           (within_entries inv c.in-Some.ensures.steps) c.in_ok-copy.ensures.equal out c.loop-identity.invariant.settled c.requires inv.holds;
@@ -35,7 +35,7 @@ loop-identity-preserved-else-not-settle c =
     let copy = c.in_ok-copy.copy in
     let join = c.loop-identity.join in
     let now = c.settle.new.self in
-    let out : ¬ Contains c.args.conflicting.now i = λ at. true≢false (sym (c.is_among.ensures.1 at) ∙ c.if-not-is_among.true) in
+    let out : ¬ Contains c.args.conflicting.now i = λ at. true≢false (sym (c.contains.ensures ∙ (c.in_ok-left_out.ensures i).1 at) ∙ c.if-not-contains.true) in
     let stays : SameJoins (option_map document join.joined) (Some (document copy)) (option_map document now.joined) (option_map document now.pending) = subst (λ m. SameJoins m (Some (document copy)) (option_map document now.joined) (option_map document now.pending)) (ap (option_map document) c.put.ensures.joined)
     (subst (λ o. SameJoins (option_map document c.put.new.self.joined) (option_map document o) (option_map document now.joined) (option_map document now.pending)) c.put.ensures.pending c.settle.ensures.stays) in
     record {
@@ -49,7 +49,7 @@ loop-identity-preserved c =
     let inv = c.loop-identity.invariant.joins in
     record {
       settled = c.loop-identity.invariant.settled;
-      joins = Passed-step inv c.in-Some.ensures.steps (one_over inv.passed c.in-Some.identity.now c.in-Some.patch.now c.args.conflicting.now c.loop-identity.join (c.is_among.ensures.0 c.if-not-is_among.false) inv.holds);
+      joins = Passed-step inv c.in-Some.ensures.steps (one_over inv.passed c.in-Some.identity.now c.in-Some.patch.now c.args.conflicting.now c.loop-identity.join ((c.in_ok-left_out.ensures c.in-Some.identity.now).0 (sym c.contains.ensures ∙ c.if-not-contains.false)) inv.holds);
     }
 
 pub returns : goal.returns
