@@ -17,8 +17,10 @@ import sys
 
 TOP = pathlib.Path(__file__).resolve().parent.parent
 
-HEAD = """\
-.TH MERGEJOIN 1
+VERSION = re.search(r"^## ([0-9.]+) ", (TOP / "CHANGELOG.md").read_text("utf-8"), re.M)[1]
+
+HEAD = f"""\
+.TH MERGEJOIN 1 "" "mergejoin {VERSION}"
 .nh
 .ad l
 .SH NAME
@@ -28,6 +30,9 @@ mergejoin \\- merge, join, replay, patch and rewrite JSON documents
 .I SUBCOMMAND
 .br
 .B mergejoin \\-\\-help
+.br
+.B mergejoin help
+.I SUBCOMMAND
 .SH DESCRIPTION"""
 
 RESULT = "Prints one JSON text, compact, with names in the order of their UTF\\-8 bytes."
@@ -71,7 +76,7 @@ printf \\(aq%s\\(aq \\(aq[{"k":0},{"k":null},{"a":{"x":1}},{"k":null}]\\(aq | me
 .BR jq (1)"""
 
 SCRIPT = """\
-.TH MERGEJOIN\\-{title} 1
+.TH MERGEJOIN\\-{title} 1 "" "mergejoin {version}"
 .nh
 .ad l
 .SH NAME
@@ -126,8 +131,8 @@ def script(name):
         text.append(".PP")
     words, other = SCRIPTS[name]
     about = first[0].lower() + first[1:].split(":")[0].rstrip(".").replace("\n", " ")
-    return SCRIPT.format(title=name.upper(), name=name, about=roff(about), words=roff(words), text="\n".join(text[:-1]),
-                         other=other)
+    return SCRIPT.format(title=name.upper(), version=VERSION, name=name, about=roff(about), words=roff(words),
+                         text="\n".join(text[:-1]), other=other)
 
 
 def program():

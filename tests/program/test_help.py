@@ -3,6 +3,7 @@ given here. The man pages are what docs/manual.py prints from the help of the pr
 """
 
 import os
+import re
 
 import pytest
 from calls import TOP
@@ -25,8 +26,9 @@ Options:
 
 Limits: 1,048,576 bytes of input, 127 levels of nesting, whole numbers from -2^63 to 2^64 - 1.
 Status: 0 with a result; 1 there is none; 2 the input or an argument is wrong; 3 memory or a stream failed.
-Each subcommand's help has its input. mergejoin-locate shows in which file a refusal arose, and where.
-REFUSALS.md, in share/doc/mergejoin or in docs of the repository, explains each line of refusal.
+Each subcommand's help has its input. mergejoin-feed makes one input of several files, and mergejoin-locate
+shows in which of them a refusal arose, and where. REFUSALS.md, in share/doc/mergejoin or in docs of the
+repository, explains each line of refusal. Version 0.3.0.
 """
 
 HELP = """\
@@ -107,17 +109,28 @@ def what_compares_a_print(run):
     return prints
 
 
-@pytest.mark.parametrize("word", ["--help", "-h"])
+@pytest.mark.parametrize("word", ["--help", "-h", "help"])
 def test_the_help_of_the_program(prints, word):
     prints(["mergejoin", word], HELP_OF_PROGRAM)
+
+
+def test_the_help_has_one_name_and_one_version(program, run, tmp_path):
+    (tmp_path / "another").symlink_to(program)
+    assert run([tmp_path / "another", "--help"]) == (0, HELP_OF_PROGRAM, "")
+    assert f" Version {re.search('^## ([0-9.]+) ', (TOP / 'CHANGELOG.md').read_text('utf-8'), re.M)[1]}.\n" in HELP_OF_PROGRAM
+
+
+def test_help_of_what_is_no_subcommand_is_an_error(program, run):
+    assert run([program, "help", "frob"]) == run([program, "frob"])
 
 
 @pytest.mark.parametrize("words,texts", SUBCOMMANDS.items(), ids=SUBCOMMANDS)
 def test_the_help_of_a_subcommand(prints, words, texts):
     about, given, example, status, _ = texts
     arguments = POINTER if "POINTER" in words else ""
-    prints(["mergejoin", words.split()[0], "--help"],
-           HELP.format(about=about, words=words, arguments=arguments, input=given, example=example, status=status))
+    for asked in ([words.split()[0], "--help"], ["help", words.split()[0]]):
+        prints(["mergejoin", *asked],
+               HELP.format(about=about, words=words, arguments=arguments, input=given, example=example, status=status))
 
 
 @pytest.mark.parametrize("example,line", [texts[2::2] for texts in SUBCOMMANDS.values()], ids=SUBCOMMANDS)

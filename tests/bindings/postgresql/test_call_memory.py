@@ -119,10 +119,26 @@ def test_only_who_may_changes_the_memory_of_a_call(server):
 LONG = """SELECT length(mergejoin_patch(json_build_object('a', (SELECT json_agg(n) FROM generate_series(1, 100000) AS n)),
   (SELECT json_agg(json_build_object('op', 'copy', 'from', '/a', 'path', '/b')) FROM generate_series(1, 10000)))::text)"""
 
+# Calls that take minutes, and hardly any memory: each operation moves all elements of an array.
+ARRAY = "json_build_object('a', (SELECT json_agg(n) FROM generate_series(1, 100000) AS n))"
+SHIFTS = {
+    "moves": "json_build_object('op', 'move', 'from', '/a/1', 'path', '/a/0')",
+    "removals": "json_build_object('op', 'remove', 'path', '/a/0')",
+    "additions": "json_build_object('op', 'add', 'path', '/a/0', 'value', 0)",
+}
+
 
 def test_a_long_call_ends_soon_after_a_timeout(server):
     said, seconds, _ = resident_after(server, TIMEOUT + LONG)
     assert said == "ERROR:  57014\n" and seconds < 2
+
+
+@pytest.mark.parametrize("kind", SHIFTS)
+def test_a_patch_of_many_shifts_ends_soon_after_a_timeout(server, kind):
+    """The operations are made before the timeout counts. Without it the call would take minutes."""
+    made = f"CREATE TEMP TABLE given AS SELECT {ARRAY} AS document, json_agg({SHIFTS[kind]}) AS operations FROM generate_series(1, 99000);\n"
+    said, seconds, _ = resident_after(server, made + TIMEOUT + "SELECT length(mergejoin_patch(document, operations)::text) FROM given")
+    assert said == "SELECT 1\nERROR:  57014\n" and seconds < 4
 
 
 def test_a_server_is_stopped_in_a_long_call(needs, library):
