@@ -109,17 +109,18 @@ none_has s empty i = (
 -- one more was inserted
 pub one_more : (s n : BTreeSet Identity) (xs : List Identity) (k : Identity) → Updates identity_cmp s n k true → HasThese s xs → HasThese n (xs ++ k ∷ [])
 one_more s n xs k updates has i = (
-  by (is_at (identity_cmp k) i) refl,
+  found (is_at (identity_cmp k) i) refl (updates.0 i),
   λ at. elim (Contains-push_cases xs k i at) [
-    | inl there ↦ kept (is_at (identity_cmp k) i) ((has i).1 there) (updates.0 i)
+    | inl there ↦ kept (is_at (identity_cmp k) i) (updates.0 i) ((has i).1 there)
     | inr same ↦ subst (λ j. contains identity_cmp n j ≡ true) same updates.1
   ],
 )
   where
-    by : (b : Bool) → is_at (identity_cmp k) i ≡ b → contains identity_cmp n i ≡ true → Contains (xs ++ k ∷ []) i
-    by true is yes = subst (Contains (xs ++ k ∷ [])) (tells_apart exact_identities k i is) (Contains-push xs k)
-    by false is yes = Contains-append_left xs (k ∷ []) i ((has i).0 (sym (updates.0 i ∙ ap (λ b. cond b true (contains identity_cmp s i)) is) ∙ yes))
+    found : (b : Bool) → is_at (identity_cmp k) i ≡ b → contains identity_cmp n i ≡ cond b true (contains identity_cmp s i)
+        → contains identity_cmp n i ≡ true → Contains (xs ++ k ∷ []) i
+    found true same now = λ _. subst (Contains (xs ++ k ∷ [])) (tells_apart exact_identities k i same) (Contains-push xs k)
+    found false other now = λ here. Contains-append_left xs (k ∷ []) i ((has i).0 (sym now ∙ here))
 
-    kept : (b : Bool) → contains identity_cmp s i ≡ true → contains identity_cmp n i ≡ cond b true (contains identity_cmp s i) → contains identity_cmp n i ≡ true
-    kept true old now = now
-    kept false old now = now ∙ old
+    kept : (b : Bool) → contains identity_cmp n i ≡ cond b true (contains identity_cmp s i) → contains identity_cmp s i ≡ true → contains identity_cmp n i ≡ true
+    kept true now = λ _. now
+    kept false now = λ before. now ∙ before

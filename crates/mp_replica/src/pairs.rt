@@ -42,7 +42,7 @@ pub(crate) fn ascending(
     let in_those = set_of(alloc, those)?;
     let mut found = Vec::new(alloc);
     for identity in patches.keys() {
-        if in_these.contains(*identity) && in_those.contains(*identity) {
+        if in_these.contains(identity) && in_those.contains(identity) {
             found.push(*identity)?;
         }
     }

@@ -201,7 +201,7 @@ fn conflicting_with(
     let before = set_of(alloc, known)?;
     let mut found = Vec::new(alloc);
     for (other, stored) in patches.iter() {
-        if before.contains(*other) || !compatible(patch, stored) {
+        if before.contains(other) || !compatible(patch, stored) {
             found.push(*other)?;
         }
     }
@@ -225,7 +225,7 @@ fn join_of_others(
     let left_out = set_of(alloc, conflicting)?;
     let mut join = LiveJoin::new();
     for (identity, patch) in patches.iter() {
-        if !left_out.contains(*identity) {
+        if !left_out.contains(identity) {
             let copy = patch.copy(alloc)?;
             join.put(copy);
             if !join.settle(alloc) {

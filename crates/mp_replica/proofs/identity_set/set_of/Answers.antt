@@ -13,7 +13,7 @@ loop-identity-preserved c =
     let ids = c.args.identities.now in
     let k = c.loop-identity.identity-index in
     passed_on (HasThese c.insert.new.self) ids k no_identity c.loop-identity-test.true
-    (one_more c.loop-identity.set c.insert.new.self (take k ids) (get_or ids k no_identity) c.in_ok-insert.ensures.updates c.loop-identity.invariant)
+    (one_more c.loop-identity.set c.insert.new.self (take k ids) (get_or ids k no_identity) c.in_ok-_is_new.ensures.updates c.loop-identity.invariant)
 
 pub returns : goal.returns
 returns c = passed_all (HasThese c.loop-identity.set) c.args.identities.now c.loop-identity.identity-index c.loop-identity-test.false c.loop-identity.invariant
