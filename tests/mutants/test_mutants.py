@@ -28,7 +28,7 @@ from calls import PROGRAM, TOP
 HERE = pathlib.Path(__file__).resolve().parent
 SUM = PROGRAM.with_suffix(".sum")
 # What was proved and built. A test whose program of a crate is absent would build it.
-BUILT = [str(PROGRAM.relative_to(TOP)), str(SUM.relative_to(TOP)), "out/mergejoin.kit", "out/libmp_c.a", "out/libmp_c.sum", "out/gate.log",
+BUILT = [str(PROGRAM.relative_to(TOP)), str(SUM.relative_to(TOP)), "out/mergejoin.kit", "out/libmp_c.a", "out/libmp_c.sum", "out/arm64/libmp_c.a", "out/arm64/libmp_c.sum", "out/gate.log",
          *(f"crates/{name}/out/{name}{end}" for name, end in (
              ("allocation_failures", ""), ("replica_runs", ""), ("test_vectors", "_tests"), ("workloads", "")))]
 LEFT_OUT = ("out", ".git", "target", "__pycache__")
