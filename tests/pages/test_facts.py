@@ -108,7 +108,7 @@ def refusals():
     blocks = "\n".join(re.findall(r"^```console\n(.*?)^```$", read("docs/REFUSALS.md"), re.M | re.S))
     for line, status in re.findall(r"^([a-z][^\n]*)\nstatus ([0-9])$", blocks, re.M):
         line = line.split(": ")[-1] if line.startswith(("input", "pointer")) else line
-        words = "conflict" if line.startswith("conflict") else re.sub(r"(operation|error|feed).*| [0-9]+$", "", line)
+        words = "conflict" if line.startswith("conflict") else re.sub(r"(operation|error|mergejoin-feed).*| [0-9]+$", "", line)
         if words:
             yield words, status
 

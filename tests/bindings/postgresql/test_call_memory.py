@@ -138,7 +138,7 @@ def test_a_patch_of_many_shifts_ends_soon_after_a_timeout(server, kind):
     """The operations are made before the timeout counts. Without it the call would take minutes."""
     made = f"CREATE TEMP TABLE given AS SELECT {ARRAY} AS document, json_agg({SHIFTS[kind]}) AS operations FROM generate_series(1, 99000);\n"
     said, seconds, _ = resident_after(server, made + TIMEOUT + "SELECT length(mergejoin_patch(document, operations)::text) FROM given")
-    assert said == "SELECT 1\nERROR:  57014\n" and seconds < 4
+    assert said == "ERROR:  57014\n" and seconds < 4
 
 
 def test_a_server_is_stopped_in_a_long_call(needs, library):
