@@ -16,7 +16,8 @@ import calls
 import pytest
 from calls import PROGRAM, TOP
 from installed import INSTALLED, copies
-from package import VERSION, WHEEL, environment, lacks
+from package import WHEEL, environment, lacks
+from released import VERSION
 from server import config, lacking, running
 from sqlite_extension import NAME as MODULE
 from sqlite_extension import connected
