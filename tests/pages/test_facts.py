@@ -47,6 +47,7 @@ NEEDS = r"^Depends: libc6 \(>= ([0-9.]+)\)"
 # Of each fact the file, a pattern for it, and what it is to be.
 FACTS = {
     "glibc of the program": ("README.md", r"glibc\s+([0-9.]*[0-9])", found_in("bin/package", f"{NEEDS}\nRecommends: python3$")),
+    "glibc of the program where it is installed": ("docs/INSTALL.md", r"glibc\s+([0-9.]*[0-9])", found_in("bin/package", f"{NEEDS}\nRecommends: python3$")),
     "glibc of the library": ("docs/LIBRARIES.md", r"glibc\s+([0-9.]*[0-9])", found_in("bin/package", f"{NEEDS}\nSection: libs$")),
     "statuses": ("docs/LIBRARIES.md", r"^\| ([0-9]+) `(MERGEJOIN_\w+)`", sorted((number, name) for name, number in STATUSES)),
     "commands": ("README.md", r"^`mergejoin (\w+)", COMMANDS),

@@ -44,7 +44,7 @@ def interpreter_with_the_package(wheel, tmp_path_factory):
 def test_no_wheel_is_made_without_a_library(needs, tmp_path):
     needs(lacking=lacks())
     status, _, err = make_wheel(tmp_path, MERGEJOIN_LIB=str(tmp_path))
-    assert status == 1 and "there is no libmergejoin.a: bin/library makes it" in err
+    assert status == 1 and "there is no libmergejoin.a: libmergejoin-dev has it" in err
 
 
 def modules():
