@@ -27,22 +27,18 @@ def what_makes_a_path_without_a_command(tmp_path):
     return without
 
 
-@pytest.mark.parametrize("is_repository", [True, False])
-def test_without_git_the_same_is_packed_and_no_commit_named(one, top, run, without, tmp_path, is_repository):
-    """A tree that is no repository has no commit, and so needs no git."""
-    says = ""
-    if is_repository:
-        (top / ".git").mkdir()
-        says = "package: SHA256SUMS names no commit, since git is not on the PATH\n"
+def test_without_git_the_same_is_packed_and_no_commit_named(one, top, run, without, tmp_path):
+    (top / ".git").mkdir()
     status, out, err = run([top / "bin/package", "packed"], setting={"PATH": without("git")}, limit=300)
-    assert err == says
+    assert err == "package: SHA256SUMS names no commit, since git is not on the PATH\n"
     is_made((status, out, ""), tmp_path / "packed")
     assert [name for name in MADE[:-1] if (one / name).read_bytes() != (tmp_path / "packed" / name).read_bytes()] == []
     assert (tmp_path / "packed/SHA256SUMS").read_text().startswith("# commit unknown\n")
 
 
-# Mounts a disk of a megabyte in $1, which no other process has, runs what follows, and lists each file there.
-ON_A_DISK = 'mount -t tmpfs -o size=1m small "$1" || exit; "${@:2}"; status=$?; find "$1" -mindepth 1; exit $status'
+# Mounts a small disk in $1, which no other process has, runs what follows, and lists each file there.
+SIZE = 131_072
+ON_A_DISK = 'mount -t tmpfs -o size=%d small "$1" || exit; "${@:2}"; status=$?; find "$1" -mindepth 1; exit $status' % SIZE
 
 
 @pytest.fixture(name="on_a_small_disk")
@@ -58,8 +54,8 @@ def test_a_full_disk_for_the_packages_is_reported_and_has_none(program, library,
     needs("dpkg-deb")
     status, out, err = on_a_small_disk(PACKAGE, tmp_path / "disk/packed")
     *_, needed = err.split(" bytes left, and ")
-    assert (status, out) == (1, "") and int(needed.removesuffix(" are needed\n")) > 2**20
-    assert err == f"package: the disk of {tmp_path}/disk/packed has {2**20} bytes left, and {needed}"
+    assert (status, out) == (1, "") and int(needed.removesuffix(" are needed\n")) > SIZE
+    assert err == f"package: the disk of {tmp_path}/disk/packed has {SIZE} bytes left, and {needed}"
 
 
 def test_a_disk_that_becomes_full_is_reported_and_has_no_package(top, on_a_small_disk, tmp_path):
@@ -73,7 +69,7 @@ def test_a_disk_that_becomes_full_is_reported_and_has_no_package(top, on_a_small
 
 def test_a_full_disk_for_temporary_files_is_reported(program, library, needs, on_a_small_disk, tmp_path):
     needs("dpkg-deb")
-    says = f"package: the disk of {tmp_path}/disk has {2**20} bytes left, and 100000000 are needed, so set TMPDIR to a directory on another\n"
+    says = f"package: the disk of {tmp_path}/disk has {SIZE} bytes left, and 100000000 are needed, so set TMPDIR to a directory on another\n"
     assert on_a_small_disk(PACKAGE, "packed", TMPDIR=str(tmp_path / "disk")) == (1, "", says)
     assert not (tmp_path / "packed").exists()
 
