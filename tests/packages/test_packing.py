@@ -110,7 +110,7 @@ def test_another_user_runs_and_installs_what_was_built(visitor):
 def test_another_user_packs_what_was_built(visitor, one):
     """The same bytes. Cargo may be for root alone."""
     status, _, err = visitor.run(visitor.top / "bin/package", visitor.own / "packed")
-    assert (status, err) in ((0, ""), (0, "package: no crate for Rust, since cargo is not installed\n"))
+    assert (status, err) in ((0, ""), (0, "package: no crate for Rust, since cargo is not on the PATH\n"))
     names = [name for name in MADE[:-1] if name != CRATE or not err]
     assert [name for name in names if (one / name).read_bytes() != (visitor.own / "packed" / name).read_bytes()] == []
 
