@@ -2,7 +2,7 @@
 
 import calls
 import pytest
-from making import PACKAGE, copy_of_what_was_built
+from making import LIMIT, PACKAGE, copy_of_what_was_built
 
 
 @pytest.fixture(name="packed", scope="session")
@@ -10,7 +10,7 @@ def what_bin_package_ends_with(program, library, needs, tmp_path_factory):
     """A directory in which bin/package has made the packages by a narrow mask, and how it ended."""
     needs("dpkg-deb")
     directory = tmp_path_factory.mktemp("packages")
-    return directory / "one", calls.run(f"umask 077; {PACKAGE} one", shell=True, cwd=directory)
+    return directory / "one", calls.run(f"umask 077; {PACKAGE} one", shell=True, cwd=directory, limit=LIMIT)
 
 
 @pytest.fixture(name="one", scope="session")

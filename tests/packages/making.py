@@ -10,6 +10,7 @@ from server import config, lacking
 from sqlite_extension import lacking as lacking_sqlite
 
 PACKAGE = TOP / "bin/package"
+LIMIT = 300  # seconds for all of them
 # Each .deb and what it needs.
 NEEDS = {
     "mergejoin": "libc6 (>= 2.34)",

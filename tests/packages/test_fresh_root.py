@@ -12,11 +12,13 @@ import calls
 import fresh_root
 import pytest
 from calls import TOP
+from making import LIMIT
 
 PAGE = (TOP / "docs/INSTALL.md").read_text("utf-8")
 PARTS = list(fresh_root.blocks(PAGE))
 STEPS = [pytest.param(number, step, id=f"{number}-{step} {part.steps[step].command.splitlines()[0]}")
          for number, part in enumerate(PARTS) if isinstance(part, fresh_root.Block) for step in range(len(part.steps))]
+pytestmark = pytest.mark.slow
 # What prints how it goes on, which differs from machine to machine.
 IS_LONG = re.compile(r"(?:apt-get|\w+/bin/pip) ")
 
@@ -28,7 +30,7 @@ def directory_of_signed_packages(program, library, needs, tmp_path_factory):
     directory = tmp_path_factory.mktemp("signed")
     key, made = directory / "key", directory / "made"
     assert calls.run(["ssh-keygen", "-q", "-t", "ed25519", "-N", "", "-f", key]) == (0, "", "")
-    status, _, err = calls.run([TOP / "bin/package", "--sign", key, made], limit=300)
+    status, _, err = calls.run([TOP / "bin/package", "--sign", key, made], limit=LIMIT)
     assert (status, err) == (0, "")
     (made / "signers").write_text(f"mergejoin {key.with_suffix('.pub').read_text()}")
     return made

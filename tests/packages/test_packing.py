@@ -9,7 +9,9 @@ import tempfile
 
 import calls
 import pytest
-from making import CRATE, MADE, PACKAGE, copy_of_what_was_built, is_made
+from making import CRATE, LIMIT, MADE, PACKAGE, copy_of_what_was_built, is_made
+
+pytestmark = pytest.mark.slow
 
 
 @pytest.fixture(name="without")
@@ -29,7 +31,7 @@ def what_makes_a_path_without_a_command(tmp_path):
 
 def test_without_git_the_same_is_packed_and_no_commit_named(one, top, run, without, tmp_path):
     (top / ".git").mkdir()
-    status, out, err = run([top / "bin/package", "packed"], setting={"PATH": without("git")}, limit=300)
+    status, out, err = run([top / "bin/package", "packed"], setting={"PATH": without("git")}, limit=LIMIT)
     assert err == "package: SHA256SUMS names no commit, since git is not on the PATH\n"
     is_made((status, out, ""), tmp_path / "packed")
     assert [name for name in MADE[:-1] if (one / name).read_bytes() != (tmp_path / "packed" / name).read_bytes()] == []
@@ -47,7 +49,7 @@ def what_runs_words_with_a_small_disk(tmp_path):
     words = ["unshare", "--mount", "bash", "-c", ON_A_DISK, "bash", tmp_path / "disk"]
     if calls.run([*words, "true"])[0] != 0:
         pytest.skip("this user can't mount a disk")
-    return lambda *more, **setting: calls.run([*words, *more], setting=setting, cwd=tmp_path, limit=300)
+    return lambda *more, **setting: calls.run([*words, *more], setting=setting, cwd=tmp_path, limit=LIMIT)
 
 
 def test_a_full_disk_for_the_packages_is_reported_and_has_none(program, library, needs, on_a_small_disk, tmp_path):
@@ -86,7 +88,7 @@ class Visitor:
         calls.run(["chmod", "-R", "go+rX", self.top])
 
     def run(self, *words, given=b""):
-        return calls.run([*self.words, f"TMPDIR={self.own}", *words], given, cwd=self.own, limit=300)
+        return calls.run([*self.words, f"TMPDIR={self.own}", *words], given, cwd=self.own, limit=LIMIT)
 
 
 @pytest.fixture(name="visitor", scope="module")
