@@ -5,7 +5,6 @@ bin/package makes, and no other.
 
 import pathlib
 import re
-import shutil
 import tempfile
 
 import calls
@@ -45,7 +44,7 @@ def fresh_root_of_the_distribution(needs):
         root = pathlib.Path(directory) / "root"
         fresh_root.make(root)
         yield root
-        shutil.rmtree(root)
+        assert calls.run(["rm", "-rf", root], limit=300) == (0, "", "")
 
 
 @pytest.fixture(name="printed", scope="module")
@@ -55,7 +54,7 @@ def what_each_step_ended_with(packages, root):
 
 def pattern(shown):
     """Gives a pattern for what a page shows, of which '..' at the end of a line is anything."""
-    return re.sub(r" ?\\\.\\\.$", ".*", re.escape(shown), flags=re.M)
+    return re.sub(r"\\\.\\\.$", ".*", re.escape(shown), flags=re.M)
 
 
 @pytest.mark.parametrize("number,step", STEPS)
