@@ -54,7 +54,8 @@ def what_each_step_ended_with(packages, root):
 
 def pattern(shown):
     """Gives a pattern for what a page shows, of which '..' at the end of a line is anything."""
-    return re.sub(r"\\\.\\\.$", ".*", re.escape(shown), flags=re.M)
+    parts = ((line.removesuffix(".."), ".*" if line.endswith("..") else "") for line in shown.splitlines())
+    return "".join(f"{re.escape(text)}{rest}\n" for text, rest in parts)
 
 
 @pytest.mark.parametrize("number,step", STEPS)
@@ -68,6 +69,14 @@ def test_a_step_prints_what_the_page_shows(printed, number, step):
 def test_the_page_names_each_file_that_is_made_and_no_other(packages):
     named = set(re.findall(r"[\w.-]+\.(?:deb|whl|crate|tar\.gz)\b", PAGE))
     assert named == {path.name for path in packages.iterdir()} - {"SHA256SUMS", "SHA256SUMS.sig", "signers"}
+
+
+@pytest.mark.parametrize("shown,printed,is_shown", [
+    ("key ..\n1\n", "key SHA256:a+/\n1\n", True), ("key ..\n", "kez SHA256\n", False), ("a.b\n", "a.b\n", True), ("a.b\n", "aab\n", False),
+    ("", "", True), ("", "1\n", False), ("1\n", "1\n2\n", False),
+])
+def test_what_is_shown_is_what_is_printed_but_for_two_dots(shown, printed, is_shown):
+    assert bool(re.fullmatch(pattern(shown), printed)) == is_shown
 
 
 def test_each_block_of_the_page_is_run():
