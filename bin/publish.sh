@@ -51,7 +51,15 @@ look_at() {
   while [[ -n $directory && ! -e $directory && ! -L $directory ]]; do directory=${directory%/*}; done
   directory=${directory:-/}
   [[ -d $directory ]] || refuse "$directory is there, and is not a directory"
-  [[ -w $directory && -x $directory ]] || refuse "$directory can't be written to"
+  [[ -w $directory && -x $directory ]] || refuse "$directory can't be written to, so name another directory"
+}
+
+# Looks whether so many bytes are left for a directory, which need not be there yet. Further words say what else can be done.
+look_for_space() {
+  local directory=$1 left
+  while [[ -n $directory && ! -d $directory ]]; do directory=${directory%/*}; done
+  left=$(df --output=avail -B1 -- "${directory:-/}" | tail -n 1)
+  ((left >= $2)) || { plain "${0##*/}: the disk of $1 has $((left)) bytes left, and $2 are needed${3-}" >&2 && exit 1; }
 }
 
 declare -A private=() # of each directory in which files are put, the one within it in which they are made

@@ -1,12 +1,13 @@
-"""Builds the extension module of the package, with the library for C in it: libmergejoin.a of out/lib, where bin/library makes it, or of
-the directory that MERGEJOIN_LIB names. The extension for SQLite is packed too if it was made: in bindings/sqlite, or as MERGEJOIN_SQLITE
-names it. What else there is to say of the package stands in pyproject.toml.
+"""Builds the extension module of the package, with the library for C in it: libmergejoin.a of the directory that MERGEJOIN_LIB names; else of
+the one where pkg-config has it installed; else of out/lib in the repository. The extension for SQLite is packed too if it was made: in
+bindings/sqlite, or as MERGEJOIN_SQLITE names it. What else there is to say of the package stands in pyproject.toml.
 """
 
 import importlib.util
 import os
 import pathlib
 import platform
+import subprocess
 
 from setuptools import Extension, setup
 from setuptools.command.build_ext import build_ext
@@ -17,7 +18,22 @@ if not any(map(importlib.util.find_spec, ("setuptools.command.bdist_wheel", "whe
 
 HERE = pathlib.Path(__file__).resolve().parent
 LIBRARY, HEADER = "libmergejoin.a", "mergejoin.h"
-LIBRARIES = pathlib.Path(os.environ.get("MERGEJOIN_LIB") or HERE / "../../out/lib").resolve()
+
+
+# The least version whose exports are those that are called.
+LEAST = "mergejoin >= 0.3.0"
+
+
+def installed():
+    """Gives the directory of the library that pkg-config knows, which is nothing if there is none, or no pkg-config."""
+    try:
+        words = [os.environ.get("PKG_CONFIG", "pkg-config"), "--variable=libdir", LEAST]
+        return subprocess.run(words, capture_output=True, text=True, check=False).stdout.strip()
+    except OSError:
+        return ""
+
+
+LIBRARIES = pathlib.Path(os.environ.get("MERGEJOIN_LIB") or installed() or HERE / "../../out/lib").resolve()
 SQLITE = pathlib.Path(os.environ.get("MERGEJOIN_SQLITE") or HERE / "../sqlite/mergejoin_sqlite.so").resolve()
 # Where the header is next to the library: as bin/library makes it, or as it is installed.
 HEADERS = [LIBRARIES.parent / "include", LIBRARIES.parents[1] / "include"]
@@ -29,7 +45,7 @@ class WithLibrary(build_ext):
     def run(self):
         for name, places in ((LIBRARY, [LIBRARIES]), (HEADER, HEADERS)):
             if not any((place / name).is_file() for place in places):
-                raise SystemExit(f"there is no {name}: bin/library makes it, and MERGEJOIN_LIB may name the directory of {LIBRARY}")
+                raise SystemExit(f"there is no {name}: libmergejoin-dev has it, and MERGEJOIN_LIB may name the directory of {LIBRARY}")
         super().run()
         if SQLITE.is_file():
             directory = pathlib.Path(self.get_ext_fullpath(MODULE.name)).parent / "lib"

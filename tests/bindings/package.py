@@ -8,11 +8,11 @@ import sysconfig
 
 import calls
 from calls import TOP
+from released import VERSION
 
 # The distribution's own interpreter, which has what makes a package, and runs pytest.
 PYTHON = "/usr/bin/python3"
 SOURCES = TOP / "bindings/python"
-VERSION = re.findall(r"^## ([\d.]+) ", (TOP / "CHANGELOG.md").read_text("utf-8"), re.M)[0]
 WHEEL = f"mergejoin-{VERSION}-cp310-abi3-manylinux_2_17_x86_64.whl"
 SETTING = {"PATH": "/usr/bin:/bin", "PIP_DISABLE_PIP_VERSION_CHECK": "1", "PIP_ROOT_USER_ACTION": "ignore",
            "MERGEJOIN_LIB": str(TOP / "out/lib")}

@@ -11,6 +11,7 @@ import calls
 import driving
 from counting import instructions
 from driving import CONFLICT, HERE, LIBRARIES, MEMCHECK, RESULT, TOP, call, call_of, replies, run
+from released import NUMBERS, VERSION
 
 # The instructions of the whole program for each patch of 40 bytes on a document of 0.8 MB.
 MOST_INSTRUCTIONS, LONG, MANY = 45_000, 800_000, 10_000
@@ -167,7 +168,7 @@ def project(directory, installed, version):
 
 def test_cmake_finds_the_library_wherever_it_is(needs, directory, installed):
     needs("cmake")
-    status, _, err = project(directory / "found", installed, version_of_the_changes().rsplit(".", 1)[0])
+    status, _, err = project(directory / "found", installed, f"{FIRST}.{SECOND}")
     assert status == 0, err
     run(["cmake", "--build", directory / "found/build"])
     for kind in ("mergejoin", "static"):
@@ -176,12 +177,18 @@ def test_cmake_finds_the_library_wherever_it_is(needs, directory, installed):
     assert "[libmergejoin.so.1]" in needed
 
 
-@pytest.mark.parametrize("version,is_found", [("0.3.0", True), ("0.3", True), ("0.2", False), ("0.4", False), ("0.3.1", False), ("1.0", False)])
+FIRST, SECOND, THIRD = map(int, NUMBERS)
+
+
+@pytest.mark.parametrize("version,is_found", [
+    (VERSION, True), (f"{FIRST}.{SECOND}", True), (f"{FIRST}.{SECOND + 1}", False), (f"{FIRST}.{SECOND}.{THIRD + 1}", False),
+    (f"{FIRST + 1}.0", False), (f"{FIRST}.{SECOND - 1}", FIRST > 0),
+])
 def test_cmake_finds_a_version_that_serves(needs, directory, installed, version, is_found):
     needs("cmake")
     status, _, err = project(directory / f"version {version}", installed, version)
     assert (status == 0) == is_found, err
-    assert is_found or "0.3.0" in err
+    assert is_found or VERSION in err
 
 
 @pytest.mark.parametrize("static", [False, True])
@@ -195,20 +202,14 @@ def test_pkg_config_finds_the_library_wherever_it_is(needs, directory, installed
     run([directory / "by-pkg-config"], {"LD_LIBRARY_PATH": str(directory / "prefix/lib")})
 
 
-def version_of_the_changes():
-    return re.search(r"^## ([0-9.]+) \([0-9-]+\)$", (TOP / "CHANGELOG.md").read_text("utf-8"), re.M)[1]
-
-
 def test_the_version_is_the_same_everywhere(directory):
-    version = version_of_the_changes()
     source = directory / "version.c"
     source.write_text('#include <mergejoin.h>\n#include <stdio.h>\nint main(void) {\n  printf("%d %d %d %d %u %s\\n", MERGEJOIN_VERSION_MAJOR, '
                       "MERGEJOIN_VERSION_MINOR, MERGEJOIN_VERSION_PATCH, MERGEJOIN_VERSION, (unsigned)mergejoin_version(), MERGEJOIN_VERSION_STRING);\n}\n")
-    first, second, third = map(int, version.split("."))
-    number = first * 1_000_000 + second * 1000 + third
-    assert run([driving.compiled(directory, source)]) == f"{first} {second} {third} {number} {number} {version}\n"
-    assert f"\nVersion: {version}\n" in (LIBRARIES / "pkgconfig/mergejoin.pc").read_text("utf-8")
-    assert f"set(PACKAGE_VERSION {version})\n" in (LIBRARIES / "cmake/mergejoin/mergejoin-config-version.cmake").read_text("utf-8")
+    number = FIRST * 1_000_000 + SECOND * 1000 + THIRD
+    assert run([driving.compiled(directory, source)]) == f"{FIRST} {SECOND} {THIRD} {number} {number} {VERSION}\n"
+    assert f"\nVersion: {VERSION}\n" in (LIBRARIES / "pkgconfig/mergejoin.pc").read_text("utf-8")
+    assert f"set(PACKAGE_VERSION {VERSION})\n" in (LIBRARIES / "cmake/mergejoin/mergejoin-config-version.cmake").read_text("utf-8")
 
 
 @pytest.mark.parametrize("language", ["c", "c++"])

@@ -8,7 +8,7 @@ import shutil
 import pytest
 from calls import TOP
 from installed import INSTALLED, copies
-from package import VERSION
+from released import VERSION
 
 INSTALL = TOP / "bin/install"
 pytestmark = pytest.mark.usefixtures("program")

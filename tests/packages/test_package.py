@@ -16,13 +16,15 @@ import calls
 import pytest
 from calls import PROGRAM, TOP
 from installed import INSTALLED, copies
-from package import VERSION, WHEEL, environment, lacks
+from making import CRATE, DEBS, EXTENSION, MADE, NEEDS, PACKAGE, PLACE, PYTHON, SHORT, SQLITE, TAR, is_made
+from package import WHEEL, environment, lacks
+from released import VERSION
 from server import config, lacking, running
 from sqlite_extension import NAME as MODULE
 from sqlite_extension import connected
 from sqlite_extension import lacking as lacking_sqlite
 
-PACKAGE, SHARED = TOP / "bin/package", TOP / "out/lib/libmergejoin.so.1"
+SHARED = TOP / "out/lib/libmergejoin.so.1"
 TREE = f"mergejoin-{VERSION}"  # in the .tar.gz
 # The library, and where its files and the link to it are below the prefix of the .tar.gz.
 LIBRARY = {"include/mergejoin.h": "bindings/c/mergejoin.h", **{f"lib/{name}": f"out/lib/{name}" for name in (
@@ -34,46 +36,6 @@ print(mergejoin.__file__.split("/env/")[1].split("/site-packages/")[1])
 print(mergejoin.replay('{"title": "Notes"}', ['{"author": "Ada"}', '{"title": null}']))"""
 # Debian's directory of the libraries of this machine, below /usr.
 FOLDER = "lib/x86_64-linux-gnu"
-# Each .deb and what it needs.
-NEEDS = {
-    "mergejoin": "libc6 (>= 2.34)",
-    "libmergejoin1": "libc6 (>= 2.14)",
-    "libmergejoin-dev": f"libmergejoin1 (= {VERSION})",
-    "mergejoin-doc": "",
-}
-# The extension, if what makes it is there, and where its scripts are.
-EXTENSION = None
-if not lacking("includedir-server"):
-    PLACE, SHORT = config("sharedir").removeprefix("/usr/") + "/extension", VERSION.rsplit(".", 1)[0]
-    SERVER = "postgresql-" + re.findall(r"^PostgreSQL (\d+)", config("version"))[0]
-    EXTENSION = f"{SERVER}-mergejoin"
-    NEEDS[EXTENSION] = f"{SERVER}, libc6 (>= 2.14)"
-SQLITE = None if lacking_sqlite() else "libsqlite3-mod-mergejoin"
-if SQLITE:
-    NEEDS[SQLITE] = "libc6 (>= 2.14), libsqlite3-0 (>= 3.31.0)"
-DEBS, TAR = {name: f"{name}_{VERSION}_{'amd64' if need else 'all'}.deb" for name, need in NEEDS.items()}, f"mergejoin_{VERSION}_amd64.tar.gz"
-# What bin/package makes, in the order in which it is reported.
-MADE = [DEBS.get(it, it) for it in (*list(NEEDS)[:3], TAR, "mergejoin-doc", SQLITE, None if lacks() else WHEEL, EXTENSION, "SHA256SUMS") if it]
-
-
-def is_made(ended, directory, *more):
-    """What was run has made all packages in a directory, and more. It may wait for another build, and say what it lacks."""
-    status, out, err = ended
-    reported = "".join(f"made {directory}/{name}\n" for name in (*MADE, *more))
-    assert (status, out, re.sub(r"^(mergejoin: waiting for|package: no) .*\n", "", err, flags=re.M)) == (0, reported, "")
-
-
-@pytest.fixture(name="packed", scope="module")
-def what_bin_package_ends_with(program, library, needs, tmp_path_factory):
-    """A directory in which bin/package has made the packages by a narrow mask, and how it ended."""
-    needs("dpkg-deb")
-    directory = tmp_path_factory.mktemp("packages")
-    return directory / "one", calls.run(f"umask 077; {PACKAGE} one", shell=True, cwd=directory)
-
-
-@pytest.fixture(name="one", scope="module")
-def directory_of_the_packages(packed):
-    return packed[0]
 
 
 def test_the_packages_are_made_and_the_sums_are_theirs(packed, run):
@@ -281,6 +243,16 @@ def test_the_program_runs_with_the_c_library_alone(one, run, tmp_path):
     assert run([*enter, tmp_path, "/usr/bin/mergejoin", "merge"], '[{"a":1},{"a":null,"b":2}]') == (0, '{"b":2}\n', "")
 
 
+@pytest.mark.parametrize("name", [*PYTHON[1:], *filter(None, [CRATE])])
+def test_the_sources_of_a_binding_have_their_licence_and_version(one, tmp_path, name):
+    """So each is complete without the repository."""
+    assert calls.run(["tar", "-C", tmp_path, "-xzf", one / name]) == (0, "", "")
+    below = tmp_path / TREE
+    assert (below / "LICENSE").read_bytes() == (TOP / "LICENSE").read_bytes()
+    of_version, line = ("Cargo.toml", f'version = "{VERSION}"') if name == CRATE else ("PKG-INFO", f"Version: {VERSION}")
+    assert line in (below / of_version).read_text("utf-8").splitlines()
+
+
 def test_the_wheel_runs_in_an_environment_of_its_own(needs, one, run, tmp_path):
     needs(lacking=lacks())
     words = [environment(tmp_path, one / WHEEL), "-I", "-B", "-c", CALLS]
@@ -320,19 +292,6 @@ def test_lintian_finds_no_error(needs, one, run):
 @pytest.mark.parametrize("path,enough", [(PROGRAM, 34), (SHARED, 14)], ids=["program", "library"])
 def test_the_c_library_that_a_package_needs_is_enough(program, library, path, enough):
     assert max(int(minor) for minor in re.findall(rb"GLIBC_2\.([0-9]+)", path.read_bytes())) <= enough
-
-
-@pytest.fixture(name="top")
-def copy_with_what_was_built(needs, program, library, tmp_path):
-    """A copy of the sources with the program and the library, in a directory with a space."""
-    needs("dpkg-deb")
-    top = tmp_path / "a copy"
-    for name in ("bin", "bindings", "docs", "crates", "out/lib", "out/include"):
-        shutil.copytree(TOP / name, top / name, ignore=shutil.ignore_patterns("out", "target"))
-    for path in (*TOP.glob("*"), *TOP.glob("out/*")):
-        if path.is_file() and not path.name.startswith("."):
-            shutil.copy2(path, top / path.relative_to(TOP))
-    return top
 
 
 def test_the_bytes_do_not_depend_on_the_environment(one, top, run, tmp_path):

@@ -9,6 +9,7 @@ import pathlib
 import re
 
 import pytest
+from released import PLACES
 
 TOP = pathlib.Path(__file__).resolve().parents[2]
 PAGES = ["README.md", "CONTRIBUTING.md", "SECURITY.md", "CHANGELOG.md",
@@ -39,25 +40,24 @@ def found_in(name, pattern):
     return sorted(re.findall(pattern, read(name), re.M))
 
 
-VERSION = re.findall(r"^## ([0-9.]+) \([0-9-]+\)$", read("CHANGELOG.md"), re.M)[0]
 VARIANTS = re.findall(r"^pub enum Command \{\n(.*?)^\}", read("crates/mp_cli/src/command.rt"), re.M | re.S)[0]
 COMMANDS = sorted(name.lower() for name in re.findall(r"^    ([A-Z]\w*)", VARIANTS, re.M))
 STATUSES = re.findall(r"^  (MERGEJOIN_\w+) = ([0-9]+),?$", read("bindings/c/mergejoin.h"), re.M)
 NEEDS = r"^Depends: libc6 \(>= ([0-9.]+)\)"
 # Of each fact the file, a pattern for it, and what it is to be.
 FACTS = {
-    "version of the crate": ("bindings/rust/Cargo.toml", r'^version = "(.*)"$', [VERSION]),
-    "version of the wheel": ("bindings/python/pyproject.toml", r'^version = "(.*)"$', [VERSION]),
-    "version of the header": ("bindings/c/mergejoin.h", '^#define MERGEJOIN_VERSION_STRING "(.*)"$', [VERSION]),
-    **{f"version of bin/{name}": (f"bin/{name}", '^VERSION = "(.*)"$', [VERSION]) for name in ("conflicts", "feed", "locate")},
-    "version of the wheel that a page installs": ("docs/FROM-PYTHON.md", r"mergejoin-([0-9.]+)-cp310", [VERSION]),
-    "version for SQL": ("bindings/postgresql/mergejoin.control", "^default_version = '(.*)'$", [VERSION.rsplit(".", 1)[0]]),
     "glibc of the program": ("README.md", r"glibc\s+([0-9.]*[0-9])", found_in("bin/package", f"{NEEDS}\nRecommends: python3$")),
+    "glibc of the program where it is installed": ("docs/INSTALL.md", r"glibc\s+([0-9.]*[0-9])", found_in("bin/package", f"{NEEDS}\nRecommends: python3$")),
     "glibc of the library": ("docs/FROM-C.md", r"glibc\s+([0-9.]*[0-9])", found_in("bin/package", f"{NEEDS}\nSection: libs$")),
     "statuses": ("docs/ERRORS.md", r"^\| ([0-9]+) `(MERGEJOIN_\w+)`", sorted((number, name) for name, number in STATUSES)),
     "commands": ("README.md", r"^`mergejoin (\w+)", COMMANDS),
     "inputs": ("docs/BEHAVIOUR.md", r"^\| `(\w+)[\w ]*` \| `\[", COMMANDS),
 }
+
+
+@pytest.mark.parametrize("name,pattern,wanted", PLACES.values(), ids=PLACES)
+def test_a_place_has_the_version(name, pattern, wanted):
+    assert set(found_in(name, pattern)) == {wanted}
 
 
 @pytest.mark.parametrize("name,pattern,wanted", FACTS.values(), ids=FACTS)
@@ -119,3 +119,8 @@ def test_a_page_reports_the_status_of_a_refusal(page, words, status):
     parts = re.findall(REPORTS[page], prose(page), re.M | re.S)
     said = ((there, part if page.endswith(".1") else "\n".join(re.findall(r"`([^`]+)`", part))) for there, part in parts)
     assert {there for there, part in said if re.search(rf"\b{words}\b", part)} == {status}
+
+
+@pytest.mark.parametrize("page", PAGES)
+def test_a_page_names_no_address_that_is_made_up(page):
+    assert not re.search(r"\bexample\.(?:org|com|net)\b", prose(page))

@@ -3,7 +3,6 @@ given here. The man pages are what docs/manual.py prints from the help of the pr
 """
 
 import os
-import re
 
 import pytest
 from calls import TOP
@@ -114,10 +113,9 @@ def test_the_help_of_the_program(prints, word):
     prints(["mergejoin", word], HELP_OF_PROGRAM)
 
 
-def test_the_help_has_one_name_and_one_version(program, run, tmp_path):
+def test_the_help_has_one_name(program, run, tmp_path):
     (tmp_path / "another").symlink_to(program)
     assert run([tmp_path / "another", "--help"]) == (0, HELP_OF_PROGRAM, "")
-    assert f" Version {re.search('^## ([0-9.]+) ', (TOP / 'CHANGELOG.md').read_text('utf-8'), re.M)[1]}.\n" in HELP_OF_PROGRAM
 
 
 def test_help_of_what_is_no_subcommand_is_an_error(program, run):

@@ -29,7 +29,8 @@ def test_help(run):
 
 def test_a_place_that_cannot_be_written_to(copy):
     copy.write("out", "")
-    assert copy.run(["bin/prove"]) == (125, "", "mergejoin: the program is to be built in TOP/out, which can't be written to\n")
+    says = "mergejoin: the program is to be built in TOP/out, which can't be written to, so make a copy of the repository that is yours\n"
+    assert copy.run(["bin/prove"]) == (125, "", says)
 
 
 def test_a_build_that_fails(copy):

@@ -24,12 +24,6 @@ def test_in_the_repository_make_finds_the_library(needs, run):
     assert status == 0 and f"{SOURCES}/../../out/lib/libmergejoin.a" in out
 
 
-def test_its_version_is_that_of_the_changes():
-    version = re.search(r"^## (\d+\.\d+)\.\d+ \(", (TOP / "CHANGELOG.md").read_text("utf-8"), re.M)[1]
-    assert f"\ndefault_version = '{version}'\n" in (SOURCES / "mergejoin.control").read_text("utf-8")
-    assert f"\nEXTVERSION = {version}\n" in (SOURCES / "Makefile").read_text("utf-8")
-
-
 def test_it_exports_what_postgresql_looks_for_alone(server):
     """The functions that the script makes, and what says of each how it is called. Each name begins with the extension's."""
     functions = set(re.findall(r"'MODULE_PATHNAME', '(\w+)'", SCRIPT.read_text("utf-8")))

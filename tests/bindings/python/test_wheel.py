@@ -8,6 +8,7 @@ import re
 import zipfile
 
 import pytest
+from calls import TOP
 from package import PYTHON, SOURCES, WHEEL, copied, environment, lacks, make_wheel, passes, run
 
 EXAMPLE = """
@@ -44,7 +45,7 @@ def interpreter_with_the_package(wheel, tmp_path_factory):
 def test_no_wheel_is_made_without_a_library(needs, tmp_path):
     needs(lacking=lacks())
     status, _, err = make_wheel(tmp_path, MERGEJOIN_LIB=str(tmp_path))
-    assert status == 1 and "there is no libmergejoin.a: bin/library makes it" in err
+    assert status == 1 and "there is no libmergejoin.a: libmergejoin-dev has it" in err
 
 
 def modules():
@@ -67,13 +68,14 @@ def test_the_extension_has_one_name_and_wants_an_old_c_library(wheel, needs, tmp
 
 
 def test_the_sources_have_what_makes_the_same_wheel(needs, library, wheel, tmp_path):
-    """From sources that were packed by setuptools, and given the library."""
-    needs(lacking=lacks())
+    """From sources that were packed by setuptools, elsewhere, with the library that pkg-config knows."""
+    needs("pkg-config", lacking=lacks())
     copied(tmp_path)
     words = [PYTHON, "-c", 'from setuptools.build_meta import build_sdist as it; print(it(".."))']
     packed = run(tmp_path / "source", *words)[1].split()[-1]
     how = ["--no-deps", "--no-index", "--no-build-isolation", "--wheel-dir", tmp_path / "made"]
-    status, out, err = run(tmp_path, PYTHON, "-m", "pip", "--isolated", "wheel", *how, tmp_path / packed)
+    setting = {"MERGEJOIN_LIB": "", "PKG_CONFIG_PATH": str(TOP / "out/lib/pkgconfig")}
+    status, out, err = run(tmp_path, PYTHON, "-m", "pip", "--isolated", "wheel", *how, tmp_path / packed, **setting)
     assert status == 0, out + err
     one, other = (zipfile.ZipFile(path) for path in (wheel, tmp_path / "made" / WHEEL))
     assert {name: one.read(name) for name in modules()} == {name: other.read(name) for name in modules()}
