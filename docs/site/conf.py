@@ -19,7 +19,7 @@ sys.path.insert(0, str(HERE / "python"))
 
 project = "mergejoin"
 author = "The mergejoin project"
-version = release = re.search(r"^## ([0-9.]+) \(", (HERE / "CHANGELOG.md").read_text("utf-8"), re.M)[1]
+version = release = re.findall(r"^## ([0-9.]+) \(", (HERE / "CHANGELOG.md").read_text("utf-8"), re.M)[0]
 language = "en"
 extensions = ["myst_parser", "breathe", "sphinx.ext.autodoc"]
 exclude_patterns = ["static", "templates", "python", "xml"]
@@ -63,7 +63,8 @@ def spell_docstring(app, what, name, thing, options, lines):
     """Spells a docstring, whose examples and indented code stay as they are."""
     import mergejoin
 
-    names = [name for name in mergejoin.__all__ if name[0].isupper()]
+    # (Patches begins sentences on patches)
+    names = [name for name in mergejoin.__all__ if name[0].isupper() and name != "Patches"]
     made = []
     for block in "\n".join(lines).split(BLOCK):
         if block.startswith(">>>"):

@@ -13,6 +13,7 @@ import re
 import shutil
 import subprocess
 import sys
+import textwrap
 
 HERE = pathlib.Path(__file__).resolve().parent
 TOP = HERE.parent.parent
@@ -82,14 +83,14 @@ def copy_pages(stage):
 
 def linked(text):
     """Spells a text for Markdown: the names of the header in it are links."""
-    return re.sub(r"`?\b((?:mergejoin|MERGEJOIN)_\w*\w)\b`?", r"{c:struct}`\1`", text).replace("`_new`", "`_new`")
+    return re.sub(r"`?\b((?:mergejoin|MERGEJOIN)_\w*\w)\b`?", r"{c:struct}`\1`", text)
 
 
 def shown(parts):
     """Gives parts of the header's comments as Markdown."""
     for part in parts:
         if part.kind == "code":
-            yield f"```c\n{part.text}\n```"
+            yield f"```c\n{textwrap.dedent(part.text)}\n```"
         else:
             yield f"- **{part.head}** {linked(part.text)}" if part.head else linked(part.text)
 
@@ -98,15 +99,20 @@ def directive(kind, name, *options):
     return "\n".join([f"```{{doxygen{kind}}} {name}", *options, "```"])
 
 
+def type_of(name, hidden):
+    """Gives the directive of a type, with its members if its users have to know them."""
+    return directive("struct", name, *[] if hidden else (":members:", ":undoc-members:"))
+
+
 def c_api():
     """Gives the page of the calls of C."""
     header, blank = Header(), "\n\n"
     calls = (blank.join([f"### {title}", *(directive("function", call.name) for call in those)])
              for title, those in header.groups().items())
-    types = [kind for known in header.types.values() for kind in re.findall(r"struct (\w+) \{", known[-1].text)]
+    types = [found for known in header.types.values() for found in re.findall(r"struct (\w+) \{\n(  void [*]held;)?", known[-1].text)]
     return C_API.format(
         overview=blank.join(shown(header.overview)), general=blank.join(shown(header.general)),
-        types=blank.join([*shown(header.types["mergejoin_replica"][:-1]), *(directive("struct", kind, ":members:") for kind in types)]),
+        types=blank.join([*shown(header.types["mergejoin_replica"][:-1]), *(type_of(*found) for found in types)]),
         statuses=directive("enum", "mergejoin_status"), calls=blank.join(calls), helpers=blank.join(shown(header.helpers)),
         owned=blank.join(directive("function", call.name) for call in header.owned))
 
