@@ -81,6 +81,7 @@ def test_made_elsewhere_the_site_has_the_same_bytes(site, tmp_path):
     strange = {"TZ": "Asia/Tokyo", "PYTHONHASHSEED": "7", "SOURCE_DATE_EPOCH": "1", "TMPDIR": "temporary", "CDPATH": "/", "LC_ALL": "C.UTF-8",
                "PYTHONPATH": str(tmp_path), "SPHINXOPTS": "-T"}
     (tmp_path / "sphinx.py").write_text("raise SystemExit('another')")
+    (top / "bindings/python/src/mergejoin/_library.abi3.so").write_text("an extension module that was built in its place")
     ended = calls.run("umask 0; 'a copy/bin/site' 'to a place'", shell=True, setting=strange, cwd=tmp_path, limit=300)
     assert ended == (0, f"made {tmp_path}/to a place\n", "")
     one, other = files_of(site), files_of(tmp_path / "to a place")
