@@ -12,7 +12,6 @@ import shutil
 import sys
 
 from pygments import lexers, token
-from sphinx.errors import ExtensionError
 
 HERE = pathlib.Path(__file__).resolve().parent
 sys.path.insert(0, str(HERE / "python"))
@@ -91,25 +90,23 @@ def leave_out_scripts(app, page, template, context, doctree):
 
 def mend_theme(app, error):
     """Debian's theme is for a server: its script is a module, which no browser loads of a file, and it takes one sheet from the root.
-    And what compiled its sheet has lost that a dark ground is for all who ask the browser for one.
+    And what compiled its sheet has lost that a dark ground is for all who ask the browser for one. Another theme is left as it is.
     """
+    if error:
+        return
     static = pathlib.Path(app.outdir) / "_static"
     script, sheet = static / "scripts/furo.js", static / "styles/furo.css"
-    script.write_text(without(script, 'import Gumshoe from "./gumshoe-patched.js";\n', ""), "utf-8")
-    css = without(sheet, f"url({NORMALIZE})", "url(normalize.css)")
-    colours = re.search(r'^ *body\[data-theme="dark"\] (\{.*?\})', css, re.M | re.S)[1]
-    sheet.write_text(f'{css}@media screen and (prefers-color-scheme: dark) {{ body:not([data-theme="light"]) {colours} }}\n', "utf-8")
-    shutil.copyfile(f"/usr/share{NORMALIZE}", static / "styles/normalize.css")
+    script.write_text(script.read_text("utf-8").replace('import Gumshoe from "./gumshoe-patched.js";\n', ""), "utf-8")
+    css = sheet.read_text("utf-8")
+    if NORMALIZE in css:
+        css = css.replace(f"url({NORMALIZE})", "url(normalize.css)")
+        shutil.copyfile(f"/usr/share{NORMALIZE}", static / "styles/normalize.css")
+    if "(prefers-color-scheme" not in css:
+        colours = re.findall(r'^ *body\[data-theme="dark"\] (\{.*?\})', css, re.M | re.S)[0]
+        css += f'@media screen and (prefers-color-scheme: dark) {{ body:not([data-theme="light"]) {colours} }}\n'
+    sheet.write_text(css, "utf-8")
     for path in [*static.glob("*jquery*"), *static.glob("*underscore*"), *static.glob("*compat*")]:
         path.unlink()
-
-
-def without(path, old, new):
-    """Gives a file of the theme with one text in the place of another, which it has once."""
-    text = path.read_text("utf-8")
-    if text.count(old) != 1:
-        raise ExtensionError(f"the theme's {path.name} is not as it is known: it has not once {old!r}")
-    return text.replace(old, new)
 
 
 def lenient(lexer):
