@@ -22,7 +22,7 @@ sys.path.insert(0, str(TOP / "docs"))
 from header import HEADER, Header  # noqa: E402
 
 PAGES = ("*.md", "docs/*.md", "crates/*/README.md", "bindings/*/README.md")
-LINK = re.compile(r"\]\(([^)#\s]+)")
+LINK = re.compile(r"\]\((?!mailto:)([^)#\s]+)")
 C_API = """\
 # C API
 
@@ -71,8 +71,8 @@ def copy_pages(stage):
     pages = [page for pattern in PAGES for page in sorted(TOP.glob(pattern))]
     files = set(pages)
     for page in pages:
-        blocks = re.sub(r"^```.*?^```$", "", page.read_text("utf-8"), flags=re.M | re.S)
-        for target in LINK.findall(blocks):
+        prose = re.sub(r"^```.*?^```$|`[^`\n]*`", "", page.read_text("utf-8"), flags=re.M | re.S)
+        for target in LINK.findall(prose):
             path = (page.parent / target).resolve()
             if not path.is_file() or TOP not in path.parents:
                 sys.exit(f"site: {page.relative_to(TOP)} links to {target}, which is not a file of the repository")
