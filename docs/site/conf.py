@@ -12,6 +12,7 @@ import shutil
 import sys
 
 from pygments import lexers, token
+from pygments.util import ClassNotFound
 
 HERE = pathlib.Path(__file__).resolve().parent
 sys.path.insert(0, str(HERE / "python"))
@@ -109,20 +110,26 @@ def mend_theme(app, error):
         path.unlink()
 
 
-def lenient(lexer):
-    """Gives a lexer that takes what it does not know as text: Rattle has clauses that Rust has not, and psql its own commands."""
-    def tokens(self, *given):
-        for place, kind, text in lexer.get_tokens_unprocessed(self, *given):
+def lexer_of(name):
+    """Gives a lexer of a language that takes what it does not know as text: Rattle has clauses that Rust has not, psql and a shell that
+    is shown have lines of their own, and some languages of the pages are known to nobody else.
+    """
+    try:
+        known = lexers.find_lexer_class_by_name(name)
+    except ClassNotFound:
+        return lexers.TextLexer
+
+    def tokens(self, *given, **more):
+        for place, kind, text in known.get_tokens_unprocessed(self, *given, **more):
             yield place, token.Text if kind is token.Error else kind, text
 
-    return type(lexer.__name__, (lexer,), {"get_tokens_unprocessed": tokens})
+    return type(known.__name__, (known,), {"get_tokens_unprocessed": tokens})
 
 
 def setup(app):
-    for name, lexer in (("rust", lexers.RustLexer), ("sql", lexers.SqlLexer), ("json", lexers.JsonLexer)):
-        app.add_lexer(name, lenient(lexer))
-    for name in ("antt", "crates"):
-        app.add_lexer(name, lexers.TextLexer)
+    pages = (page.read_text("utf-8") for page in sorted(HERE.rglob("*.md")))
+    for name in sorted({name for page in pages for name in re.findall(r"^```(\w+)$", page, re.M)}):
+        app.add_lexer(name, lexer_of(name))
     app.connect("autodoc-process-docstring", spell_docstring)
     app.connect("source-read", leave_out_what_is_not_there)
     app.connect("html-page-context", leave_out_scripts)
