@@ -49,6 +49,10 @@ What `mergejoin.h` says of the library for C. `man 3 mergejoin` shows the same.
 {helpers}
 
 {owned}
+
+## The version of the header
+
+{version}
 """
 MANUAL = """\
 # {title}
@@ -114,7 +118,8 @@ def c_api():
         overview=blank.join(shown(header.overview)), general=blank.join(shown(header.general)),
         types=blank.join([*shown(header.types["mergejoin_replica"][:-1]), *(type_of(*found) for found in types)]),
         statuses=directive("enum", "mergejoin_status"), calls=blank.join(calls), helpers=blank.join(shown(header.helpers)),
-        owned=blank.join(directive("function", call.name) for call in header.owned))
+        owned=blank.join(directive("function", call.name) for call in header.owned),
+        version=blank.join(directive("define", name) for name in re.findall(r"^#define (MERGEJOIN_VERSION\w*)", HEADER.read_text("utf-8"), re.M)))
 
 
 def link_manual(html, names):
@@ -148,7 +153,9 @@ def main():
             shutil.copyfile(path, stage / path.name)
     # (what the calls become without null is of the compiler alone)
     plain = re.sub(r"^#pragma GCC diagnostic push.*?^#pragma GCC diagnostic pop$", "", HEADER.read_text("utf-8"), flags=re.M | re.S)
-    (stage / "mergejoin.h").write_text(plain, "utf-8")
+    # (doxygen links the names of statuses that are marked)
+    marked = re.sub(r"/\*\*.*?\*/", lambda comment: re.sub(r"(?<=[ (])(MERGEJOIN_[A-Z_]+[A-Z])\b", r"#\1", comment[0]), plain, flags=re.S)
+    (stage / "mergejoin.h").write_text(marked, "utf-8")
 
 
 main()
