@@ -257,7 +257,7 @@ def test_the_program_and_its_scripts_run(unpacked, run, tmp_path):
 @pytest.mark.parametrize("page,words", [("mergejoin.1", "JSON Merge Patch"), ("mergejoin.3", "mergejoin_reply mergejoin_join(")])
 def test_a_man_page_is_shown(needs, unpacked, run, page, words):
     needs("man")
-    line = f"man -l {next(unpacked.below.rglob(f'{page}*'))} | grep -c '{words}'"
+    line = f"man -l {next(unpacked.below.glob(f'share/man/*/{page}*'))} | grep -c '{words}'"
     assert run(line, shell=True, setting={"MANWIDTH": "200"}) == (0, "1\n", "")
 
 
