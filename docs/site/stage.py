@@ -71,13 +71,13 @@ def copy(path, stage):
 
 
 def copy_pages(stage):
-    """Copies each page, and each file to which one links."""
-    pages = [page for pattern in PAGES for page in sorted(TOP.glob(pattern))]
+    """Copies each page, and each file to which one links. Those of docs/site are to be at the top."""
+    pages = {page: page.parent for pattern in PAGES for page in sorted(TOP.glob(pattern))}
     files = set(pages)
-    for page in pages:
+    for page, place in {**pages, **{page: TOP for page in sorted(HERE.glob("*.md"))}}.items():
         prose = re.sub(r"^```.*?^```$|`[^`\n]*`", "", page.read_text("utf-8"), flags=re.M | re.S)
         for target in LINK.findall(prose):
-            path = (page.parent / target).resolve()
+            path = (place / target).resolve()
             if not path.is_file() or TOP not in path.parents:
                 sys.exit(f"site: {page.relative_to(TOP)} links to {target}, which is not a file of the repository")
             files.add(path)
