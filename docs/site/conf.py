@@ -63,7 +63,7 @@ def spell_docstring(app, what, name, thing, options, lines):
     """Spells a docstring, whose examples and indented code stay as they are."""
     import mergejoin
 
-    # (Patches begins sentences on patches)
+    # (a sentence may begin with "Patches" and mean patches)
     names = [name for name in mergejoin.__all__ if name[0].isupper() and name != "Patches"]
     made = []
     for block in "\n".join(lines).split(BLOCK):
