@@ -1,19 +1,24 @@
 #!/usr/bin/env python3
 """Prints the man pages of docs/: mergejoin.1, whose text on each subcommand and on the limits is the program's help; and
-those of the scripts, which are their help.
+those of the scripts, which are their help; and mergejoin.3, which is what the header of the library says.
 
     docs/manual.py >docs/mergejoin.1
     docs/manual.py feed >docs/mergejoin-feed.1
     docs/manual.py conflicts >docs/mergejoin-conflicts.1
     docs/manual.py locate >docs/mergejoin-locate.1
+    docs/manual.py library >docs/mergejoin.3
 
-The program is the proved one, out/mergejoin. tests/program/test_help.py prints them again and compares.
+The program is the proved one, out/mergejoin. tests/program/test_help.py prints them again and compares, and
+tests/pages/test_manual.py the last, which needs no program.
 """
 
 import pathlib
 import re
 import subprocess
 import sys
+import textwrap
+
+from header import Header
 
 TOP = pathlib.Path(__file__).resolve().parent.parent
 
@@ -74,6 +79,24 @@ printf \\(aq%s\\(aq \\(aq[{"k":0},{"k":null},{"a":{"x":1}},{"k":null}]\\(aq | me
 .BR mergejoin\\-conflicts (1),
 .BR mergejoin\\-locate (1),
 .BR jq (1)"""
+
+LIBRARY_HEAD = """\
+.TH MERGEJOIN 3
+.nh
+.ad l
+.SH NAME
+mergejoin \\- library that merges, joins, replays, rewrites and applies patches of JSON documents
+.SH SYNOPSIS
+.nf
+.B #include <mergejoin.h>
+.PP
+.B cc ... $(pkg\\-config \\-\\-cflags \\-\\-libs mergejoin)
+.fi
+.SH DESCRIPTION"""
+
+LIBRARY_TAIL = """\
+.SH SEE ALSO
+.BR mergejoin (1)"""
 
 SCRIPT = """\
 .TH MERGEJOIN\\-{title} 1 "" "mergejoin {version}"
@@ -146,5 +169,54 @@ def program():
     yield TAIL
 
 
-for line in [script(sys.argv[1])] if sys.argv[1:] else program():
-    print(line)
+def shown(parts):
+    """Gives the lines of parts of the header's comments."""
+    for number, part in enumerate(parts):
+        if part.kind == "entry":
+            yield from (".TP", f".B {roff(part.head)}", roff(part.text))
+            continue
+        yield from [".PP"] if number else []
+        yield from (".nf", roff(part.text), ".fi") if part.kind == "code" else [roff(part.text.replace("`", ""))]
+
+
+def call(prototype, words):
+    """Gives the lines of a call: its prototype in lines that fit, and what it does."""
+    # (no parameter is broken)
+    whole = f"{prototype};".replace(" ", "\0").replace(",\0", ", ")
+    lines = textwrap.wrap(whole, 76, subsequent_indent="    ", break_long_words=False, break_on_hyphens=False)
+    yield from (".nf", *(f'.B "{roff(line)}"'.replace("\0", " ") for line in lines), ".fi")
+    if words:
+        yield from (".RS 4", *shown(words), ".RE")
+
+
+def library():
+    """Gives the lines of the library's page."""
+    header = Header()
+    yield from (LIBRARY_HEAD, *shown(header.overview), ".SH TYPES")
+    for name, words in header.types.items():
+        yield from (f".SS {roff(name)}", *shown(words))
+    yield from (".SH STATUSES", *shown(header.of_statuses))
+    for name, number, words in header.statuses:
+        yield from (".TP", f".B {roff(name)} ({number})", *shown(words))
+    yield from (".SH CALLS", *shown(header.general))
+    for title, calls in header.groups().items():
+        yield f".SS {title}"
+        for one in calls:
+            yield from [".PP"] if one != calls[0] else []
+            yield from call(one.prototype, one.words)
+    yield from (".SS Calls with a buffer of their own", *shown(header.helpers))
+    for one in header.owned:
+        yield from (".PP", *call(one.prototype, one.words))
+    yield LIBRARY_TAIL
+
+
+def main():
+    if sys.argv[1:] == ["library"]:
+        lines = library()
+    else:
+        lines = [script(sys.argv[1])] if sys.argv[1:] else program()
+    for line in lines:
+        print(line)
+
+
+main()

@@ -15,7 +15,7 @@ from failing import Heap
 TESTS = pathlib.Path(__file__).resolve().parent
 # What takes long, so that `bin/test quick` leaves it out.
 SLOW = ("allocation", "bindings/dask", "bindings/postgresql", "bindings/sqlite/test_memory.py", "bindings/sqlite/test_replica.py", "cost",
-        "live", "packages/test_package.py", "program/test_growth.py", "replicas", "scripts/test_unproved.py")
+        "live", "packages/test_package.py", "pages/test_site.py", "program/test_growth.py", "replicas", "scripts/test_unproved.py")
 
 # What `rt ci` leaves in crates/, and the tests that run it.
 LEFT = {"cost/test_counts.py": "workloads/out/workloads", "live": "replica_runs/out/replica_runs",

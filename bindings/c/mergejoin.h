@@ -71,7 +71,7 @@
 #include <stdlib.h>
 #include <string.h>
 
-/* The version of this header. That of the library that is linked is what mergejoin_version() returns. */
+/** The version of this header. That of the library that is linked is what mergejoin_version() returns. */
 #define MERGEJOIN_VERSION_MAJOR 0
 #define MERGEJOIN_VERSION_MINOR 3
 #define MERGEJOIN_VERSION_PATCH 0
@@ -82,67 +82,67 @@
 extern "C" {
 #endif
 
-/* What the text in the buffer is: the result, or the reason why there is no result. If several errors hold, a call reports
+/** What the text in the buffer is: the result, or the reason why there is no result. If several errors hold, a call reports
  * the first in the order in which its own comment lists them. */
 enum mergejoin_status {
-  /* The result. It is empty if a call has none but to have succeeded. */
+  /** The result. It is empty if a call has none but to have succeeded. */
   MERGEJOIN_RESULT = 0,
-  /* A JSON array of the first places at which patches conflict, as JSON Pointers, in order; `total` is how many there are in all.
+  /** A JSON array of the first places at which patches conflict, as JSON Pointers, in order; `total` is how many there are in all.
    * The array has all of them if they weigh at most the limit together and it has at most so many bytes; else as many as do. If the
    * limit is less than the 2 bytes of an array there is no text. A place weighs 128, 8 for each token, and the bytes of its
    * spelling. Of join and replay these are the places of the patches `first` < `second`. Of a decision they are those of the
    * patches with the identities `first` and `second` of those that are chosen; of each other call of a handle the numbers are 0. */
   MERGEJOIN_CONFLICT = 1,
-  /* "no patches": there are none to join. */
+  /** "no patches": there are none to join. */
   MERGEJOIN_NO_PATCHES = 2,
-  /* The operation of number `first` is refused: "into itself", "remove of root", "missing", "no place", "too deep" or
+  /** The operation of number `first` is refused: "into itself", "remove of root", "missing", "no place", "too deep" or
    * "test failed". Of a decision "no number is left for a start". */
   MERGEJOIN_REFUSED = 3,
-  /* "missing": the document has no part there; of a decision, under the identity of number `first` no patch is stored. */
+  /** "missing": the document has no part there; of a decision, under the identity of number `first` no patch is stored. */
   MERGEJOIN_MISSING = 4,
-  /* The document, or the start, is not one: "not JSON", "number not whole" (a document has whole numbers from -2^63 to
+  /** The document, or the start, is not one: "not JSON", "number not whole" (a document has whole numbers from -2^63 to
    * 2^64 - 1) or "too deep" (a document has at most 126 levels). After the last two follow " at " and the JSON Pointer of the first
    * such number, or of the first array or object that is too deep; `total` is then how many bytes the words have before that.
    * Of a kept form also "not kept patches", and no place. */
   MERGEJOIN_DOCUMENT = 5,
-  /* The patch of number `first` is not a document, by the same words, with the same place; the number of a single patch is 0. */
+  /** The patch of number `first` is not a document, by the same words, with the same place; the number of a single patch is 0. */
   MERGEJOIN_PATCH = 6,
-  /* The document is not a JSON Patch: "not an array"; or, of the operation of number `first`, "not an object", "no op",
+  /** The document is not a JSON Patch: "not an array"; or, of the operation of number `first`, "not an object", "no op",
    * "unknown op", "no path", "no from", "bad pointer" or "no value". */
   MERGEJOIN_FORM = 7,
-  /* The text is not a pointer: "not UTF-8", "no slash" or "bad tilde", at the offset `first` in bytes. */
+  /** The text is not a pointer: "not UTF-8", "no slash" or "bad tilde", at the offset `first` in bytes. */
   MERGEJOIN_POINTER = 8,
-  /* Memory ran out: no text, the buffer is unchanged, and a handle has received or taken nothing more. Any call may return
+  /** Memory ran out: no text, the buffer is unchanged, and a handle has received or taken nothing more. Any call may return
    * this. */
   MERGEJOIN_NO_MEMORY = 9,
-  /* "pending": the handle has received or taken the patch, and memory ran out before it could be shown. The patch is not lost, and
+  /** "pending": the handle has received or taken the patch, and memory ran out before it could be shown. The patch is not lost, and
    * need not be given again: the next call that reads the handle goes on with it, and returns this if memory runs out again. */
   MERGEJOIN_PENDING = 10,
-  /* The result, or something on the way to it, is larger than the limit: no text, and the buffer is unchanged. Of a JSON Patch
+  /** The result, or something on the way to it, is larger than the limit: no text, and the buffer is unchanged. Of a JSON Patch
    * `first` is the number of the operation whose result weighs more; of a rewriting, how many of its operations fit; and 0 if the
    * text of the result is longer. A weight is about what a document takes in memory, in bytes: 40 for null, true, false or a
    * number; 80 and its bytes for a string; 80 and its elements for an array; 1,000 for an object, and for each name 128, its bytes
    * and its value. An operation weighs its places and its value. */
   MERGEJOIN_TOO_LARGE = 11,
-  /* "not started": the replica or the patch log is {0}. A call looks for this first. */
+  /** "not started": the replica or the patch log is {0}. A call looks for this first. */
   MERGEJOIN_NOT_STARTED = 12
 };
 
-/* A text that a call borrows: `length` bytes at `bytes`, which is not null, even if the length is 0. */
+/** A text that a call borrows: `length` bytes at `bytes`, which is not null, even if the length is 0. */
 typedef struct mergejoin_text {
   const uint8_t *bytes;
   size_t length;
 } mergejoin_text;
 
-/* What a call returns in addition to the text in the buffer. Patches and operations are numbered from 0. A number that has
+/** What a call returns in addition to the text in the buffer. Patches and operations are numbered from 0. A number that has
  * no meaning for a status is 0. */
 typedef struct mergejoin_reply {
-  size_t length; /* of the whole text in bytes, even if the buffer has only its beginning */
+  size_t length; /**< of the whole text in bytes, even if the buffer has only its beginning */
   size_t first;
   size_t second;
-  size_t total; /* of a conflict: how many places there are; of words that a place follows: how many bytes they have */
-  size_t spare; /* 0 in this version, as `flags` is */
-  uint32_t status; /* an enum mergejoin_status */
+  size_t total; /**< of a conflict: how many places there are; of words that a place follows: how many bytes they have */
+  size_t spare; /**< 0 in this version, as `flags` is */
+  uint32_t status; /**< an enum mergejoin_status */
   uint32_t flags;
 } mergejoin_reply;
 
@@ -160,7 +160,7 @@ typedef struct mergejoin_patch_log {
   void *held;
 } mergejoin_patch_log;
 
-/* Who made a patch, and the sender's number for it. Identities are ordered by the sender, and then by the number. A sender gives each
+/** Who made a patch, and the sender's number for it. Identities are ordered by the sender, and then by the number. A sender gives each
  * of its patches for one start a number of its own. */
 typedef struct mergejoin_identity {
   uint64_t sender;
@@ -175,194 +175,215 @@ typedef struct mergejoin_identity {
  * Below, each call lists its statuses in the order in which it looks for them.
  */
 
-/*
+/**
  * The join of merge patches: one patch with the effect of all, in any order and with any repeats. It may be given in the
  * place of the patches, to this function again too.
+ *
  * MERGEJOIN_PATCH, MERGEJOIN_NO_PATCHES, MERGEJOIN_CONFLICT, MERGEJOIN_NO_MEMORY, MERGEJOIN_TOO_LARGE.
  */
 static inline
 mergejoin_reply mergejoin_join(const mergejoin_text *patches, size_t count, uint8_t *out, size_t capacity, size_t limit);
 
-/*
+/**
  * The document that merge patches, no two of which conflict, make of the start, in any order and with any repeats. Of no
  * patches it is the start. Two calls with texts of the same documents on one start have the same bytes.
+ *
  * MERGEJOIN_DOCUMENT, MERGEJOIN_PATCH, MERGEJOIN_CONFLICT, MERGEJOIN_NO_MEMORY, MERGEJOIN_TOO_LARGE.
  */
 static inline
 mergejoin_reply mergejoin_replay(const uint8_t *start, size_t start_length, const mergejoin_text *patches, size_t count,
                                  uint8_t *out, size_t capacity, size_t limit);
 
-/*
+/**
  * The document after the merge patches, each applied to what the earlier ones left: if two conflict, their order decides.
+ *
  * MERGEJOIN_DOCUMENT, MERGEJOIN_PATCH, MERGEJOIN_NO_MEMORY, MERGEJOIN_TOO_LARGE.
  */
 static inline
 mergejoin_reply mergejoin_merge(const uint8_t *document, size_t document_length, const mergejoin_text *patches, size_t count,
                                 uint8_t *out, size_t capacity, size_t limit);
 
-/*
+/**
  * The merge patch as a JSON Patch for the document: tests of what it changes and the document has, and then the edits.
+ *
  * MERGEJOIN_DOCUMENT, MERGEJOIN_PATCH, MERGEJOIN_NO_MEMORY, MERGEJOIN_TOO_LARGE.
  */
 static inline
 mergejoin_reply mergejoin_rewrite(const uint8_t *document, size_t document_length, const uint8_t *patch, size_t patch_length,
                                   uint8_t *out, size_t capacity, size_t limit);
 
-/*
+/**
  * The document after the JSON Patch.
+ *
  * MERGEJOIN_DOCUMENT, MERGEJOIN_PATCH, MERGEJOIN_FORM, MERGEJOIN_REFUSED, MERGEJOIN_NO_MEMORY, MERGEJOIN_TOO_LARGE.
  */
 static inline
 mergejoin_reply mergejoin_patch(const uint8_t *document, size_t document_length, const uint8_t *patch, size_t patch_length,
                                 uint8_t *out, size_t capacity, size_t limit);
 
-/*
+/**
  * The part of the document that the JSON Pointer names.
+ *
  * MERGEJOIN_DOCUMENT, MERGEJOIN_POINTER, MERGEJOIN_MISSING, MERGEJOIN_NO_MEMORY, MERGEJOIN_TOO_LARGE.
  */
 static inline
 mergejoin_reply mergejoin_get(const uint8_t *document, size_t document_length, const uint8_t *pointer, size_t pointer_length,
                               uint8_t *out, size_t capacity, size_t limit);
 
-/*
+/**
  * Makes the replica of a start, with nothing received. A replica that is there already is made anew, and what it had is freed.
  * After another status than MERGEJOIN_RESULT it is as it was.
+ *
  * MERGEJOIN_DOCUMENT, MERGEJOIN_NO_MEMORY.
  */
 static inline
 mergejoin_reply mergejoin_replica_start(mergejoin_replica *replica, const uint8_t *start, size_t length, uint8_t *out,
                                         size_t capacity, size_t limit);
 
-/*
+/**
  * Receives a merge patch: afterwards the document shows it. If it conflicts with what was received, the text has the places at
  * which it does, and the replica is as it was. A patch that was received before changes nothing.
+ *
  * MERGEJOIN_NOT_STARTED, MERGEJOIN_PATCH, MERGEJOIN_CONFLICT, MERGEJOIN_NO_MEMORY (not received), MERGEJOIN_PENDING (received).
  */
 static inline
 mergejoin_reply mergejoin_replica_receive(mergejoin_replica *replica, const uint8_t *patch, size_t length, uint8_t *out,
                                           size_t capacity, size_t limit);
 
-/*
+/**
  * The document: what mergejoin_replay returns of the start and of all that was received, in any order.
+ *
  * MERGEJOIN_NOT_STARTED, MERGEJOIN_PENDING, MERGEJOIN_NO_MEMORY, MERGEJOIN_TOO_LARGE.
  */
 static inline
 mergejoin_reply mergejoin_replica_document(mergejoin_replica *replica, uint8_t *out, size_t capacity, size_t limit);
 
-/*
+/**
  * The join of all that was received.
+ *
  * MERGEJOIN_NOT_STARTED, MERGEJOIN_PENDING, MERGEJOIN_NO_PATCHES, MERGEJOIN_NO_MEMORY, MERGEJOIN_TOO_LARGE.
  */
 static inline
 mergejoin_reply mergejoin_replica_joined(mergejoin_replica *replica, uint8_t *out, size_t capacity, size_t limit);
 
-/*
+/**
  * The part of the document that the JSON Pointer names.
+ *
  * MERGEJOIN_NOT_STARTED, MERGEJOIN_POINTER, MERGEJOIN_PENDING, MERGEJOIN_MISSING, MERGEJOIN_NO_MEMORY, MERGEJOIN_TOO_LARGE.
  */
 static inline
 mergejoin_reply mergejoin_replica_get(mergejoin_replica *replica, const uint8_t *pointer, size_t length, uint8_t *out,
                                       size_t capacity, size_t limit);
 
-/* Frees what the replica has, which is {0} then. */
+/** Frees what the replica has, which is {0} then. */
 void mergejoin_replica_free(mergejoin_replica *replica);
 
-/*
+/**
  * Takes a merge patch. {0} has taken none. If two of those taken conflict, now or since an earlier call, the text is the places of the
  * conflict that was seen first; the patch is taken too.
+ *
  * MERGEJOIN_PATCH, MERGEJOIN_NO_MEMORY (not taken), MERGEJOIN_CONFLICT (taken), MERGEJOIN_PENDING (taken).
  */
 static inline
 mergejoin_reply mergejoin_patches_add(mergejoin_patches *patches, const uint8_t *patch, size_t length, uint8_t *out,
                                       size_t capacity, size_t limit);
 
-/*
+/**
  * Takes what the other has taken, which has taken nothing then. The other is another handle.
+ *
  * MERGEJOIN_NO_MEMORY (neither has changed), MERGEJOIN_CONFLICT (taken), MERGEJOIN_PENDING (taken).
  */
 static inline
 mergejoin_reply mergejoin_patches_combine(mergejoin_patches *patches, mergejoin_patches *other, uint8_t *out, size_t capacity,
                                           size_t limit);
 
-/*
+/**
  * The join of all that was taken.
+ *
  * MERGEJOIN_CONFLICT, MERGEJOIN_PENDING, MERGEJOIN_NO_PATCHES, MERGEJOIN_NO_MEMORY, MERGEJOIN_TOO_LARGE.
  */
 static inline
 mergejoin_reply mergejoin_patches_text(mergejoin_patches *patches, uint8_t *out, size_t capacity, size_t limit);
 
-/*
+/**
  * What was taken, as a text that mergejoin_patches_from_kept reads: empty if nothing was taken, else the join, or `!` and the JSON
  * array of places if two conflict.
+ *
  * MERGEJOIN_PENDING, MERGEJOIN_NO_MEMORY, MERGEJOIN_TOO_LARGE.
  */
 static inline
 mergejoin_reply mergejoin_patches_kept(mergejoin_patches *patches, uint8_t *out, size_t capacity, size_t limit);
 
-/*
+/**
  * Makes the patches of such a text. Patches that are there already are made anew, and what they had is freed. After
  * MERGEJOIN_DOCUMENT and MERGEJOIN_NO_MEMORY they are as they were. MERGEJOIN_CONFLICT has the places that the text has.
+ *
  * MERGEJOIN_DOCUMENT, MERGEJOIN_CONFLICT, MERGEJOIN_NO_MEMORY.
  */
 static inline
 mergejoin_reply mergejoin_patches_from_kept(mergejoin_patches *patches, const uint8_t *kept, size_t length, uint8_t *out,
                                             size_t capacity, size_t limit);
 
-/* Frees what the patches have, which are {0} then. */
+/** Frees what the patches have, which are {0} then. */
 void mergejoin_patches_free(mergejoin_patches *patches);
 
-/*
+/**
  * Makes the patch log of a start with its number, the epoch: nothing has arrived for it. A log that is there already is made anew, and
  * what it had is freed. After another status than MERGEJOIN_RESULT it is as it was.
+ *
  * MERGEJOIN_DOCUMENT, MERGEJOIN_NO_MEMORY.
  */
 static inline
 mergejoin_reply mergejoin_patch_log_start(mergejoin_patch_log *log, uint64_t epoch, const uint8_t *start, size_t length,
                                           uint8_t *out, size_t capacity, size_t limit);
 
-/*
+/**
  * Receives a message: a merge patch, its identity, and the number of the start that it was made for. The text is what became of it:
  * "stored", whether it conflicts with others or not; "repeat" if a patch with its identity is stored already; "late" if it is of an
  * earlier start, and is dropped; "early" if it is of a later one, so that the caller keeps it until that is begun. The patch is read
  * first, whatever the message is of. If the limit is less than these words, MERGEJOIN_TOO_LARGE says nothing of the message.
  * After another status the log is as it was.
+ *
  * MERGEJOIN_NOT_STARTED, MERGEJOIN_PATCH, MERGEJOIN_NO_MEMORY, MERGEJOIN_TOO_LARGE.
  */
 static inline
 mergejoin_reply mergejoin_patch_log_receive(mergejoin_patch_log *log, uint64_t epoch, uint64_t sender, uint64_t number,
                                             const uint8_t *patch, size_t length, uint8_t *out, size_t capacity, size_t limit);
 
-/*
+/**
  * The document: what mergejoin_replay returns of the start and of the patches that conflict with no other.
+ *
  * MERGEJOIN_NOT_STARTED, MERGEJOIN_NO_MEMORY, MERGEJOIN_TOO_LARGE.
  */
 static inline
 mergejoin_reply mergejoin_patch_log_document(mergejoin_patch_log *log, uint8_t *out, size_t capacity, size_t limit);
 
-/*
+/**
  * Each two patches that conflict, as a JSON array in the order of their identities, the lower one first:
  * [{"first":[1,1],"second":[2,1],"places":["/a"]}] of number 1 of sender 1 and number 1 of sender 2.
+ *
  * MERGEJOIN_NOT_STARTED, MERGEJOIN_NO_MEMORY, MERGEJOIN_TOO_LARGE.
  */
 static inline
 mergejoin_reply mergejoin_patch_log_conflicts(mergejoin_patch_log *log, uint8_t *out, size_t capacity, size_t limit);
 
-/*
+/**
  * Ends the start by the patches with the chosen identities, of which no two conflict: what they make of it is the new start, whose
  * number is the next. All patches are forgotten, and nothing has arrived for the new start. Neither the order of the identities
  * counts, nor do repeats. Each log makes one decision of one start once: it is for the start of one number, which its caller compares.
  * After another status the log is as it was. The identities are numbered from 0, and one that stands twice has the lesser number. A
  * conflict is that of the first two of the chosen patches that conflict, in the order of mergejoin_patch_log_conflicts.
+ *
  * MERGEJOIN_NOT_STARTED, MERGEJOIN_REFUSED, MERGEJOIN_MISSING, MERGEJOIN_CONFLICT, MERGEJOIN_NO_MEMORY.
  */
 static inline
 mergejoin_reply mergejoin_patch_log_decide(mergejoin_patch_log *log, const mergejoin_identity *chosen, size_t count, uint8_t *out,
                                            size_t capacity, size_t limit);
 
-/* Frees what the patch log has, which is {0} then. */
+/** Frees what the patch log has, which is {0} then. */
 void mergejoin_patch_log_free(mergejoin_patch_log *log);
 
-/* The version of the library: MERGEJOIN_VERSION of the header that it was made with. */
+/** The version of the library: MERGEJOIN_VERSION of the header that it was made with. */
 uint32_t mergejoin_version(void);
 
 /*
@@ -377,7 +398,7 @@ uint32_t mergejoin_version(void);
 #define MERGEJOIN_NULL_ NULL
 #endif
 
-/* A text whose bytes are not null. */
+/** A text whose bytes are not null. */
 static inline mergejoin_text mergejoin_text_of(const void *bytes, size_t length) {
   static const uint8_t nothing[1] = {0};
   mergejoin_text text;

@@ -10,7 +10,7 @@ from server import config, lacking
 from sqlite_extension import lacking as lacking_sqlite
 
 PACKAGE = TOP / "bin/package"
-LIMIT = 300  # seconds for all of them
+LIMIT = 300  # seconds for all of them, of which the site takes twenty
 # Each .deb and what it needs.
 NEEDS = {
     "mergejoin": "libc6 (>= 2.34)",

@@ -16,10 +16,11 @@ import calls
 import pytest
 from calls import PROGRAM, TOP
 from installed import INSTALLED, copies
-from making import CRATE, DEBS, EXTENSION, MADE, NEEDS, PACKAGE, PLACE, PYTHON, SHORT, SQLITE, TAR, is_made
+from making import CRATE, DEBS, EXTENSION, LIMIT, MADE, NEEDS, PACKAGE, PLACE, PYTHON, SHORT, SQLITE, TAR, is_made
 from package import WHEEL, environment, lacks
 from released import VERSION
 from server import config, lacking, running
+from sites import lacking_for_a_site
 from sqlite_extension import NAME as MODULE
 from sqlite_extension import connected
 from sqlite_extension import lacking as lacking_sqlite
@@ -27,7 +28,7 @@ from sqlite_extension import lacking as lacking_sqlite
 SHARED = TOP / "out/lib/libmergejoin.so.1"
 TREE = f"mergejoin-{VERSION}"  # in the .tar.gz
 # The library, and where its files and the link to it are below the prefix of the .tar.gz.
-LIBRARY = {"include/mergejoin.h": "bindings/c/mergejoin.h", **{f"lib/{name}": f"out/lib/{name}" for name in (
+LIBRARY = {"include/mergejoin.h": "bindings/c/mergejoin.h", "share/man/man3/mergejoin.3": "docs/mergejoin.3", **{f"lib/{name}": f"out/lib/{name}" for name in (
     "libmergejoin.a", "libmergejoin.so.1", "pkgconfig/mergejoin.pc", "cmake/mergejoin/mergejoin-config.cmake",
     "cmake/mergejoin/mergejoin-config-version.cmake")}}
 LINKED = {"lib/libmergejoin.so": "libmergejoin.so.1"}
@@ -67,7 +68,7 @@ def directory_of_packages_that_are_made_again(one, tmp_path_factory):
     workspace.chmod(0o2755)
     setting = {"TZ": "Asia/Tokyo", "TMPDIR": str(workspace), "SOURCE_DATE_EPOCH": "1", "CDPATH": "/"}
     signs = shutil.which("ssh-keygen") and calls.run(["ssh-keygen", "-q", "-t", "ed25519", "-N", "", "-f", key]) == (0, "", "")
-    ended = calls.run(f"umask 0; {PACKAGE} {'--sign key' if signs else ''} 'a b'", shell=True, setting=setting, cwd=one.parent)
+    ended = calls.run(f"umask 0; {PACKAGE} {'--sign key' if signs else ''} 'a b'", shell=True, setting=setting, cwd=one.parent, limit=LIMIT)
     is_made(ended, one.parent / "a b", *["SHA256SUMS.sig"] * bool(signs))
     assert not list(workspace.iterdir())
     return one.parent / "a b"
@@ -122,7 +123,7 @@ def files_of_debs():
 def others_of(name):
     """Gives the files of a .deb that are made for Debian alone, or built of the extension's sources."""
     yield from (f"share/doc/{name}/changelog.gz", f"share/doc/{name}/copyright")
-    if name in ("mergejoin", "libmergejoin1", SQLITE):
+    if name in ("mergejoin", "libmergejoin1", SQLITE) or name == "mergejoin-doc" and not lacking_for_a_site():
         yield f"share/lintian/overrides/{name}"
     if name == SQLITE:
         yield f"{FOLDER}/{MODULE}"
@@ -139,7 +140,8 @@ def has_files(below, wanted, others):
         if path.is_symlink():
             seen[name] = os.readlink(path)
         elif path.is_file():
-            seen[name.replace(".1.gz", ".1")] = gzip.decompress(path.read_bytes()) if name.endswith(".1.gz") else path.read_bytes()
+            is_manual = re.search(r"\.[13]\.gz$", name)
+            seen[name.removesuffix(".gz") if is_manual else name] = gzip.decompress(path.read_bytes()) if is_manual else path.read_bytes()
     assert set(seen) - set(wanted) == set(others)
     assert [name for name in wanted if seen.get(name) != wanted[name]] == []
 
@@ -156,11 +158,29 @@ def test_the_links_of_all_pages_lead_to_pages(one, tmp_path):
             assert (page.parent / target).exists(), f"{page.name} leads to {target}"
 
 
+@pytest.fixture(name="site", scope="module")
+def files_of_the_site(tmp_path_factory):
+    """The files of the site that bin/site makes, if what makes it is there, by their places in the package."""
+    html = tmp_path_factory.mktemp("site") / "html"
+    if not lacking_for_a_site():
+        assert calls.run([TOP / "bin/site", html], limit=LIMIT) == (0, f"made {html}\n", "")
+    return {f"share/doc/mergejoin-doc/html/{path.relative_to(html)}": path.read_bytes() for path in html.rglob("*") if path.is_file()}
+
+
+def test_the_site_is_packed(needs, one, tmp_path):
+    """With the licences of what it has of others."""
+    needs(lacking=lacking_for_a_site())
+    unpack(one / DEBS["mergejoin-doc"], tmp_path)
+    place = tmp_path / "usr/share/doc/mergejoin-doc"
+    assert "<title>mergejoin" in (place / "html/index.html").read_text("utf-8")
+    assert {"Apache-2.0", "BSD-2-clause", "Expat"} <= set(re.findall(r"^License: (\S+)$", (place / "copyright").read_text("utf-8"), re.M))
+
+
 @pytest.mark.parametrize("name", NEEDS)
-def test_a_deb_has_its_part_and_says_what_it_needs(one, run, tmp_path, name):
+def test_a_deb_has_its_part_and_says_what_it_needs(one, run, site, tmp_path, name):
     assert run(["dpkg-deb", "-f", one / DEBS[name], "Depends"]) == (0, f"{NEEDS[name]}\n", "")
     unpack(one / DEBS[name], tmp_path)
-    has_files(tmp_path / "usr", files_of_debs()[name], others_of(name))
+    has_files(tmp_path / "usr", files_of_debs()[name] | (site if name == "mergejoin-doc" else {}), others_of(name))
 
 
 def test_the_tar_has_all_of_it(one, tmp_path):
@@ -195,10 +215,11 @@ def test_the_program_and_its_scripts_run(unpacked, run, tmp_path):
     assert run(line, shell=True, setting=setting) == (0, 'first: at "/n/m" it has 1\nsecond: at "/n/m" it has 2\n', "")
 
 
-def test_the_man_page_is_shown(needs, unpacked, run):
+@pytest.mark.parametrize("page,words", [("mergejoin.1", "JSON Merge Patch"), ("mergejoin.3", "mergejoin_reply mergejoin_join(")])
+def test_a_man_page_is_shown(needs, unpacked, run, page, words):
     needs("man")
-    page = f"man -l {next(unpacked.below.rglob('mergejoin.1*'))} | grep -c 'JSON Merge Patch'"
-    assert run(page, shell=True, setting={"MANWIDTH": "200"}) == (0, "1\n", "")
+    line = f"man -l {next(unpacked.below.glob(f'share/man/*/{page}*'))} | grep -c '{words}'"
+    assert run(line, shell=True, setting={"MANWIDTH": "200"}) == (0, "1\n", "")
 
 
 @pytest.fixture(name="shown")
@@ -307,7 +328,7 @@ def test_the_bytes_do_not_depend_on_the_environment(one, top, run, tmp_path):
     (tmp_path / "packed").mkdir()
     (tmp_path / "packed/SHA256SUMS.sig").write_text("of other sums")
     (tmp_path / "packed/SHA256SUMS.new").symlink_to(tmp_path / "other")
-    is_made(run([top / "bin/package", "packed"], setting=strange), tmp_path / "packed")
+    is_made(run([top / "bin/package", "packed"], setting=strange, limit=LIMIT), tmp_path / "packed")
     assert [name for name in MADE[:-1] if (one / name).read_bytes() != (tmp_path / "packed" / name).read_bytes()] == []
     assert (tmp_path / "packed/SHA256SUMS").read_text().startswith("# commit unknown\n")
     assert (tmp_path / "other").read_text() == "other" and not (tmp_path / "packed/SHA256SUMS.sig").exists()
