@@ -208,7 +208,7 @@ def test_a_directory_that_cannot_be_written_to_is_refused(run):
         pytest.skip("another user can't run what is here")
     place = pathlib.Path(tempfile.mkdtemp())
     place.chmod(0o555)
-    assert run([*other, SITE, place / "html"]) == (2, "", f"site: {place} can't be written to\n")
+    assert run([*other, SITE, place / "html"]) == (2, "", f"site: {place} can't be written to, so name another directory\n")
     place.rmdir()
 
 
