@@ -6,8 +6,8 @@ bindings/sqlite, or as MERGEJOIN_SQLITE names it. What else there is to say of t
 import importlib.util
 import os
 import pathlib
-import platform
 import subprocess
+from sysconfig import get_platform
 
 from setuptools import Extension, setup
 from setuptools.command.build_ext import build_ext
@@ -68,6 +68,6 @@ MODULE = Extension(
 setup(
     cmdclass={"build_ext": WithLibrary},
     ext_modules=[MODULE],
-    # It needs Python 3.10 and later, and glibc 2.17.
-    options={"bdist_wheel": {"py_limited_api": "cp310", "plat_name": f"manylinux_2_17_{platform.machine()}"}},
+    # It needs Python 3.10 and later, and glibc 2.17. For another processor than this machine's _PYTHON_HOST_PLATFORM names it.
+    options={"bdist_wheel": {"py_limited_api": "cp310", "plat_name": f"manylinux_2_17_{get_platform().rpartition('-')[2]}"}},
 )
