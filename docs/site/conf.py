@@ -76,13 +76,6 @@ def spell_docstring(app, what, name, thing, options, lines):
     lines[:] = BLOCK.join(made).splitlines()
 
 
-def leave_out_what_is_not_there(app, name, source):
-    """The outline of the index may name pages that are not written yet."""
-    if name == "index":
-        lines = source[0].splitlines()
-        source[0] = "\n".join(line for line in lines if not re.fullmatch(r"(?:docs|manual)/\S+", line) or line in app.env.found_docs)
-
-
 def leave_out_scripts(app, page, template, context, doctree):
     """The pages need neither jQuery nor Underscore."""
     if "script_files" in context:
@@ -131,6 +124,5 @@ def setup(app):
     for name in sorted({name for page in pages for name in re.findall(r"^```(\w+)$", page, re.M)}):
         app.add_lexer(name, lexer_of(name))
     app.connect("autodoc-process-docstring", spell_docstring)
-    app.connect("source-read", leave_out_what_is_not_there)
     app.connect("html-page-context", leave_out_scripts)
     app.connect("build-finished", mend_theme)
