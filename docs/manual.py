@@ -22,7 +22,7 @@ from header import Header
 
 TOP = pathlib.Path(__file__).resolve().parent.parent
 
-VERSION = re.search(r"^## ([0-9.]+) ", (TOP / "CHANGELOG.md").read_text("utf-8"), re.M)[1]
+VERSION = re.findall(r"^## ([0-9.]+) ", (TOP / "CHANGELOG.md").read_text("utf-8"), re.M)[0]
 
 HEAD = f"""\
 .TH MERGEJOIN 1 "" "mergejoin {VERSION}"
