@@ -62,8 +62,8 @@ def test_a_full_disk_for_the_packages_is_reported_and_has_none(program, library,
 
 def test_a_disk_that_becomes_full_is_reported_and_has_no_package(top, on_a_small_disk, tmp_path):
     """After bin/package has looked how much is left."""
-    lines = (top / "bin/package").read_text().replace('look_for_space "$directory" "$needed"\n', "")
-    (top / "bin/package").write_text(lines)
+    lines = (top / "bin/packing.sh").read_text().replace('  look_for_space "$directory" "$needed"\n', "")
+    (top / "bin/packing.sh").write_text(lines)
     status, out, err = on_a_small_disk(top / "bin/package", tmp_path / "disk/packed")
     assert (status, out) == (1, f"{tmp_path}/disk/packed\n") and err.count("\n") == 1
     assert err.startswith(f"cp: error writing '{tmp_path}/disk/packed/.mergejoin.") and err.endswith("': No space left on device\n")
