@@ -95,19 +95,21 @@ put_all() {
     ln -P -- "$path" "${fresh[at]}.was" 2>/dev/null || cp -dp -- "$path" "${fresh[at]}.was" || return
   done
   for at in "${!places[@]}"; do
-    mv -fT -- "${fresh[at]}" "${places[at]}" || { put_back "$at" && return 1; }
+    mv -fT -- "${fresh[at]}" "${places[at]}" || { put_back "$at" || true; return 1; }
   done
   trap - INT TERM HUP
 }
 
-# Puts back what was in the first so many places.
+# Puts back what was in the first so many places. What can't be put back is kept.
 put_back() {
-  local at
+  local at directory
   for ((at = 0; at < $1; at++)); do
-    if [[ -e ${fresh[at]}.was || -L ${fresh[at]}.was ]]; then
-      mv -fT -- "${fresh[at]}.was" "${places[at]}"
-    else
+    if [[ ! -e ${fresh[at]}.was && ! -L ${fresh[at]}.was ]]; then
       rm -f -- "${places[at]}"
+    elif ! mv -fT -- "${fresh[at]}.was" "${places[at]}"; then
+      say "what was ${places[at]} is ${fresh[at]}.was"
+      directory=${places[at]%/*}
+      unset 'private[${directory:-/}]'
     fi
   done
 }

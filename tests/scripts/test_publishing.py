@@ -3,6 +3,8 @@ others have put in the way, and in environments that would change what is made. 
 """
 
 import os
+import pathlib
+import re
 import subprocess
 
 import pytest
@@ -103,6 +105,20 @@ def test_if_one_file_cannot_be_put_in_its_place_none_is(prefix, name):
     status, out, err = prefix.copy.run(["bin/install", prefix.path])
     assert (status, out, prefix.left()) == (1, "", older) and f"cannot overwrite directory '{prefix.path}/{name}'" in err
     assert not list((prefix.path / name).iterdir())
+
+
+def test_what_cannot_be_put_back_is_kept_and_named(prefix):
+    """The disk turns read-only, as it were, once the first file is put."""
+    program, tools = prefix.path / "bin/mergejoin", prefix.copy.directory / "tools"
+    program.parent.mkdir(parents=True)
+    program.write_text("older")
+    tools.mkdir()
+    (tools / "mv").write_text('#!/bin/sh\n[ ! -e "$0.ran" ] || exit 1\n: >"$0.ran"\nexec /bin/mv "$@"\n')
+    (tools / "mv").chmod(0o755)
+    status, out, err = prefix.copy.run(["bin/install", prefix.path], {"PATH": f"{tools}:{prefix.copy.setting['PATH']}"})
+    where = re.fullmatch(f"mergejoin: what was {program} is (.*)\n", err)
+    assert (status, out) == (1, "") and pathlib.Path(where[1]).read_text() == "older"
+    assert [name for name in prefix.left() if "/.mergejoin." not in name] == ["bin/mergejoin"]
 
 
 def test_what_is_built_is_installed_without_a_toolchain_and_a_place_to_write_to(prefix):
