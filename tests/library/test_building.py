@@ -1,8 +1,12 @@
 """bin/library: its help, its usage, and that it leaves no link, at which rt would stop; it links no other archive than the one that was
-built, and nothing again that is there, for which it needs neither the toolchain nor a directory that it can write to.
+built, and nothing again that is there, for which it needs neither the toolchain nor a directory that it can write to. If it is ended while
+it puts files in place, all of them are put.
 """
 
 import shutil
+import signal
+import subprocess
+import time
 
 import pytest
 
@@ -69,6 +73,24 @@ def test_a_library_that_is_made_needs_no_toolchain_and_is_not_written_to(made, t
     assert kept(out) == before
     (out / "include/mergejoin.h").write_text("another")
     assert made()[0] == 0 and (out / "include/mergejoin.h").read_bytes() == (tmp_path / "copy/bindings/c/mergejoin.h").read_bytes()
+
+
+@pytest.mark.parametrize("how", [signal.SIGINT, signal.SIGTERM])
+def test_if_it_is_ended_while_files_are_put_all_are(made, tmp_path, run, how):
+    """By an mv that takes its time."""
+    assert made()[0] == 0
+    out, header = tmp_path / "copy/out", tmp_path / "copy/bindings/c/mergejoin.h"
+    header.write_text(header.read_text("utf-8") + "/* more */\n", "utf-8")
+    (tmp_path / "mv").write_text('#!/bin/sh\n: >"$0.ran"\nsleep 0.2\nexec /bin/mv "$@"\n')
+    (tmp_path / "mv").chmod(0o755)
+    with subprocess.Popen([tmp_path / "copy/bin/library"], stdout=subprocess.DEVNULL, stderr=subprocess.DEVNULL) as process:
+        while process.poll() is None and not (tmp_path / "mv.ran").exists():
+            time.sleep(0.01)
+        process.send_signal(how)
+    assert process.returncode != 0 and list(out.glob("library.*/")) == []
+    before = kept(out)
+    assert run([tmp_path / "copy/bin/library"]) == (0, "", "") and kept(out) == before
+    assert (out / "include/mergejoin.h").read_bytes() == header.read_bytes()
 
 
 def test_what_is_made_of_another_header_or_version_is_made_anew(made, tmp_path):
