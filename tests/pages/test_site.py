@@ -55,7 +55,7 @@ def site_that_is_made(tools, tmp_path_factory):
     """A site that bin/site has made by a narrow mask, over one that was there."""
     directory = tmp_path_factory.mktemp("site")
     (directory / "one").mkdir()
-    (directory / "one/.buildinfo").write_text("of another")
+    (directory / "one/.buildinfo").write_text("# bin/site made this site.\n")
     (directory / "one/older.html").write_text("older")
     ended = calls.run(f"umask 077; {SITE} one", shell=True, cwd=directory, limit=300)
     assert ended == (0, f"made {directory}/one\n", "")
@@ -189,13 +189,16 @@ def test_help(run, word):
     ("file", "{}/file is there, and is not a directory"),
     ("file/below", "{}/file is there, and is not a directory"),
     ("full", "{}/full has files that bin/site did not make"),
+    ("other", "{}/other has files that bin/site did not make"),
     ("/", "the site needs a directory of its own"),
     ("a\nb", "DIRECTORY has a newline"),
 ], ids=repr)
 def test_a_directory_is_refused(run, tmp_path, word, why):
     (tmp_path / "file").write_text("")
-    (tmp_path / "full").mkdir()
-    (tmp_path / "full/index.html").write_text("of another")
+    for name in ("full", "other"):
+        (tmp_path / name).mkdir()
+        (tmp_path / name / "index.html").write_text("of another")
+    (tmp_path / "other/.buildinfo").write_text("# Sphinx build info version 1\n")
     before = sorted(tmp_path.rglob("*"))
     assert run([SITE, word], cwd=tmp_path) == (2, "", f"site: {why.format(tmp_path)}\n")
     assert sorted(tmp_path.rglob("*")) == before
