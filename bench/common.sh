@@ -7,8 +7,9 @@
 
 # All that is built and measured is in a directory outside the repository.
 "$top/bin/prove" </dev/null
-work=${TMPDIR:-/tmp}/mergejoin-bench
-mkdir -p -- "$work"
+work=${TMPDIR:-/tmp}/mergejoin-bench-$(id -u)
+[[ -d $work ]] || mkdir -m 700 -- "$work"
+[[ -O $work && ! -L $work ]] || { printf 'bench: %s belongs to someone else\n' "$work" >&2; exit 1; }
 cd -- "$work" || exit
 cp -r -- "$program" "$top"/bench/{rust,*.py,*.cpp,*.jq} .
 exec </dev/null

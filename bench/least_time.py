@@ -17,8 +17,10 @@ def taken(program, words, name):
     """Runs a program once, and gives its time in the processor, the kernel's for it as well."""
     with open(name, "rb") as given:
         process = subprocess.Popen([program, *words], stdin=given, stdout=subprocess.DEVNULL, stderr=subprocess.DEVNULL)
-        _, _, used = os.wait4(process.pid, 0)
-        process.returncode = 0
+        _, status, used = os.wait4(process.pid, 0)
+        process.returncode = os.waitstatus_to_exitcode(status)
+    if status:
+        sys.exit(f"{program} ended with {process.returncode}")
     return (used.ru_utime + used.ru_stime) * 1000
 
 

@@ -72,7 +72,9 @@ def seconds(words, name):
     with open(name, "rb") as given:
         process = subprocess.Popen(words, stdin=given, stdout=subprocess.DEVNULL)
         _, status, used = os.wait4(process.pid, 0)
-        process.returncode = status
+        process.returncode = os.waitstatus_to_exitcode(status)
+    if status:
+        sys.exit(f"{words} ended with {process.returncode}")
     return used.ru_utime + used.ru_stime
 
 

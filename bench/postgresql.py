@@ -84,7 +84,6 @@ class Session:
         words = pathlib.Path(f"/proc/{self.pid}/stat").read_text("ascii").rpartition(")")[2].split()
         return (int(words[11]) + int(words[12])) / os.sysconf("SC_CLK_TCK")
 
-
     def used_by(self, statement):
         """Gives the seconds of the processor that a statement takes."""
         begun = self.used()
