@@ -6,7 +6,7 @@
 
 /* The kept form of two patches that conflict, at one place, since none is shown. */
 #define CONFLICT "![\"\"]"
-enum { WORDS = 256, JOIN = 65536 }; /* the first buffers: of words, and of a join at most */
+enum { LEAST = 256, JOIN = 65536 }; /* the bytes of the first buffer of a text, and of a join at most */
 
 typedef struct Group {
   Memory memory;
@@ -24,7 +24,7 @@ PG_FUNCTION_INFO_V1(mergejoin_joined_or_null);
 
 /* Returns what a state gives by a call, as a value in the current memory context, or NULL if that is no result. */
 static text *text_of(Group *group, mergejoin_reply (*call)(mergejoin_patches *, uint8_t *, size_t, size_t)) {
-  mergejoin_reply reply = {.length = Min(group->length + WORDS, JOIN)};
+  mergejoin_reply reply = {.length = Min(group->length + LEAST, JOIN)};
   size_t size;
   text *value;
 
@@ -43,20 +43,19 @@ static text *text_of(Group *group, mergejoin_reply (*call)(mergejoin_patches *, 
 /* Makes the state that two patches conflict, and frees what there was. */
 static void keep_conflict(Group *group) {
   const mergejoin_text kept = mergejoin_text_of(CONFLICT, strlen(CONFLICT));
-  uint8_t words[WORDS];
 
   prepare_call(&group->memory);
-  if (mergejoin_patches_from_kept(&group->patches, kept.bytes, kept.length, words, WORDS, WORDS).status != MERGEJOIN_CONFLICT)
+  if (mergejoin_patches_from_kept(&group->patches, kept.bytes, kept.length, NULL, 0, 0).status != MERGEJOIN_CONFLICT)
     refuse_for_memory(&group->memory);
 }
 
 /* Takes a text. Of the places of a conflict one is left, and there may be no memory for all of them. */
 static void take(Group *group, mergejoin_text text) {
-  uint8_t words[WORDS];
   mergejoin_reply reply;
 
+  group->memory.is_over = false;
   prepare_call(&group->memory);
-  reply = mergejoin_patches_add(&group->patches, text.bytes, text.length, words, WORDS, WORDS);
+  reply = mergejoin_patches_add(&group->patches, text.bytes, text.length, NULL, 0, 0);
   if (reply.status == MERGEJOIN_PATCH) refuse_patch(text);
   if (reply.status == MERGEJOIN_PENDING ||
       (reply.status == MERGEJOIN_NO_MEMORY && !(group->memory.is_over && conflict(text_of(group, mergejoin_patches_text), text))))

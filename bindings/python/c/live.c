@@ -82,7 +82,7 @@ static int replica_init(live *self, PyObject *arguments, PyObject *names) {
   char *text = NULL;
   texts start = {0};
   (void)names;
-  if (texts_of_one(PyTuple_GetItem(arguments, 0), &start)) return -1;
+  if (!has_arguments(PyTuple_Size(arguments), 1) || texts_of_one(PyTuple_GetItem(arguments, 0), &start)) return -1;
   ALONE_(self, {
     text = mergejoin_replica_start_new(&self->it.replica, BYTES_(start), SIZE_MAX, &reply);
     self->length = start.at->length;
@@ -142,7 +142,10 @@ static void patches_dealloc(live *self) {
   drop(self);
 }
 
-/* Patches that were taken may conflict: that is no error, but of a call that asks for their join. */
+/* Patches that were taken may conflict: that is no error, but of a call that asks for their join. So no call that takes patches wants
+ * places, of which there may be very many. */
+#define NO_PLACES 0
+
 static PyObject *taken(char *text, mergejoin_reply *reply) {
   if (reply->status == MERGEJOIN_CONFLICT) reply->status = MERGEJOIN_RESULT;
   PyObject *answer = answer_of(text, reply);
@@ -155,10 +158,7 @@ static PyObject *patches_add(live *self, PyObject *given) {
   char *text = NULL;
   texts patch;
   if (texts_of_one(given, &patch)) return NULL;
-  ALONE_(self, {
-    /* A list of no places is enough: patches may conflict at very many. */
-    text = mergejoin_patches_add_new(&self->it.patches, BYTES_(patch), 2, &reply);
-  });
+  ALONE_(self, text = mergejoin_patches_add_new(&self->it.patches, BYTES_(patch), NO_PLACES, &reply));
   texts_drop(&patch);
   return taken(text, &reply);
 }
@@ -169,7 +169,7 @@ static PyObject *patches_from_kept(live *self, PyObject *given) {
   texts kept;
   if (texts_of_one(given, &kept)) return NULL;
   ALONE_(self, {
-    text = mergejoin_patches_from_kept_new(&self->it.patches, BYTES_(kept), 2, &reply);
+    text = mergejoin_patches_from_kept_new(&self->it.patches, BYTES_(kept), NO_PLACES, &reply);
     self->length = kept.at->length;
   });
   texts_drop(&kept);
@@ -185,9 +185,7 @@ static PyObject *patches_combine(live *self, PyObject *given) {
     PyErr_SetString(PyExc_TypeError, "another Patches is wanted");
     return NULL;
   }
-  ALONE_(self, {
-    text = mergejoin_patches_combine_new(&self->it.patches, &other->it.patches, 2, &reply);
-  });
+  ALONE_(self, text = mergejoin_patches_combine_new(&self->it.patches, &other->it.patches, NO_PLACES, &reply));
   return taken(text, &reply);
 }
 
@@ -218,7 +216,7 @@ static int log_init(live *self, PyObject *arguments, PyObject *names) {
   texts start;
   uint64_t epoch;
   (void)names;
-  if (number_of(PyTuple_GetItem(arguments, 0), &epoch)) return -1;
+  if (!has_arguments(PyTuple_Size(arguments), 2) || number_of(PyTuple_GetItem(arguments, 0), &epoch)) return -1;
   if (texts_of_one(PyTuple_GetItem(arguments, 1), &start)) return -1;
   ALONE_(self, {
     text = mergejoin_patch_log_start_new(&self->it.log, epoch, BYTES_(start), SIZE_MAX, &reply);

@@ -3,6 +3,7 @@
 import json
 import subprocess
 import sys
+import time
 import unittest
 
 import mergejoin
@@ -66,13 +67,26 @@ class Limits(unittest.TestCase):
         self.assertRaises(TooLarge, log.conflicts, limit=1_000)
         self.assertEqual(len(log.conflicts()[0].places), 20_000)
 
-    def test_patches_keep_few_places_of_a_conflict_that_is_added(self):
+    def test_patches_report_few_places_of_a_conflict(self):
         patches = Patches()
         for text in WIDE:
             patches.add(text)
         with self.assertRaises(Conflict) as raised:
             patches.text(limit=100)
-        self.assertEqual(raised.exception.total, 20_000)
+        self.assertEqual((raised.exception.total, len(raised.exception.places)), (20_000, 9))
+
+    def test_a_conflict_makes_no_later_patch_dearer(self):
+        """No place of it is written when a patch is added."""
+        plain, conflicting, times = Patches(), Patches(), []
+        plain.add(WIDE[0])
+        for text in WIDE:
+            conflicting.add(text)
+        for patches in (plain, conflicting):
+            begun = time.process_time()
+            for _ in range(500):
+                patches.add('{"a":1}')
+            times.append(time.process_time() - begun)
+        self.assertLess(times[1], 10 * times[0])
 
     def test_what_is_no_limit(self):
         for limit, error in ((-1, OverflowError), (2**64, OverflowError), ("1", TypeError), (1.0, TypeError)):

@@ -3,8 +3,8 @@
 use crate::raw::{Reply, RESULT};
 use crate::Error;
 
-/// A buffer has so many bytes more than the guess. No text but a result, a list of places and a kept form is longer than
-/// this.
+/// A buffer has so many bytes more than the guess. No text is longer than this but a result, a list of places, a kept form, and
+/// words with a place after them.
 pub(crate) const LEAST: usize = 64;
 
 /// The guess for a text of what stays in memory is half as many bytes again as it had when it was last read, and these. What was

@@ -5,10 +5,13 @@ use crate::raw::{self, Handle, OfHandle, OfText, CONFLICT, PATCH, PENDING, RESUL
 use crate::Error;
 use std::fmt;
 
+/// The limit of a call that takes patches. If two conflict, no place is wanted, and there may be very many.
+const NO_PLACES: usize = 0;
+
 /// Merge patches that are gathered without a start, for a reduce, a combiner or an aggregate: nothing yet, their join, or
 /// that two of them conflict, with the places of the first conflict that was seen.
 ///
-/// Adding a patch costs what the patch costs, however many were taken. The patches are not kept. Whatever the order, the
+/// What adding a patch costs depends on the patch, and hardly on how many were taken. The patches are not kept. Whatever the order, the
 /// groups and the repeats, the text is the same.
 ///
 /// ```
@@ -89,12 +92,12 @@ impl Patches {
     ///
     /// [`Error::NoMemory`]: neither has changed.
     pub fn combine(&mut self, other: &mut Patches) -> Result<Added, Error> {
-        let (held, others, limit) = (&mut self.held, &mut other.held, self.limit);
+        let (held, others) = (&mut self.held, &mut other.held);
         // SAFETY: no other call has either, and two mutable borrows are of two; the call is made once, and writes its text
         // alone.
         let (reply, words) = unsafe {
             status_of(|out, capacity| {
-                raw::mergejoin_patches_combine(held, others, out, capacity, limit)
+                raw::mergejoin_patches_combine(held, others, out, capacity, NO_PLACES)
             })
         };
         added_of(&reply, words)
@@ -147,11 +150,11 @@ impl Patches {
     /// Makes one of the header's calls that give patches a text. Why it is not a document may end with a long place: then nothing
     /// was taken, and the call is made again.
     fn take(&mut self, call: OfText, text: &[u8]) -> Result<Added, Error> {
-        let (held, limit) = (&mut self.held, self.limit);
+        let held = &mut self.held;
         let mut make = |out, capacity| {
             // SAFETY: no other call has `held`; the text is borrowed for the call, and no pointer of a slice is null; the buffer
             // has the capacity, as the two below pass it.
-            unsafe { call(held, text.as_ptr(), text.len(), out, capacity, limit) }
+            unsafe { call(held, text.as_ptr(), text.len(), out, capacity, NO_PLACES) }
         };
         // SAFETY: the call writes its text alone.
         let (mut reply, mut words) = unsafe { status_of(&mut make) };

@@ -143,8 +143,8 @@ impl Replica {
     fn call(&mut self, call: OfText, text: &[u8], guess: usize) -> Result<String, Error> {
         let (held, limit) = (&mut self.held, self.limit);
         // SAFETY: `held` is as the header has it, and no other call has it; the text is borrowed for the call, and no pointer of a
-        // slice is null; the call writes its text alone. It is made again for a part or for places, after which nothing is
-        // changed: all other texts fit.
+        // slice is null; the call writes its text alone. It is made again for a part, for places, or for words
+        // with a long place, after which nothing is changed: all other texts fit.
         unsafe {
             text_of(guess.min(limit), |out, capacity| {
                 call(held, text.as_ptr(), text.len(), out, capacity, limit)

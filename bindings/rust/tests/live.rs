@@ -4,6 +4,7 @@ use mergejoin::{
     join, replay, Added, Arrival, DecideError, DocumentCause, Error, Identity, PatchLog, Patches,
     PointerCause, Received, Replica,
 };
+use std::time::{Duration, Instant};
 
 const ADA: &str = r#"{"author":"Ada"}"#;
 const BOB: &str = r#"{"author":"Bob"}"#;
@@ -21,6 +22,33 @@ fn conflict(place: &str) -> Error {
 // Of a kept form there is no place.
 fn unread(cause: DocumentCause) -> Error {
     Error::Document { cause, place: None }
+}
+
+/// The time of 500 more patches.
+fn of_more(patches: &mut Patches) -> Duration {
+    let begun = Instant::now();
+    for _ in 0..500 {
+        patches.add(r#"{"a":1}"#).unwrap();
+    }
+    begun.elapsed()
+}
+
+#[test]
+fn a_conflict_at_many_places_makes_no_later_patch_dearer() {
+    let wide = |value: u8| {
+        let members: Vec<_> = (0..20_000)
+            .map(|name| format!(r#""n{name}":{value}"#))
+            .collect();
+        format!("{{{}}}", members.join(","))
+    };
+    let (mut plain, mut conflicting) = (Patches::new(), Patches::new());
+    assert_eq!(plain.add(wide(1)), Ok(Added::Joined));
+    assert_eq!(conflicting.add(wide(1)), Ok(Added::Joined));
+    assert_eq!(conflicting.add(wide(2)), Ok(Added::Conflict));
+    let time = of_more(&mut plain);
+    assert!(of_more(&mut conflicting) < 10 * time + Duration::from_millis(5));
+    let text = conflicting.text();
+    assert!(matches!(text, Err(Error::Conflict { total: 20_000, .. })));
 }
 
 fn is_not_json<T>(answer: Result<T, Error>) -> bool {
