@@ -31,9 +31,9 @@ static written push(buffer *out, const char *bytes, size_t length) {
   return DONE;
 }
 
-/* An error of a value becomes its answer: it is not a document. */
+/* An error of a value becomes its answer: it is not a document. All others, as those of a class of the caller, stay errors. */
 static written refused(void) {
-  if (PyErr_ExceptionMatches(PyExc_MemoryError)) return FAILED;
+  if (!PyErr_ExceptionMatches(PyExc_UnicodeEncodeError) && !PyErr_ExceptionMatches(PyExc_OverflowError)) return FAILED;
   PyErr_Clear();
   return NO_DOCUMENT;
 }
@@ -84,7 +84,7 @@ static written push_member(buffer *out, PyObject *name, PyObject *value, int lev
 /* Of a class that is derived from dict its own items() count, as for json. */
 static written push_items(buffer *out, PyObject *value, int level) {
   PyObject *items = PyMapping_Items(value);
-  written status = items ? DONE : refused();
+  written status = items ? DONE : FAILED;
   for (Py_ssize_t number = 0; status == DONE && number < PyList_Size(items); number += 1) {
     PyObject *item = PyList_GetItem(items, number);
     status = PyTuple_Check(item) && PyTuple_Size(item) == 2

@@ -57,6 +57,11 @@ class Replicas(unittest.TestCase):
                     self.assertRaises(NoPatches, again.joined)
         self.assertEqual(repr(replica), '<mergejoin.Replica {"author":"Ada","tags":["a"]}>')
 
+    def test_a_log_is_not_copied(self):
+        log = PatchLog(1, START)
+        for call in (copy.copy, copy.deepcopy, pickle.dumps):
+            self.assertRaises(TypeError, call, log)
+
     def test_replicas_compare(self):
         one, other = Replica(START), Replica(START)
         one.receive(ADA)

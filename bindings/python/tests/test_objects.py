@@ -51,6 +51,27 @@ class Objects(unittest.TestCase):
                 error = raised.exception
                 self.assertEqual((error.what, error.number, error.why, error.place), (*wanted, why, place))
 
+    def test_an_error_of_the_caller_s_class_is_raised(self):
+        """None of them says that the value is not a document. The class raises once."""
+        class Lazy(dict):
+            def __init__(self, error):
+                super().__init__()
+                self.errors = [error]
+
+            def items(self):
+                for error in self.errors[:1]:
+                    self.errors.clear()
+                    raise error
+                return super().items()
+
+        for error in KeyboardInterrupt(), RecursionError(), ValueError(), OverflowError(), UnicodeEncodeError("utf-8", "", 0, 1, ""):
+            with self.subTest(error=error), self.assertRaises(type(error)):
+                objects.join([{"a": Lazy(error)}])
+
+    def test_one_text_is_no_list_of_patches(self):
+        for one in ('{"a":1}', b"{}", bytearray(b"{}"), {"a": 1}):
+            self.assertRaises(TypeError, objects.join, one)
+
     def test_taken(self):
         for value in TAKEN:
             self.assertEqual(objects.get(value, ""), value)

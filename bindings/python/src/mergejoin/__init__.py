@@ -25,15 +25,17 @@ Each document and each patch is a JSON text of its own: a str, or UTF-8 in bytes
 with names in the order of their UTF-8 bytes. Numbers are whole, from -2**63 to 2**64 - 1; a text with another is refused, and so is
 one of more than 126 levels. mergejoin.objects has the same functions over dict, list and so on.
 
-A program that keeps a document has a Replica: it stays in memory, so that receiving a patch costs what the patch costs. Patches joins
-patches as they come, and a PatchLog also stores those that conflict, until it is decided which of them count.
+A program that keeps a document has a Replica: it stays in memory, so that what a patch costs depends on the patch, and hardly on the
+document. Patches joins patches as they come, and a PatchLog also stores those that conflict, until it is decided which of them count.
 
 The calls are those of the library for C in this package, whose answers are proved; the package itself is tested alone. A call gives up
 the interpreter's lock while it runs, can't be cancelled, and needs 256 KiB of stack, which threading.stack_size() should leave. It takes
-mostly 10 to 100 bytes of memory for each byte that it reads, and never more than 360 in addition to what copies and the answer take.
+mostly 10 to 100 bytes of memory for each byte that it reads, and 360 of the worst texts that were tried, in addition to what copies and
+the answer take.
 
 A short text can ask for all memory: a JSON Patch doubles a document with each copy, and two patches may conflict at very many places.
 So call with the texts of strangers and a limit, in bytes: TooLarge is raised if the result, or what is made on the way, would take more.
+Of what stays in memory, and of conflicts(), a limit bounds the answer alone: bound the lengths of the texts too.
 """
 
 from . import _library, objects

@@ -115,7 +115,9 @@ class TooLarge(MergejoinError):
 
 
 class Pending(MergejoinError):
-    """A Replica has received the patch, and memory ran out before it could be shown. It is not lost: the next call shows it."""
+    """A Replica has received the patch, or Patches have taken it, and memory ran out before it could be shown. It is not lost: the next
+    call shows it.
+    """
 
     def __str__(self) -> str:
         return "pending"

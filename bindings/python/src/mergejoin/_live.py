@@ -20,8 +20,8 @@ def _shown(text: str) -> str:
 class Replica:
     """A replica of one document: it begins with a start, receives merge patches, and shows what they make of the start.
 
-    Patches may arrive in any order and with any repeats. Receiving one costs what the patch costs, however long the document is
-    and however many came before.
+    Patches may arrive in any order and with any repeats. What one costs depends on the patch, and hardly on the document
+    or on how many came before.
 
     >>> replica = Replica('{"title": "Notes"}')
     >>> replica.receive('{"author": "Ada"}')
@@ -140,7 +140,7 @@ class Patches:
     Traceback (most recent call last):
     mergejoin.Conflict: conflict: two patches at "/author"
 
-    A patch costs what it is long, however many there are. A Patches pickles as one text, and copies: give it to a process or keep
+    What a patch costs depends on the patch, and hardly on how many there are. A Patches pickles as one text, and copies: give it to a process or keep
     it in a file. Two are equal if they pickle as the same text. Any threads may use it: they take it one after the other.
     """
 
@@ -153,8 +153,8 @@ class Patches:
     def add(self, text: Given) -> None:
         """Take one more merge patch.
 
-        If it is not a document, InputError is raised, and this stays as it was. If memory runs out, it may be taken or
-        not: add it again, since a repeat changes nothing.
+        If it is not a document, InputError is raised, and this stays as it was. If memory runs out, it is Pending if
+        the patch is taken, and MemoryError if not: add it again, since a repeat changes nothing.
         """
         self._held.add(text)
 
@@ -244,7 +244,7 @@ class PatchLog:
     ('{"colour":"blue","size":2}', 2)
 
     Any threads may use it: they take it one after the other. Nothing of it is on disk: store the messages that it was given, and
-    give them to a new one. docs/NEW-START.md of the sources says how replicas agree on a decision.
+    give them to a new one. It neither pickles nor copies. docs/NEW-START.md of the sources says how replicas agree on a decision.
     """
 
     __slots__ = ("_held",)
@@ -252,6 +252,9 @@ class PatchLog:
     def __init__(self, epoch: int, start: Given) -> None:
         """Begin with a start of this number, from 0 to 2**64 - 1. InputError is raised if the start is not a document."""
         self._held = _library.PatchLog(epoch, start)
+
+    def __copy__(self) -> "PatchLog":
+        raise TypeError("a PatchLog is not copied: give its messages to a new one")
 
     @property
     def epoch(self) -> int:
@@ -262,7 +265,7 @@ class PatchLog:
         """Receive a message: a merge patch, its identity, and the number of the start that it was made for.
 
         InputError is raised if the patch is not a document, whatever the message is of. Then, and if memory runs out, nothing has
-        changed. A patch that conflicts with nothing costs what it is long; one that does may cost all that is stored.
+        changed. What a patch costs that conflicts with nothing depends on the patch; one that does may cost all that is stored.
         """
         return Arrival(self._held.receive(epoch, *identity, patch))
 

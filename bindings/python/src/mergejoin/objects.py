@@ -106,7 +106,7 @@ def conflicts(patches: Iterable[object], *, limit: Optional[int] = None) -> List
 
 
 def _all_written(patches: Iterable[object]) -> List[bytes]:
-    if not isinstance(patches, (list, tuple)) and isinstance(patches, (str, bytes, Mapping)):
+    if not isinstance(patches, (list, tuple)) and isinstance(patches, (str, bytes, bytearray, Mapping)):
         raise TypeError("patches are to be given one by one, as in a list, and not as one patch")
     return [_written(patch, "patch", number) for number, patch in enumerate(patches)]
 

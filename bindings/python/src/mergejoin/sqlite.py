@@ -14,13 +14,14 @@ sqlite_errorname. The page SQLITE.md of the sources says the rest.
 import errno
 import os
 import sqlite3
+import sysconfig
 
 __all__ = ["path", "load"]
 
 _NAME = "mergejoin_sqlite.so"
 # In the package, or where Debian's package and others that install it put it.
-_DIRECTORIES = (os.path.join(os.path.dirname(os.path.abspath(__file__)), "lib"), "/usr/local/lib", "/usr/lib/x86_64-linux-gnu",
-                "/usr/lib64", "/usr/lib")
+_DIRECTORIES = (os.path.join(os.path.dirname(os.path.abspath(__file__)), "lib"), "/usr/local/lib",
+                os.path.join("/usr/lib", sysconfig.get_config_var("MULTIARCH") or ""), "/usr/lib64", "/usr/lib")
 
 
 def path() -> str:
