@@ -12,12 +12,34 @@
 /* The most bytes that an error shows of a patch. */
 #define LONGEST_PATCH 200
 
-/* Returns why a text is not a document: the words, and after them the place in quotes if there is one. */
-char *why_unread(const Answer *answer) {
-  char *text = text_to_cstring(answer->value);
-  size_t words = answer->reply.total;
+/* Appends bytes of UTF-8 as a JSON string. (PostgreSQL's own function takes none with a NUL.) */
+static void append_string(StringInfo list, const char *bytes, size_t length) {
+  static const char escaped[] = "\"\\\b\t\n\f\r", spelled[] = "\"\\btnfr";
 
-  return words == 0 ? text : psprintf("%.*s at \"%s\"", (int)words, text, text + words + strlen(" at "));
+  appendStringInfoChar(list, '"');
+  for (size_t at = 0; at < length; at += 1) {
+    const char *found = bytes[at] ? strchr(escaped, bytes[at]) : NULL;
+
+    if (found)
+      appendStringInfo(list, "\\%c", spelled[found - escaped]);
+    else if ((unsigned char)bytes[at] < ' ')
+      appendStringInfo(list, "\\u%04x", bytes[at]);
+    else
+      appendStringInfoChar(list, bytes[at]);
+  }
+  appendStringInfoChar(list, '"');
+}
+
+/* Returns why a text is not a document: the words, and after them the place as a JSON string if there is one. */
+char *why_unread(const Answer *answer) {
+  const char *text = VARDATA(answer->value);
+  size_t length = VARSIZE(answer->value) - VARHDRSZ, words = answer->reply.total, at = words + strlen(" at ");
+  StringInfoData why;
+
+  initStringInfo(&why);
+  appendBinaryStringInfo(&why, text, (int)(words ? Min(at, length) : length));
+  if (words != 0 && at <= length) append_string(&why, text + at, length - at);
+  return why.data;
 }
 
 /* Returns where the string of a JSON text ends that begins at an offset, or 0 if the text ends before. */

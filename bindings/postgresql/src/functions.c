@@ -10,8 +10,7 @@
 #include "utils/json.h"
 
 /* The most bytes of the places that the value of an aggregate has. */
-#define PLACES 1048576
-#define WORDS 256
+#define REPORTED_PLACES 1048576
 
 PG_MODULE_MAGIC;
 
@@ -107,11 +106,10 @@ Datum mergejoin_sql_is_patch(PG_FUNCTION_ARGS) {
   mergejoin_text text = text_of_argument(fcinfo, 0);
   Memory memory = {.context = CurrentMemoryContext};
   mergejoin_patches patches = {0};
-  uint8_t words[WORDS];
   uint32_t status;
 
   prepare_call(&memory);
-  status = mergejoin_patches_add(&patches, text.bytes, text.length, words, WORDS, WORDS).status;
+  status = mergejoin_patches_add(&patches, text.bytes, text.length, NULL, 0, 0).status;
   mergejoin_patches_free(&patches);
   if (status == MERGEJOIN_NO_MEMORY || status == MERGEJOIN_PENDING) refuse_for_memory(&memory);
   PG_RETURN_BOOL(status == MERGEJOIN_RESULT);
@@ -122,13 +120,13 @@ static void append_conflict(StringInfo report, const Answer *answer) {
   const mergejoin_reply *reply = &answer->reply;
 
   appendStringInfo(report, "{\"first\":%zu,\"second\":%zu,\"places\":", reply->first, reply->second);
-  if (append_places(report, answer, SIZE_MAX, PLACES) < reply->total) appendStringInfo(report, ",\"total\":%zu", reply->total);
+  if (append_places(report, answer, SIZE_MAX, REPORTED_PLACES) < reply->total) appendStringInfo(report, ",\"total\":%zu", reply->total);
   appendStringInfoChar(report, '}');
 }
 
 /* Joins an array of the patches of a group, for an aggregate that has kept them. */
 static Answer answer_of_group(FunctionCallInfo fcinfo) {
-  Request request = {.export = EXPORT_JOIN, .places = PLACES};
+  Request request = {.export = EXPORT_JOIN, .places = REPORTED_PLACES};
 
   borrow_elements(&request, PG_GETARG_ARRAYTYPE_P(0), true);
   return answer_of(&request);

@@ -16,15 +16,13 @@
 
 /* What malloc aligns by, which is more than a memory context does. */
 #define ALIGNMENT 16
-/* The most bytes that a memory context has before each chunk. */
-#define CHUNK_HEADER 16
 /* Blocks of fewer bytes stay as long as they are if they need less. */
 #define SMALL 1024
 
 /* What is before each block. */
 typedef struct Header {
-  char *chunk; /* of the memory context, in which the header and the block are */
-  Size space;  /* of the chunk */
+  char *chunk;   /* of the memory context, in which the header and the block are */
+  Size capacity; /* of the block, as it was asked for: a debug build of PostgreSQL watches the bytes after it */
 } Header;
 
 extern void *mergejoin_malloc(size_t size);
@@ -65,21 +63,16 @@ static bool is_asked_to_stop(void) {
 
 static Header *header_of(void *block) { return (Header *)block - 1; }
 
-/* Returns a block in a chunk, or NULL if there is none. */
-static void *block_in(char *chunk) {
+/* Returns a block of so many bytes in a chunk, or NULL if there is none. */
+static void *block_in(char *chunk, Size capacity) {
   char *block;
 
   if (!chunk) return NULL;
   block = (char *)TYPEALIGN(ALIGNMENT, chunk + sizeof(Header));
   header_of(block)->chunk = chunk;
-  header_of(block)->space = GetMemoryChunkSpace(chunk);
-  in_use->used += header_of(block)->space;
+  header_of(block)->capacity = capacity;
+  in_use->used += GetMemoryChunkSpace(chunk);
   return block;
-}
-
-/* Returns how many bytes a block may have where it is. */
-static Size capacity_of(void *block) {
-  return header_of(block)->space - CHUNK_HEADER - ((char *)block - header_of(block)->chunk);
 }
 
 void *mergejoin_malloc(size_t size) {
@@ -91,7 +84,8 @@ void *mergejoin_malloc(size_t size) {
     return NULL;
   }
   return block_in(MemoryContextAllocExtended(in_use->context, size + sizeof(Header) + ALIGNMENT,
-                                             MCXT_ALLOC_HUGE | MCXT_ALLOC_NO_OOM));
+                                             MCXT_ALLOC_HUGE | MCXT_ALLOC_NO_OOM),
+                  size);
 }
 
 /* A block that is to be shorter stays where it is if there is no memory for another. */
@@ -100,7 +94,7 @@ void *mergejoin_realloc(void *block, size_t size) {
   void *moved;
 
   if (!block) return mergejoin_malloc(size);
-  capacity = capacity_of(block);
+  capacity = header_of(block)->capacity;
   if (size <= capacity && (size > capacity / 2 || capacity < SMALL)) return block;
   moved = mergejoin_malloc(size);
   if (!moved) return size <= capacity ? block : NULL;
@@ -111,6 +105,6 @@ void *mergejoin_realloc(void *block, size_t size) {
 
 void mergejoin_free(void *block) {
   if (!block) return;
-  in_use->used -= header_of(block)->space;
+  in_use->used -= GetMemoryChunkSpace(header_of(block)->chunk);
   pfree(header_of(block)->chunk);
 }

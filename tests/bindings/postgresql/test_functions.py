@@ -72,6 +72,7 @@ OTHERS = {
     "mergejoin_join('{\"bb\":1e2,\"a\":1,\"a\":-0}'::jsonb)": '{"a": 0, "bb": 100}',
     "mergejoin_join('{\"bb\":100,\"a\":1,\"a\":0}'::json)": '{"a":0,"bb":100}',
     "mergejoin_join('-0'::json)": 'ERROR:  22032: patch 0: number not whole at ""',
+    "mergejoin_join('{\"a\\\"\\n\\u0001\\u0000b\":1.5}'::json)": 'ERROR:  22032: patch 0: number not whole at "/a\\"\\n\\u0001\\u0000b"',
     "mergejoin_join('{\"n\":18446744073709551615}'::jsonb)": '{"n": 18446744073709551615}',
     "mergejoin_get('{\"a\":\"\\u0000é\"}'::json, '/a')": '"\\u0000é"',
     "mergejoin_conflicts('{\"a\":1,\"b\":2}'::json, '{\"a\":2,\"b\":3}')": '["/a","/b"]',
