@@ -89,7 +89,7 @@ static void give_join(sqlite3_context *context, Group *group, bool is_null_of_co
   char *text;
 
   if (group->is_conflict && is_null_of_conflict) return;
-  text = mergejoin_patches_text_new(&group->joined, longest(context), &reply);
+  text = mergejoin_patches_text_new(&group->joined, group->is_conflict ? SHOWN_PLACES : longest(context), &reply);
   if (text && reply.status == MERGEJOIN_RESULT) {
     give(context, text, reply.length, free);
     return;

@@ -15,6 +15,8 @@
 #endif
 /* What all functions and aggregates are. */
 #define FUNCTION_FLAGS (SQLITE_UTF8 | SQLITE_DETERMINISTIC | SQLITE_INNOCUOUS | SQLITE_RESULT_SUBTYPE)
+/* The limit of places that a message shows: it has the first hundred, of 64 kB at most. */
+#define SHOWN_PLACES 262144
 
 bool borrow(sqlite3_value *value, mergejoin_text *text);
 size_t longest(sqlite3_context *context);

@@ -17,12 +17,18 @@ typedef struct Function {
   char *(*call)(const mergejoin_text *texts, size_t count, size_t limit, mergejoin_reply *reply);
 } Function;
 
+/* Returns the limit of a join or a replay: a result is no longer than what is read, and of places a message shows the first ones. */
+static size_t limit_of(const mergejoin_text *texts, size_t count, size_t limit) {
+  size_t most = 2 * mergejoin_lengths_(0, texts, count) + SHOWN_PLACES;
+  return most < limit ? most : limit;
+}
+
 static char *join(const mergejoin_text *texts, size_t count, size_t limit, mergejoin_reply *reply) {
-  return mergejoin_join_new(texts, count, limit, reply);
+  return mergejoin_join_new(texts, count, limit_of(texts, count, limit), reply);
 }
 
 static char *replay(const mergejoin_text *texts, size_t count, size_t limit, mergejoin_reply *reply) {
-  return mergejoin_replay_new(texts->bytes, texts->length, texts + 1, count - 1, limit, reply);
+  return mergejoin_replay_new(texts->bytes, texts->length, texts + 1, count - 1, limit_of(texts, count, limit), reply);
 }
 
 static char *merge(const mergejoin_text *texts, size_t count, size_t limit, mergejoin_reply *reply) {

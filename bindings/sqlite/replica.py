@@ -25,7 +25,7 @@ if command == "start":
     db.execute("INSERT OR IGNORE INTO starts VALUES (?, mergejoin_merge(?))", rest)
 elif command == "receive":
     for line in sys.stdin:
-        db.execute("INSERT OR IGNORE INTO patches VALUES (?, mergejoin_join(?))", line.rstrip("\n").split("\t"))
+        db.execute("INSERT OR IGNORE INTO patches VALUES (?, mergejoin_join(?))", line.rstrip("\n").split("\t", 1))
         print(line, end="", flush=True)  # it is committed, and on disk
 elif command == "shorten":
     with db:  # all of it or nothing

@@ -167,6 +167,27 @@ def test_copies_that_double_a_document_end_soon(connection, document):
     assert asked(connection, "patch", document, json.dumps([*COPIES[:13], replaced])) == TOO_BIG
 
 
+# Two patches of a quarter of a megabyte, whose places have 720 MB together.
+ASKED_OF_LITTLE_MEMORY = """
+import resource, sqlite3, sys
+resource.setrlimit(resource.RLIMIT_AS, (400_000_000,) * 2)
+connection = sqlite3.connect(":memory:")
+connection.enable_load_extension(True)
+connection.load_extension(sys.argv[1])
+texts = ['{"%s":{%s}}' % ("~" * 60_000, ",".join(f'"{number}":{value}' for number in range(6_000))) for value in (1, 2)]
+for call in "mergejoin_join(?, ?)", "mergejoin_replay('1', ?, ?)":
+    try:
+        connection.execute(f"SELECT {call}", texts)
+    except sqlite3.Error as error:
+        print(error.sqlite_errorname, str(error)[:32], str(error)[-29:])
+"""
+
+
+def test_a_wide_conflict_takes_little_memory(extension, run):
+    line = 'SQLITE_CONSTRAINT_FUNCTION conflict: patches 0 and 1: ["/~0 ], the first 1 of 6000 places\n'
+    assert run(["/usr/bin/python3", "-I", "-c", ASKED_OF_LITTLE_MEMORY, extension]) == (0, 2 * line, "")
+
+
 def test_small_objects_are_no_bomb(connection):
     """They weigh much more than their text has bytes, and have to be copied and rewritten within the limit of the text."""
     document = json.dumps([{"": number} for number in range(500)], separators=(",", ":"))

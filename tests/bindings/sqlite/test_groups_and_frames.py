@@ -5,6 +5,7 @@ of groups with a text that is not a patch, of nothing, and of large groups. As w
 import itertools
 import json
 import random
+import time
 
 import pytest
 from sqlite_extension import outcome
@@ -113,7 +114,9 @@ NUMBERS = "WITH RECURSIVE numbers (number) AS (SELECT 1 UNION ALL SELECT number 
 def test_a_large_group_is_joined_in_much_less_time_than_text_by_text(connection):
     wanted = len(json.dumps({f"k{number}": number for number in range(1, 100_001)}, separators=(",", ":")))
     query = f"{NUMBERS.format(100_000)} SELECT length(mergejoin_agg(json_object('k' || number, number))) FROM numbers"
+    begun = time.process_time()
     assert outcome(connection, query) == [(wanted,)]
+    assert time.process_time() - begun < 20
 
 
 def test_a_group_is_interrupted_between_its_rows(connection):
