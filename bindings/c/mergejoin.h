@@ -6,8 +6,8 @@
  *
  * Three handles stay in memory. A mergejoin_replica has a start and the patches that it received, and shows their document. A
  * mergejoin_patches has patches without a start, for a reduce or an aggregate. A mergejoin_patch_log has a start and each patch
- * under its identity, also those that conflict, and begins a new start once it is decided which of them count. A further patch
- * costs what that patch is long; in a patch log one that conflicts may cost what the log has.
+ * under its identity, also those that conflict, and begins a new start once it is decided which of them count. What a further
+ * patch costs depends on that patch, and hardly on what is there; in a patch log one that conflicts may cost what the log has.
  *
  * A short text can ask for all memory: a JSON Patch doubles a document with each copy, and two patches may conflict at very many
  * places. So call with the texts of strangers under a limit, which is the last argument of each call: no result of an operation,
@@ -22,9 +22,9 @@
  *            reply.length is the length of the whole text. If it is greater than the capacity, the text is cut: call again
  *            with a buffer of that length. A capacity of 0 asks for the length alone. The buffer may not overlap what is read.
  *   owns     nothing when it returns, but for what a handle holds. It takes memory by malloc and realloc, and gives it back by
- *            free: for each byte that is read mostly 10 to 100 bytes at the peak, up to 175 for many small objects, and never
- *            more than 360 while patches are joined or rewritten; and in addition what copies and the answer take: up to
- *            four times the limit, and up to eight if nearly each character of the answer has to be escaped. Without a
+ *            free: for each byte that is read mostly 10 to 100 bytes at the peak, up to 175 for many small objects, and up to
+ *            360 while the worst patches that were tried are joined or rewritten; and in addition what copies and the answer
+ *            take: up to four times the limit, and up to eight if nearly each character of the answer has to be escaped. Without a
  *            limit, for n bytes that are read, the places of a conflict and the edits of a rewriting may have n * n / 15
  *            bytes. If malloc or realloc fails, the
  *            status is MERGEJOIN_NO_MEMORY or MERGEJOIN_PENDING. A handle holds mostly 1 to 50 bytes for each byte of its start
@@ -494,10 +494,10 @@ MERGEJOIN_WITHOUT_NULL_(mergejoin_patch_log_decide,
  * returns the text with a terminating 0 after its reply->length bytes; the caller passes it to free. If memory runs out, it
  * returns NULL, and the status is MERGEJOIN_NO_MEMORY.
  *
- * The first buffer is as long as the text will be in most cases, and what is not needed is given back. If the text is longer, a
- * longer buffer is made, and the call is made again. So a text that is much longer than what is read costs twice: the places of
- * a conflict, a JSON Patch with copies, or a rewriting that is longer than the document and sixteen times the patch. A text of a
- * handle that is longer than 64 KB is written twice. A patch is never taken twice.
+ * The first buffer is as long as the text will be in most cases, or short if there is no memory for that. What is not needed is
+ * given back. If the text is longer, a longer buffer is made, and the call is made again. So a text that is much longer than what
+ * is read costs twice: the places of a conflict, a JSON Patch with copies, or a rewriting that is longer than the document and
+ * sixteen times the patch. A text of a handle that is longer than 64 KB is written twice. A patch is never taken twice.
  */
 
 /* First capacities: of a text that is most often empty or a few words, of a part, and of a document that a handle has. */
@@ -540,6 +540,10 @@ static inline char *mergejoin_text_in_(uint8_t *out, size_t capacity, const merg
 #define MERGEJOIN_NEW_(guess, call)                           \
   size_t capacity = mergejoin_capacity_(guess, limit);        \
   uint8_t *out = mergejoin_buffer_(MERGEJOIN_NULL_, capacity, reply);    \
+  if (!out) { /* the text may be shorter */                   \
+    capacity = mergejoin_capacity_(0, limit);                 \
+    out = mergejoin_buffer_(out, capacity, reply);            \
+  }                                                           \
   while (out) {                                               \
     *reply = call;                                            \
     if (reply->length < capacity) break;                      \

@@ -133,6 +133,8 @@ def test_after_an_allocation_failure_a_handle_has_what_the_status_says(driver, t
             assert title in TAKES and reply.text == "pending" and state == changed, (number, how, reply, state)
         else:
             assert reply == wanted and state == changed, (number, how, reply, state)
+        # The first request of a helper is that of a long buffer, but for patches without a start. A short one serves too.
+        assert reply == wanted or (way, number, how) != ("new", 1, 0) or line.split()[0] in ("add", "combine", "from")
         assert again == (wanted if reply.status == NO_MEMORY else twice[len(before) + 1]), (number, how, again)
         assert finally_ == changed == twice[len(before) + 2:], (number, how, finally_)
     print(f"{title}: statuses {sorted(seen)}")
