@@ -84,8 +84,11 @@ STAGES = {
     "decision": (THREE_STORED, call("log_decide", numbers=[1, 2, 1, 1, 1, 2]), OF_LOG),
     "decision of what is missing": (THREE_STORED, call("log_decide", numbers=[1, 1, 9, 9]), OF_LOG),
 }
-# What takes a patch, and can leave it pending, by stage; and what may come then.
+# What takes a patch, and can leave it pending, by stage, but for those in which nothing is taken or nothing is to be made of it; and
+# what may come then.
 TAKES = [title for title, (_, line, _) in STAGES.items() if line.split()[0] in ("receive", "add", "combine")]
+NEVER_PENDING = {"receive of a conflict", "receive of no document", "first add", "add again", "add of no document", "combine with none",
+                 "combine of none"}
 THEN = {
     "receive": ["document", "joined", call("get", 0, b"/a"), call("receive", 0, APART), call("receive", 0, OTHER), call("start", 0, 5), call("free")],
     "add": ["text", "kept", call("add", 0, APART), call("add", 0, OTHER), call("combine", 0, b"", 1), call("combine", 1, b"", 0),
@@ -146,6 +149,7 @@ def test_what_is_pending_is_not_lost(driver, title):
     the first requests, the last, and some between."""
     before, line, reads = STAGES[title]
     pending = [(number, how) for number, how, (reply, *_) in refused([driver], before, line, reads) if reply.status == PENDING]
+    assert bool(pending) == (title not in NEVER_PENDING)
     for number, how in [*pending[:2], *pending[2:-2:9], *pending[-2:]]:
         first = [*before, f"refuse {number} {how}", line]
         for then in THEN[line.split()[0]]:
@@ -168,7 +172,7 @@ def test_an_allocation_failure_reads_nothing_that_is_not_its_own(driver, valgrin
     assert each([*driving.MEMCHECK, driver], scripts)
 
 
-def test_some_patch_is_pending_and_some_conflict_is_wide():
+def test_some_conflict_is_wide_and_each_call_that_takes_is_tried():
     """The stages are what they are meant to be."""
     assert len(driving.written([f"/{name}" for name in WIDE])) > 400
     assert {STAGES[title][1].split()[0] for title in TAKES} == set(THEN)
