@@ -105,18 +105,17 @@ SCRIPT = """\
 .SH NAME
 mergejoin\\-{name} \\- {about}
 .SH SYNOPSIS
-.B mergejoin\\-{name}
-.I {words}
+{usages}
 .SH DESCRIPTION
 {text}
 .SH SEE ALSO
-.BR {other} (1)"""
+.BR mergejoin (1)"""
 
-# The arguments of each script, and the page to see also.
+# The arguments that each script takes.
 SCRIPTS = {
-    "feed": ("FILE..", "mergejoin"),
-    "conflicts": ("FILE..", "mergejoin"),
-    "locate": ("SUBCOMMAND FILE.. <REFUSAL", "mergejoin"),
+    "feed": ["[--lines] FILE.."],
+    "conflicts": ["FILE.."],
+    "locate": ["SUBCOMMAND FILE.. <REFUSAL", "get POINTER FILE <REFUSAL"],
 }
 
 
@@ -152,10 +151,10 @@ def script(name):
     for part in [first, *parts]:
         text += [".nf", roff(part), ".fi"] if part.startswith("    ") else [roff(part)]
         text.append(".PP")
-    words, other = SCRIPTS[name]
+    usages = "\n.br\n".join(f".B mergejoin\\-{name}\n.I {roff(words)}" for words in SCRIPTS[name])
     about = first[0].lower() + first[1:].split(":")[0].rstrip(".").replace("\n", " ")
-    return SCRIPT.format(title=name.upper(), version=VERSION, name=name, about=roff(about), words=roff(words),
-                         text="\n".join(text[:-1]), other=other)
+    return SCRIPT.format(title=name.upper(), version=VERSION, name=name, about=roff(about), usages=usages,
+                         text="\n".join(text[:-1]))
 
 
 def program():

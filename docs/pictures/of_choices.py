@@ -36,8 +36,8 @@ def which():
 
 # What an answer depends on, by what is known of it.
 LAYERS = (
-    ("neither proved nor tested", PLAIN, [["that patches reach", "each replica"], ["how long", "it takes"], ["that the stack", "suffices"]]),
-    ("tested", TESTED, [["that memory is there,", "and calls succeed"], ["main: its streams", "and statuses"], ["texts of help", "and of errors"],
+    ("neither proved nor tested", PLAIN, [["that patches reach", "each replica"], ["how long", "it takes"]]),
+    ("tested", TESTED, [["that memory is there,", "and calls succeed"], ["the stack of the", "deepest documents"], ["main: its streams", "and statuses"], ["texts of help", "and of errors"],
                         ["mergejoin.h:", "inline functions"], ["Python, Rust,", "PostgreSQL, SQLite"], ["the scripts", "of bin/"]]),
     ("proved, unless memory runs out", SHOWN, [["mp_cli: from the bytes that are read", "to the bytes that are written"],
                                                ["mp_c: each call of C"], ["mp_replica, mp_texts, mp_merge,", "mp_patch, mp_pointer, mp_tree"]]),
