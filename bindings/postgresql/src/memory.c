@@ -14,15 +14,16 @@
 #include "utils/guc.h"
 #include "utils/memutils.h"
 
-/* What malloc aligns by, which is more than a memory context does. */
+/* What malloc aligns by, which is more than a memory context does; and the most bytes that a chunk needs for that. */
 #define ALIGNMENT 16
+#define PADDING (ALIGNMENT - MAXIMUM_ALIGNOF)
 /* Blocks of fewer bytes stay as long as they are if they need less. */
 #define SMALL 1024
 
-/* What is before each block. */
+/* What is before each block. It is short, since many blocks are names of a few bytes. */
 typedef struct Header {
-  char *chunk;   /* of the memory context, in which the header and the block are */
-  Size capacity; /* of the block, as it was asked for: a debug build of PostgreSQL watches the bytes after it */
+  uint64 offset : 8;    /* of the block in the chunk of the memory context */
+  uint64 capacity : 56; /* of the block, as it was asked for: a debug build of PostgreSQL watches the bytes after it */
 } Header;
 
 extern void *mergejoin_malloc(size_t size);
@@ -63,14 +64,15 @@ static bool is_asked_to_stop(void) {
 
 static Header *header_of(void *block) { return (Header *)block - 1; }
 
+static char *chunk_of(void *block) { return (char *)block - header_of(block)->offset; }
+
 /* Returns a block of so many bytes in a chunk, or NULL if there is none. */
 static void *block_in(char *chunk, Size capacity) {
   char *block;
 
   if (!chunk) return NULL;
   block = (char *)TYPEALIGN(ALIGNMENT, chunk + sizeof(Header));
-  header_of(block)->chunk = chunk;
-  header_of(block)->capacity = capacity;
+  *header_of(block) = (Header){.offset = block - chunk, .capacity = capacity};
   in_use->used += GetMemoryChunkSpace(chunk);
   return block;
 }
@@ -83,7 +85,7 @@ void *mergejoin_malloc(size_t size) {
     in_use->is_over = true;
     return NULL;
   }
-  return block_in(MemoryContextAllocExtended(in_use->context, size + sizeof(Header) + ALIGNMENT,
+  return block_in(MemoryContextAllocExtended(in_use->context, size + sizeof(Header) + PADDING,
                                              MCXT_ALLOC_HUGE | MCXT_ALLOC_NO_OOM),
                   size);
 }
@@ -105,6 +107,6 @@ void *mergejoin_realloc(void *block, size_t size) {
 
 void mergejoin_free(void *block) {
   if (!block) return;
-  in_use->used -= GetMemoryChunkSpace(header_of(block)->chunk);
-  pfree(header_of(block)->chunk);
+  in_use->used -= GetMemoryChunkSpace(chunk_of(block));
+  pfree(chunk_of(block));
 }
