@@ -64,8 +64,11 @@ def keyed(line):
     return key, text
 
 
-def all_keyed(lines):
-    return map(keyed, lines)
+def entries(paths):
+    """Gives the key and the patch of each line of files."""
+    for path in paths:
+        with open(path, encoding="utf-8") as lines:
+            yield from map(keyed, lines)
 
 
 def nothing(items):
@@ -116,7 +119,7 @@ def of_cluster(paths, workers, joins):
         for _ in range(RUNS):
             before = time.process_time() + sum(client.run(time.process_time).values())
             clock = time.perf_counter()
-            kept = join_by_key(dask.bag.read_text(paths).map_partitions(all_keyed)).persist()
+            kept = join_by_key(dask.bag.from_sequence(paths, npartitions=len(paths)).map_partitions(entries)).persist()
             wait(kept)
             clock = time.perf_counter() - clock
             times.append((time.process_time() + sum(client.run(time.process_time).values()) - before, clock))
