@@ -6,21 +6,14 @@ if memory for what the call is given was refused and nothing was seen. For N = 1
 request N is refused, and then each request from N on. A call that takes memory prints one of the three at each N, `answer` at the N that
 is not reached, and `out of memory` at some N. A call that takes none (module without_memory) prints `answer` at the first N at which
 its preparation is whole, with no request refused. Each run ends by itself, and gives back as many blocks as it asked for. The numbers of
-runs, which show how many requests were made, are kept as the most that there may be: a call that asks more often shows.
+runs, which show how many requests were made, are kept: a call that asks more often than it did shows.
 """
-
-import re
 
 import pytest
 from calls import run
 from measuring import CALLS, kept, public_calls, refused_in_turn, watched, WANT
 
 KEPT = kept(CALLS)
-
-
-def numbers(counts):
-    """Gives the numbers of runs of a call."""
-    return [int(number) for number in re.findall("[0-9]+", counts)]
 
 
 def test_each_call_is_listed_and_kept(caller):
@@ -33,7 +26,7 @@ def test_each_call_is_listed_and_kept(caller):
 def test_each_request_is_refused_in_turn(heap, caller, call):
     counts, wrong = watched(heap, call)
     assert wrong == []
-    assert all(found <= most for found, most in zip(numbers(counts), numbers(KEPT[call]), strict=True)), (counts, KEPT[call])
+    assert counts == KEPT[call]
 
 
 @pytest.mark.parametrize("call", [call for call in public_calls() if call.startswith("seeded::")])
