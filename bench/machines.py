@@ -12,7 +12,7 @@ patches, of 30 to 40 bytes each, in so many files; 2,000,000 and 16 without it:
     hot     as spread, but one document has half of the patches
     same    1,000 documents, each with all patches in one file
 
-A figure is the least of three runs. It has the reading of the files, and ends when the joins are there, in the workers or in the
+A figure is the least of five runs. It has the reading of the files, and ends when the joins are there, in the workers or in the
 loop. The time of the processor is that of all workers and of the scheduler, but not of their start. The ideal is that time, shared
 among the workers, but for the joining of the largest document. No two workers can share that, and it begins when all texts are read.
 Memory is the most that was resident in a worker in all of its runs. Each result is compared with that of the loop. Below the table
@@ -33,7 +33,7 @@ import mergejoin
 from mergejoin.dask import join_by_key
 
 LOGS = ("spread", "keys", "hot", "same")
-DOCUMENTS, RUNS, WORKERS = 1_000, 3, (1, 2, 4)
+DOCUMENTS, RUNS, WORKERS = 1_000, 5, (1, 2, 4)
 PATCHES, FILES = 2_000_000, 16
 EMPTY = 100  # partitions and shares without texts
 
