@@ -34,12 +34,12 @@ SHOWN = f"aarch64 {VERSION} {{\"author\":\"Ada\",\"title\":\"Notes\"}} {{'a': 1,
 
 @pytest.fixture(name="made", scope="module")
 def what_is_made_twice(library, needs, tmp_path_factory):
-    """Two directories in which bin/package-arm64 has made its packages."""
+    """Two directories in which bin/package-arm64 has made its packages. It may have to prove the library first."""
     needs(COMPILER, "rt")
     directory = tmp_path_factory.mktemp("arm64")
     for name in ("one", "other"):
         reported = "".join(f"made {directory}/{name}/{file}\n" for file in (TAR, WHEEL, "SHA256SUMS"))
-        status, out, err = calls.run(f"umask 077; {PACKAGE} {name}", shell=True, cwd=directory, limit=LIMIT)
+        status, out, err = calls.run(f"umask 077; {PACKAGE} {name}", shell=True, cwd=directory, limit=10 * LIMIT)
         assert (status, out) == (0, reported), err
     return directory / "one", directory / "other"
 
