@@ -119,6 +119,14 @@ def test_a_large_group_is_joined_in_much_less_time_than_text_by_text(connection)
     assert time.process_time() - begun < 20
 
 
+def test_a_long_place_of_a_conflict_is_shown(connection):
+    place = "/" + 200_000 * "~0" + "/a"
+    texts = [json.dumps({200_000 * "~": {"a": value}}) for value in (1, 2)]
+    for call in "mergejoin_join(?, ?)", "mergejoin_agg(value) FROM (SELECT ? AS value UNION ALL SELECT ?)":
+        name, said = outcome(connection, f"SELECT {call}", texts)
+        assert name == "SQLITE_CONSTRAINT_FUNCTION" and said.endswith(f': ["{place}"]')
+
+
 def test_a_group_is_interrupted_between_its_rows(connection):
     """And whatever is on the way is freed, or so the tests of memory say."""
     calls = 0

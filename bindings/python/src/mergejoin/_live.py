@@ -140,8 +140,9 @@ class Patches:
     Traceback (most recent call last):
     mergejoin.Conflict: conflict: two patches at "/author"
 
-    What a patch costs depends on the patch, and hardly on how many there are. A Patches pickles as one text, and copies: give it to a process or keep
-    it in a file. Two are equal if they pickle as the same text. Any threads may use it: they take it one after the other.
+    What a patch costs depends on the patch, and hardly on how many there are. A Patches pickles as one text, and copies: give it to a
+    process or keep it in a file. Two are equal if they pickle as the same text. Any threads may use it: they take it one after the
+    other.
     """
 
     __slots__ = ("_held",)
