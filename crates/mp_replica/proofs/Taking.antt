@@ -2,7 +2,7 @@
 use Rattle.std.proofs.Common.{◌≡◌, ◌≢◌, ◌↔◌, ◌⊎◌, inl, inr, List, [], ◌∷◌, ◌++◌, Option, None, Some, IfSome, MatchOption, option_map, refl, sym, ap, ◌∙◌, subst}
 use Rattle.std.specs.List.{All, Contains}
 use Rattle.std.proofs.lemmas.List.{append-nil}
-use Rattle.std.proofs.lemmas.List.Elements.{All-append, All-contains, All-contains_itself, All-push, All-weaker, Contains-append_left, Contains-append_right, Contains-push}
+use Rattle.std.proofs.lemmas.List.Elements.{All-append, All-contains, All-contains_itself, All-push, All-weaker, Contains-append_cases, Contains-append_left, Contains-append_right, Contains-push}
 use Rattle.mp_tree.specs.Document.{Document, IsDocument}
 use Rattle.mp_tree.specs.Look.{Path}
 use Rattle.mp_tree.specs.View.{document}
@@ -85,6 +85,26 @@ takes_conflict_over r o s taken others some same no_join none_pending has have =
 
 turned : {p q : Document} {w : Path} → Clash p q w → Clash q p w
 turned clash = record { first = clash.second; second = clash.first; differ = λ same. clash.differ (sym same) }
+
+append_turned : (ds es : List Document) (p : Document) → Contains (ds ++ es) p → Contains (es ++ ds) p
+append_turned ds es p at = elim (Contains-append_cases ds es p at) [
+  | inl first ↦ Contains-append_right es ds p first
+  | inr second ↦ Contains-append_left es ds p second
+]
+
+-- what clashes between some patches and others clashes between these and those
+between_turned : (taken others : List Document) (places : List Path) → AreClashesBetween others taken places → AreClashesBetween taken others places
+between_turned taken others places clashes = record {
+  rising = clashes.rising;
+  all = λ w. (
+    λ at. let found = (clashes.all w).0 at in (found.2.0, found.2.1, (found.0, found.1, turned found.2.2)),
+    λ found. (clashes.all w).1 (found.2.0, found.2.1, (found.0, found.1, turned found.2.2)),
+  );
+}
+
+pub seen_turned : (places : Option (List Path)) (taken others : List Document) → IfSome places (AreClashesBetween others taken) → IfSome places (AreClashesBetween taken others)
+seen_turned None taken others seen = seen
+seen_turned (Some places) taken others seen = between_turned taken others places seen
 
 some_places : (p k : Document) (places : List Path) → (¬ Compatible p k) → AreAllClashes p k places → places ≢ []
 some_places p k [] clash all none = clash (λ w at. Contains-nil w ((all.all w).1 at))
@@ -233,3 +253,14 @@ module _ (laws : MergeLaws) where
             one_join_of laws taken (option_map document r.joined) (option_map document s.joined) (documents r.joined) (documents s.joined) (join_taken r taken none settled one)
             (join_taken s taken (second.1 (first.0 none)) settled_there also),
       )
+
+  -- ---- whichever of the two is joined into the other
+
+  either_order : (taken others : List Document) (r : HeldPatches) → HasTaken r (others ++ taken) → HasTaken r (taken ++ others)
+  either_order taken others r = taken_same (others ++ taken) (taken ++ others) r (λ p. (append_turned others taken p, append_turned taken others p))
+
+  pub takes_all_turned : (what : Added) (taken others : List Document) (r o : HeldPatches) → what ≢ Refused → TakesAll HasTaken what others taken r o → TakesAll HasTaken what taken others r o
+  takes_all_turned Joined taken others r o some took = (either_order taken others r took.0, took.1, took.2, took.3)
+  takes_all_turned Pending taken others r o some took = (either_order taken others r took.0, took.1, took.2, took.3)
+  takes_all_turned Conflict taken others r o some took = (either_order taken others r took.0, took.1, took.2)
+  takes_all_turned Refused taken others r o some took = absurd (some refl)

@@ -26,7 +26,7 @@ pub enum LiveFault {
     /// Two of the patches that were taken conflict.
     #[error("conflict")]
     Conflict,
-    /// A patch was received for which memory ran out: it is not shown, or not joined, yet.
+    /// A patch was received or taken, and memory ran out before it was shown or joined. `settle` tries again.
     #[error("pending")]
     Pending,
     /// The text is not the kept form of patches.
@@ -73,7 +73,7 @@ impl<T: Drop> From<AllocFailed<T>> for LiveFault {
 /// Why a patch log does not begin the new start that was decided.
 #[derive(Debug, Drop, Error)]
 pub enum DecideFault {
-    /// The chosen patch with this identity has not arrived yet: the decision waits for it.
+    /// No patch is stored under this identity, the first such of those that were chosen. Decide again once it has arrived.
     #[error("{0:?} has not arrived")]
     NotReceived(Identity),
     /// Two of the chosen patches conflict: of all such pairs the first, by their identities.

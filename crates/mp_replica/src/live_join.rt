@@ -13,6 +13,11 @@ use std::alloc::{AllocError, Global};
 use std::marker::Model;
 use std::mem;
 
+// How much of two joins is read first to see which one weighs less, in bytes of their weight, and how often four times as much.
+const FIRST_BUDGET: usize = 4096;
+
+const TURNS: usize = 26;
+
 // What a replica and patches without a start have in common.
 #[derive(Drop)]
 pub(crate) struct LiveJoin {
@@ -104,6 +109,25 @@ impl LiveJoin {
             Some(joined) => Ok(Some(conflict(alloc, patch, joined)?)),
             None => Ok(None),
         }
+    }
+
+    // Whether what is joined weighs less than what the other has joined. Both are read as far as the lighter one goes: each
+    // turn reads four times as much as the one before.
+    pub(crate) fn is_lighter(&self, other: &LiveJoin) -> bool {
+        let (Some(joined), Some(others)) = (&self.joined, &other.joined) else {
+            return false;
+        };
+        let mut budget = FIRST_BUDGET;
+        for _ in 0..TURNS {
+            if others.left_of(budget).is_some() {
+                return false;
+            }
+            if joined.left_of(budget).is_some() {
+                return true;
+            }
+            budget = budget.saturating_mul(4);
+        }
+        false
     }
 
     // Receives a patch that fits. It is pending until `settle`.

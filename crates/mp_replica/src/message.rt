@@ -30,8 +30,8 @@ pub enum Arrival {
     Stored,
     /// A patch with its identity is stored already: nothing changes.
     Repeat,
-    /// It is of an earlier start, and is dropped.
+    /// It is of an earlier start: nothing changes. Its patch is in the start already, or was left out.
     Late,
-    /// It is of a later start, and waits for it.
+    /// It is of a later start: nothing changes, and it is not stored. Receive it again once that start has begun.
     Early,
 }

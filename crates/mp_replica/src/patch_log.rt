@@ -70,8 +70,9 @@ impl PatchLog {
 
     /// Receives a message. A patch of this start is stored, once, whether it conflicts with others or not.
     ///
-    /// `Late` and `Early` exactly if the message is of an earlier or of a later start, `Repeat` exactly if a patch with its
-    /// identity is stored already: nothing changes then. `AllocError` if memory ran out: nothing has changed.
+    /// `Late` and `Early` exactly if the message is of an earlier or of a later start; else `Repeat` exactly if a patch with
+    /// its identity is stored already, which may be another patch. Nothing changes then. `AllocError` if memory ran out: nothing
+    /// has changed.
     ///
     /// ```text
     /// let identity = Identity { sender: 1, number: 1 };

@@ -53,7 +53,7 @@ pub enum Added {
     Joined,
     /// They are taken, and two of all that was taken conflict: that is a state, which takes all further patches.
     Conflict,
-    /// They are taken; memory ran out before they are joined. The next call makes that good.
+    /// They are taken; memory ran out before they are joined. `settle`, `add` and `combine` try again.
     Pending,
     /// Memory ran out: nothing more was taken.
     Refused,
@@ -198,8 +198,12 @@ impl Patches {
         self.join.settle(alloc)
     }
 
-    /// Takes all that another has taken, and leaves it without patches. What it holds is moved: its patches are not joined
-    /// again one by one. `Refused`: memory ran out, and neither has changed in what it has taken.
+    /// Takes all that another has taken, and leaves it without patches. `Refused`: memory ran out, and neither has changed in
+    /// what it has taken.
+    ///
+    /// Of the two joins the one that weighs less is added to the other, as `add` does it with one patch: that costs what this
+    /// one costs, times the logarithm of the number of names around each of its values. If one of the two has no patches, the
+    /// other's join is moved.
     ///
     /// `Conflict` exactly if two of what both have taken conflict. If one of the two has a conflict already, that one's places
     /// are kept, this one's first; else those at which a patch of the one conflicts with a patch of the other.
@@ -236,10 +240,33 @@ impl Patches {
         if !other.settle(alloc) {
             return Added::Refused;
         }
-        self.join_all(alloc, other)
+        self.join_either(alloc, other)
     }
 
-    // The same if nothing is pending and nothing conflicts.
+    // The same if nothing is pending and nothing conflicts: what weighs less is joined into the other.
+    fn join_either(&mut self, alloc: Global, other: &mut Patches) -> Added
+        requires places { (self.old.places ≡ None) × (other.old.places ≡ None) }
+        requires settled { (self.old.pending ≡ None) × (other.old.pending ≡ None) }
+        ensures taken { (taken others : List Document) → HasTaken self.old taken
+            → HasTaken other.old others → TakesAll HasTaken result taken others self.new other.new }
+        ensures seen { (taken others : List Document) → HasTaken self.old taken
+            → HasTaken other.old others
+            → IfSome self.new.places (AreClashesBetween taken others) }
+    {
+        merge_laws();
+        if !self.join.is_lighter(&other.join) {
+            return self.join_all(alloc, other);
+        }
+        match other.join_all(alloc, self) {
+            Added::Refused => Added::Refused,
+            added => {
+                mem::swap(self, other);
+                added
+            }
+        }
+    }
+
+    // The same: what the other has joined is joined into what is joined here.
     fn join_all(&mut self, alloc: Global, other: &mut Patches) -> Added
         requires places { (self.old.places ≡ None) × (other.old.places ≡ None) }
         requires settled { (self.old.pending ≡ None) × (other.old.pending ≡ None) }

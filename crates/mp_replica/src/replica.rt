@@ -50,9 +50,9 @@ impl Model for Replica {
 pub enum Received {
     /// It is received, and shown.
     Taken,
-    /// It conflicts with a patch that was received before. Nothing is changed.
+    /// It conflicts with a patch that was received before, and is not received. One that was pending is shown now.
     Conflict,
-    /// It is received; memory ran out before it is shown. The next call makes that good.
+    /// It is received; memory ran out before it is shown. `settle` and `receive` try again.
     Pending,
     /// Memory ran out before a patch that was received earlier is shown. This one is not received.
     Refused,

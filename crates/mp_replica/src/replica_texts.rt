@@ -81,8 +81,8 @@ impl Replica {
 
     /// The text of the join of what was received, which can be sent in place of that.
     ///
-    /// `Pending` exactly while a patch is pending, `NoPatches` exactly if nothing was received; `OutOfMemory` may come at any
-    /// point.
+    /// `Pending` exactly while a patch is pending; else `NoPatches` exactly if nothing was received. `OutOfMemory` may come at
+    /// any point.
     pub fn joined_text(&self, alloc: Global) -> Result<String, LiveFault>
         ensures joined { MatchResult result
             (λ text. (self.now.pending ≡ None) × MatchOption self.now.joined ⊥

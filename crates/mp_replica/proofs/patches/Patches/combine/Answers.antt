@@ -29,8 +29,8 @@ returns-then-is_some-2-clause-texts c texts others has have =
 
 pub returns-clause-texts : goal.returns-clause-texts
 returns-clause-texts c texts others has have =
-    takes_all_texts c.join_all.result texts others c.args.self.now c.args.other.now c.join_all.new.self c.join_all.new.other has have
-    (c.join_all.ensures.taken has.documents have.documents (c.settle.ensures.taken has.documents has.taken) (c.settle-2.ensures.taken have.documents have.taken))
+    takes_all_texts c.join_either.result texts others c.args.self.now c.args.other.now c.join_either.new.self c.join_either.new.other has have
+    (c.join_either.ensures.taken has.documents have.documents (c.settle.ensures.taken has.documents has.taken) (c.settle-2.ensures.taken have.documents have.taken))
 
 pub returns-clause-seen : goal.returns-clause-seen
-returns-clause-seen c free free_there taken others has have = c.join_all.ensures.seen taken others (c.settle.ensures.taken taken has) (c.settle-2.ensures.taken others have)
+returns-clause-seen c free free_there taken others has have = c.join_either.ensures.seen taken others (c.settle.ensures.taken taken has) (c.settle-2.ensures.taken others have)
