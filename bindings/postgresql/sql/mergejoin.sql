@@ -3,237 +3,237 @@
 
 -- Over json. A text costs some microseconds to read, which COST tells the planner.
 
-CREATE OR REPLACE FUNCTION mergejoin_join(VARIADIC patches json[]) RETURNS json
+CREATE FUNCTION mergejoin_join(VARIADIC patches pg_catalog.json[]) RETURNS pg_catalog.json
   LANGUAGE C IMMUTABLE STRICT PARALLEL SAFE COST 100 AS 'MODULE_PATHNAME', 'mergejoin_sql_join';
 
-CREATE OR REPLACE FUNCTION mergejoin_replay(start json, VARIADIC patches json[]) RETURNS json
+CREATE FUNCTION mergejoin_replay(start pg_catalog.json, VARIADIC patches pg_catalog.json[]) RETURNS pg_catalog.json
   LANGUAGE C IMMUTABLE STRICT PARALLEL SAFE COST 100 AS 'MODULE_PATHNAME', 'mergejoin_sql_replay';
 
-CREATE OR REPLACE FUNCTION mergejoin_merge(document json, VARIADIC patches json[]) RETURNS json
+CREATE FUNCTION mergejoin_merge(document pg_catalog.json, VARIADIC patches pg_catalog.json[]) RETURNS pg_catalog.json
   LANGUAGE C IMMUTABLE STRICT PARALLEL SAFE COST 100 AS 'MODULE_PATHNAME', 'mergejoin_sql_merge';
 
-CREATE OR REPLACE FUNCTION mergejoin_rewrite(document json, patch json) RETURNS json
+CREATE FUNCTION mergejoin_rewrite(document pg_catalog.json, patch pg_catalog.json) RETURNS pg_catalog.json
   LANGUAGE C IMMUTABLE STRICT PARALLEL SAFE COST 100 AS 'MODULE_PATHNAME', 'mergejoin_sql_rewrite';
 
-CREATE OR REPLACE FUNCTION mergejoin_patch(document json, operations json) RETURNS json
+CREATE FUNCTION mergejoin_patch(document pg_catalog.json, operations pg_catalog.json) RETURNS pg_catalog.json
   LANGUAGE C IMMUTABLE STRICT PARALLEL SAFE COST 100 AS 'MODULE_PATHNAME', 'mergejoin_sql_patch';
 
-CREATE OR REPLACE FUNCTION mergejoin_get(document json, pointer text) RETURNS json
+CREATE FUNCTION mergejoin_get(document pg_catalog.json, pointer pg_catalog.text) RETURNS pg_catalog.json
   LANGUAGE C IMMUTABLE STRICT PARALLEL SAFE COST 100 AS 'MODULE_PATHNAME', 'mergejoin_sql_get';
 
-CREATE OR REPLACE FUNCTION mergejoin_conflicts(first json, second json) RETURNS json
+CREATE FUNCTION mergejoin_conflicts(first pg_catalog.json, second pg_catalog.json) RETURNS pg_catalog.json
   LANGUAGE C IMMUTABLE STRICT PARALLEL SAFE COST 100 AS 'MODULE_PATHNAME', 'mergejoin_sql_conflicts';
 
-CREATE OR REPLACE FUNCTION mergejoin_is_patch(patch json) RETURNS boolean
+CREATE FUNCTION mergejoin_is_patch(patch pg_catalog.json) RETURNS pg_catalog.bool
   LANGUAGE C IMMUTABLE STRICT PARALLEL SAFE COST 100 AS 'MODULE_PATHNAME', 'mergejoin_sql_is_patch';
 
 -- Over texts that are not known to be JSON. A call whose arguments are literals without a type is one of these.
 
-CREATE OR REPLACE FUNCTION mergejoin_join(VARIADIC patches text[]) RETURNS json
+CREATE FUNCTION mergejoin_join(VARIADIC patches pg_catalog.text[]) RETURNS pg_catalog.json
   LANGUAGE C IMMUTABLE STRICT PARALLEL SAFE COST 100 AS 'MODULE_PATHNAME', 'mergejoin_sql_join';
 
-CREATE OR REPLACE FUNCTION mergejoin_replay(start text, VARIADIC patches text[]) RETURNS json
+CREATE FUNCTION mergejoin_replay(start pg_catalog.text, VARIADIC patches pg_catalog.text[]) RETURNS pg_catalog.json
   LANGUAGE C IMMUTABLE STRICT PARALLEL SAFE COST 100 AS 'MODULE_PATHNAME', 'mergejoin_sql_replay';
 
-CREATE OR REPLACE FUNCTION mergejoin_merge(document text, VARIADIC patches text[]) RETURNS json
+CREATE FUNCTION mergejoin_merge(document pg_catalog.text, VARIADIC patches pg_catalog.text[]) RETURNS pg_catalog.json
   LANGUAGE C IMMUTABLE STRICT PARALLEL SAFE COST 100 AS 'MODULE_PATHNAME', 'mergejoin_sql_merge';
 
-CREATE OR REPLACE FUNCTION mergejoin_rewrite(document text, patch text) RETURNS json
+CREATE FUNCTION mergejoin_rewrite(document pg_catalog.text, patch pg_catalog.text) RETURNS pg_catalog.json
   LANGUAGE C IMMUTABLE STRICT PARALLEL SAFE COST 100 AS 'MODULE_PATHNAME', 'mergejoin_sql_rewrite';
 
-CREATE OR REPLACE FUNCTION mergejoin_patch(document text, operations text) RETURNS json
+CREATE FUNCTION mergejoin_patch(document pg_catalog.text, operations pg_catalog.text) RETURNS pg_catalog.json
   LANGUAGE C IMMUTABLE STRICT PARALLEL SAFE COST 100 AS 'MODULE_PATHNAME', 'mergejoin_sql_patch';
 
-CREATE OR REPLACE FUNCTION mergejoin_get(document text, pointer text) RETURNS json
+CREATE FUNCTION mergejoin_get(document pg_catalog.text, pointer pg_catalog.text) RETURNS pg_catalog.json
   LANGUAGE C IMMUTABLE STRICT PARALLEL SAFE COST 100 AS 'MODULE_PATHNAME', 'mergejoin_sql_get';
 
-CREATE OR REPLACE FUNCTION mergejoin_conflicts(first text, second text) RETURNS json
+CREATE FUNCTION mergejoin_conflicts(first pg_catalog.text, second pg_catalog.text) RETURNS pg_catalog.json
   LANGUAGE C IMMUTABLE STRICT PARALLEL SAFE COST 100 AS 'MODULE_PATHNAME', 'mergejoin_sql_conflicts';
 
-CREATE OR REPLACE FUNCTION mergejoin_is_patch(patch text) RETURNS boolean
+CREATE FUNCTION mergejoin_is_patch(patch pg_catalog.text) RETURNS pg_catalog.bool
   LANGUAGE C IMMUTABLE STRICT PARALLEL SAFE COST 100 AS 'MODULE_PATHNAME', 'mergejoin_sql_is_patch';
 
 -- Over jsonb: of the text that a jsonb is written as. The functions see from their types what they are given.
 
-CREATE OR REPLACE FUNCTION mergejoin_join(VARIADIC patches jsonb[]) RETURNS jsonb
+CREATE FUNCTION mergejoin_join(VARIADIC patches pg_catalog.jsonb[]) RETURNS pg_catalog.jsonb
   LANGUAGE C IMMUTABLE STRICT PARALLEL SAFE COST 100 AS 'MODULE_PATHNAME', 'mergejoin_sql_join';
 
-CREATE OR REPLACE FUNCTION mergejoin_replay(start jsonb, VARIADIC patches jsonb[]) RETURNS jsonb
+CREATE FUNCTION mergejoin_replay(start pg_catalog.jsonb, VARIADIC patches pg_catalog.jsonb[]) RETURNS pg_catalog.jsonb
   LANGUAGE C IMMUTABLE STRICT PARALLEL SAFE COST 100 AS 'MODULE_PATHNAME', 'mergejoin_sql_replay';
 
-CREATE OR REPLACE FUNCTION mergejoin_merge(document jsonb, VARIADIC patches jsonb[]) RETURNS jsonb
+CREATE FUNCTION mergejoin_merge(document pg_catalog.jsonb, VARIADIC patches pg_catalog.jsonb[]) RETURNS pg_catalog.jsonb
   LANGUAGE C IMMUTABLE STRICT PARALLEL SAFE COST 100 AS 'MODULE_PATHNAME', 'mergejoin_sql_merge';
 
-CREATE OR REPLACE FUNCTION mergejoin_rewrite(document jsonb, patch jsonb) RETURNS jsonb
+CREATE FUNCTION mergejoin_rewrite(document pg_catalog.jsonb, patch pg_catalog.jsonb) RETURNS pg_catalog.jsonb
   LANGUAGE C IMMUTABLE STRICT PARALLEL SAFE COST 100 AS 'MODULE_PATHNAME', 'mergejoin_sql_rewrite';
 
-CREATE OR REPLACE FUNCTION mergejoin_patch(document jsonb, operations jsonb) RETURNS jsonb
+CREATE FUNCTION mergejoin_patch(document pg_catalog.jsonb, operations pg_catalog.jsonb) RETURNS pg_catalog.jsonb
   LANGUAGE C IMMUTABLE STRICT PARALLEL SAFE COST 100 AS 'MODULE_PATHNAME', 'mergejoin_sql_patch';
 
-CREATE OR REPLACE FUNCTION mergejoin_get(document jsonb, pointer text) RETURNS jsonb
+CREATE FUNCTION mergejoin_get(document pg_catalog.jsonb, pointer pg_catalog.text) RETURNS pg_catalog.jsonb
   LANGUAGE C IMMUTABLE STRICT PARALLEL SAFE COST 100 AS 'MODULE_PATHNAME', 'mergejoin_sql_get';
 
-CREATE OR REPLACE FUNCTION mergejoin_conflicts(first jsonb, second jsonb) RETURNS jsonb
+CREATE FUNCTION mergejoin_conflicts(first pg_catalog.jsonb, second pg_catalog.jsonb) RETURNS pg_catalog.jsonb
   LANGUAGE C IMMUTABLE STRICT PARALLEL SAFE COST 100 AS 'MODULE_PATHNAME', 'mergejoin_sql_conflicts';
 
-CREATE OR REPLACE FUNCTION mergejoin_is_patch(patch jsonb) RETURNS boolean
+CREATE FUNCTION mergejoin_is_patch(patch pg_catalog.jsonb) RETURNS pg_catalog.bool
   LANGUAGE C IMMUTABLE STRICT PARALLEL SAFE COST 100 AS 'MODULE_PATHNAME', 'mergejoin_sql_is_patch';
 
 -- What the aggregates are made of. A function with a state of type internal takes NULL if there is no state yet.
 
-CREATE OR REPLACE FUNCTION mergejoin_agg_take(internal, json) RETURNS internal
+CREATE FUNCTION mergejoin_agg_take(pg_catalog.internal, pg_catalog.json) RETURNS pg_catalog.internal
   LANGUAGE C IMMUTABLE PARALLEL SAFE COST 100 AS 'MODULE_PATHNAME', 'mergejoin_take';
 
-CREATE OR REPLACE FUNCTION mergejoin_agg_take(internal, jsonb) RETURNS internal
+CREATE FUNCTION mergejoin_agg_take(pg_catalog.internal, pg_catalog.jsonb) RETURNS pg_catalog.internal
   LANGUAGE C IMMUTABLE PARALLEL SAFE COST 100 AS 'MODULE_PATHNAME', 'mergejoin_take';
 
-CREATE OR REPLACE FUNCTION mergejoin_agg_combine(internal, internal) RETURNS internal
+CREATE FUNCTION mergejoin_agg_combine(pg_catalog.internal, pg_catalog.internal) RETURNS pg_catalog.internal
   LANGUAGE C IMMUTABLE PARALLEL SAFE COST 100 AS 'MODULE_PATHNAME', 'mergejoin_combine';
 
-CREATE OR REPLACE FUNCTION mergejoin_agg_serialize(internal) RETURNS bytea
+CREATE FUNCTION mergejoin_agg_serialize(pg_catalog.internal) RETURNS pg_catalog.bytea
   LANGUAGE C IMMUTABLE STRICT PARALLEL SAFE COST 100 AS 'MODULE_PATHNAME', 'mergejoin_serialize';
 
-CREATE OR REPLACE FUNCTION mergejoin_agg_deserialize(bytea, internal) RETURNS internal
+CREATE FUNCTION mergejoin_agg_deserialize(pg_catalog.bytea, pg_catalog.internal) RETURNS pg_catalog.internal
   LANGUAGE C IMMUTABLE STRICT PARALLEL SAFE COST 100 AS 'MODULE_PATHNAME', 'mergejoin_deserialize';
 
-CREATE OR REPLACE FUNCTION mergejoin_agg_final_json(internal) RETURNS json
+CREATE FUNCTION mergejoin_agg_final_json(pg_catalog.internal) RETURNS pg_catalog.json
   LANGUAGE C IMMUTABLE STRICT PARALLEL SAFE COST 100 AS 'MODULE_PATHNAME', 'mergejoin_joined';
 
-CREATE OR REPLACE FUNCTION mergejoin_agg_final_jsonb(internal) RETURNS jsonb
+CREATE FUNCTION mergejoin_agg_final_jsonb(pg_catalog.internal) RETURNS pg_catalog.jsonb
   LANGUAGE C IMMUTABLE STRICT PARALLEL SAFE COST 100 AS 'MODULE_PATHNAME', 'mergejoin_joined';
 
-CREATE OR REPLACE FUNCTION mergejoin_try_agg_final_json(internal) RETURNS json
+CREATE FUNCTION mergejoin_try_agg_final_json(pg_catalog.internal) RETURNS pg_catalog.json
   LANGUAGE C IMMUTABLE STRICT PARALLEL SAFE COST 100 AS 'MODULE_PATHNAME', 'mergejoin_joined_or_null';
 
-CREATE OR REPLACE FUNCTION mergejoin_try_agg_final_jsonb(internal) RETURNS jsonb
+CREATE FUNCTION mergejoin_try_agg_final_jsonb(pg_catalog.internal) RETURNS pg_catalog.jsonb
   LANGUAGE C IMMUTABLE STRICT PARALLEL SAFE COST 100 AS 'MODULE_PATHNAME', 'mergejoin_joined_or_null';
 
-CREATE OR REPLACE FUNCTION mergejoin_conflict_agg_final(json[]) RETURNS json
+CREATE FUNCTION mergejoin_conflict_agg_final(pg_catalog.json[]) RETURNS pg_catalog.json
   LANGUAGE C IMMUTABLE STRICT PARALLEL SAFE COST 100 AS 'MODULE_PATHNAME', 'mergejoin_first_conflict';
 
-CREATE OR REPLACE FUNCTION mergejoin_report_agg_final(json[]) RETURNS json
+CREATE FUNCTION mergejoin_report_agg_final(pg_catalog.json[]) RETURNS pg_catalog.json
   LANGUAGE C IMMUTABLE STRICT PARALLEL SAFE COST 100 AS 'MODULE_PATHNAME', 'mergejoin_report';
 
-CREATE OR REPLACE FUNCTION mergejoin_conflict_agg_final(jsonb[]) RETURNS jsonb
+CREATE FUNCTION mergejoin_conflict_agg_final(pg_catalog.jsonb[]) RETURNS pg_catalog.jsonb
   LANGUAGE C IMMUTABLE STRICT PARALLEL SAFE COST 100 AS 'MODULE_PATHNAME', 'mergejoin_first_conflict';
 
-CREATE OR REPLACE FUNCTION mergejoin_report_agg_final(jsonb[]) RETURNS jsonb
+CREATE FUNCTION mergejoin_report_agg_final(pg_catalog.jsonb[]) RETURNS pg_catalog.jsonb
   LANGUAGE C IMMUTABLE STRICT PARALLEL SAFE COST 100 AS 'MODULE_PATHNAME', 'mergejoin_report';
 
 -- The join of a group. A state has its join as a document in memory: SSPACE, that of a dozen small patches, tells the planner when to sort.
 
-CREATE OR REPLACE AGGREGATE mergejoin_agg(json) (
-  STYPE = internal, SSPACE = 16384, SFUNC = mergejoin_agg_take, FINALFUNC = mergejoin_agg_final_json,
+CREATE AGGREGATE mergejoin_agg(pg_catalog.json) (
+  STYPE = pg_catalog.internal, SSPACE = 16384, SFUNC = mergejoin_agg_take, FINALFUNC = mergejoin_agg_final_json,
   COMBINEFUNC = mergejoin_agg_combine, SERIALFUNC = mergejoin_agg_serialize,
   DESERIALFUNC = mergejoin_agg_deserialize, PARALLEL = SAFE);
 
-CREATE OR REPLACE AGGREGATE mergejoin_agg(jsonb) (
-  STYPE = internal, SSPACE = 16384, SFUNC = mergejoin_agg_take, FINALFUNC = mergejoin_agg_final_jsonb,
+CREATE AGGREGATE mergejoin_agg(pg_catalog.jsonb) (
+  STYPE = pg_catalog.internal, SSPACE = 16384, SFUNC = mergejoin_agg_take, FINALFUNC = mergejoin_agg_final_jsonb,
   COMBINEFUNC = mergejoin_agg_combine, SERIALFUNC = mergejoin_agg_serialize,
   DESERIALFUNC = mergejoin_agg_deserialize, PARALLEL = SAFE);
 
 -- The same, but NULL if two conflict.
 
-CREATE OR REPLACE AGGREGATE mergejoin_try_agg(json) (
-  STYPE = internal, SSPACE = 16384, SFUNC = mergejoin_agg_take, FINALFUNC = mergejoin_try_agg_final_json,
+CREATE AGGREGATE mergejoin_try_agg(pg_catalog.json) (
+  STYPE = pg_catalog.internal, SSPACE = 16384, SFUNC = mergejoin_agg_take, FINALFUNC = mergejoin_try_agg_final_json,
   COMBINEFUNC = mergejoin_agg_combine, SERIALFUNC = mergejoin_agg_serialize,
   DESERIALFUNC = mergejoin_agg_deserialize, PARALLEL = SAFE);
 
-CREATE OR REPLACE AGGREGATE mergejoin_try_agg(jsonb) (
-  STYPE = internal, SSPACE = 16384, SFUNC = mergejoin_agg_take, FINALFUNC = mergejoin_try_agg_final_jsonb,
+CREATE AGGREGATE mergejoin_try_agg(pg_catalog.jsonb) (
+  STYPE = pg_catalog.internal, SSPACE = 16384, SFUNC = mergejoin_agg_take, FINALFUNC = mergejoin_try_agg_final_jsonb,
   COMBINEFUNC = mergejoin_agg_combine, SERIALFUNC = mergejoin_agg_serialize,
   DESERIALFUNC = mergejoin_agg_deserialize, PARALLEL = SAFE);
 
 -- The first two patches of a group that conflict, and what a group is, in the order of the call. They keep all patches.
 
-CREATE OR REPLACE AGGREGATE mergejoin_conflict_agg(json) (
-  STYPE = json[], SSPACE = 8192, SFUNC = array_append, FINALFUNC = mergejoin_conflict_agg_final, PARALLEL = SAFE);
+CREATE AGGREGATE mergejoin_conflict_agg(pg_catalog.json) (
+  STYPE = pg_catalog.json[], SSPACE = 8192, SFUNC = pg_catalog.array_append, FINALFUNC = mergejoin_conflict_agg_final, PARALLEL = SAFE);
 
-CREATE OR REPLACE AGGREGATE mergejoin_conflict_agg(jsonb) (
-  STYPE = jsonb[], SSPACE = 8192, SFUNC = array_append, FINALFUNC = mergejoin_conflict_agg_final, PARALLEL = SAFE);
+CREATE AGGREGATE mergejoin_conflict_agg(pg_catalog.jsonb) (
+  STYPE = pg_catalog.jsonb[], SSPACE = 8192, SFUNC = pg_catalog.array_append, FINALFUNC = mergejoin_conflict_agg_final, PARALLEL = SAFE);
 
-CREATE OR REPLACE AGGREGATE mergejoin_report_agg(json) (
-  STYPE = json[], SSPACE = 8192, SFUNC = array_append, FINALFUNC = mergejoin_report_agg_final, PARALLEL = SAFE);
+CREATE AGGREGATE mergejoin_report_agg(pg_catalog.json) (
+  STYPE = pg_catalog.json[], SSPACE = 8192, SFUNC = pg_catalog.array_append, FINALFUNC = mergejoin_report_agg_final, PARALLEL = SAFE);
 
-CREATE OR REPLACE AGGREGATE mergejoin_report_agg(jsonb) (
-  STYPE = jsonb[], SSPACE = 8192, SFUNC = array_append, FINALFUNC = mergejoin_report_agg_final, PARALLEL = SAFE);
+CREATE AGGREGATE mergejoin_report_agg(pg_catalog.jsonb) (
+  STYPE = pg_catalog.jsonb[], SSPACE = 8192, SFUNC = pg_catalog.array_append, FINALFUNC = mergejoin_report_agg_final, PARALLEL = SAFE);
 
 -- What each is for.
 
-COMMENT ON FUNCTION mergejoin_join(VARIADIC json[]) IS
+COMMENT ON FUNCTION mergejoin_join(VARIADIC pg_catalog.json[]) IS
   'one merge patch with the effect of all, in any order and with any repeats';
-COMMENT ON FUNCTION mergejoin_join(VARIADIC text[]) IS
+COMMENT ON FUNCTION mergejoin_join(VARIADIC pg_catalog.text[]) IS
   'one merge patch with the effect of all, in any order and with any repeats';
-COMMENT ON FUNCTION mergejoin_join(VARIADIC jsonb[]) IS
+COMMENT ON FUNCTION mergejoin_join(VARIADIC pg_catalog.jsonb[]) IS
   'one merge patch with the effect of all, in any order and with any repeats';
-COMMENT ON FUNCTION mergejoin_replay(json, VARIADIC json[]) IS
+COMMENT ON FUNCTION mergejoin_replay(pg_catalog.json, VARIADIC pg_catalog.json[]) IS
   'the document that merge patches, no two of which conflict, make of the start, in any order and with any repeats';
-COMMENT ON FUNCTION mergejoin_replay(text, VARIADIC text[]) IS
+COMMENT ON FUNCTION mergejoin_replay(pg_catalog.text, VARIADIC pg_catalog.text[]) IS
   'the document that merge patches, no two of which conflict, make of the start, in any order and with any repeats';
-COMMENT ON FUNCTION mergejoin_replay(jsonb, VARIADIC jsonb[]) IS
+COMMENT ON FUNCTION mergejoin_replay(pg_catalog.jsonb, VARIADIC pg_catalog.jsonb[]) IS
   'the document that merge patches, no two of which conflict, make of the start, in any order and with any repeats';
-COMMENT ON FUNCTION mergejoin_merge(json, VARIADIC json[]) IS
+COMMENT ON FUNCTION mergejoin_merge(pg_catalog.json, VARIADIC pg_catalog.json[]) IS
   'the document after merge patches in turn (RFC 7396): if two conflict, their order decides';
-COMMENT ON FUNCTION mergejoin_merge(text, VARIADIC text[]) IS
+COMMENT ON FUNCTION mergejoin_merge(pg_catalog.text, VARIADIC pg_catalog.text[]) IS
   'the document after merge patches in turn (RFC 7396): if two conflict, their order decides';
-COMMENT ON FUNCTION mergejoin_merge(jsonb, VARIADIC jsonb[]) IS
+COMMENT ON FUNCTION mergejoin_merge(pg_catalog.jsonb, VARIADIC pg_catalog.jsonb[]) IS
   'the document after merge patches in turn (RFC 7396): if two conflict, their order decides';
-COMMENT ON FUNCTION mergejoin_rewrite(json, json) IS
+COMMENT ON FUNCTION mergejoin_rewrite(pg_catalog.json, pg_catalog.json) IS
   'a merge patch as a JSON Patch for the document';
-COMMENT ON FUNCTION mergejoin_rewrite(text, text) IS
+COMMENT ON FUNCTION mergejoin_rewrite(pg_catalog.text, pg_catalog.text) IS
   'a merge patch as a JSON Patch for the document';
-COMMENT ON FUNCTION mergejoin_rewrite(jsonb, jsonb) IS
+COMMENT ON FUNCTION mergejoin_rewrite(pg_catalog.jsonb, pg_catalog.jsonb) IS
   'a merge patch as a JSON Patch for the document';
-COMMENT ON FUNCTION mergejoin_patch(json, json) IS
+COMMENT ON FUNCTION mergejoin_patch(pg_catalog.json, pg_catalog.json) IS
   'the document after a JSON Patch (RFC 6902)';
-COMMENT ON FUNCTION mergejoin_patch(text, text) IS
+COMMENT ON FUNCTION mergejoin_patch(pg_catalog.text, pg_catalog.text) IS
   'the document after a JSON Patch (RFC 6902)';
-COMMENT ON FUNCTION mergejoin_patch(jsonb, jsonb) IS
+COMMENT ON FUNCTION mergejoin_patch(pg_catalog.jsonb, pg_catalog.jsonb) IS
   'the document after a JSON Patch (RFC 6902)';
-COMMENT ON FUNCTION mergejoin_get(json, text) IS
+COMMENT ON FUNCTION mergejoin_get(pg_catalog.json, pg_catalog.text) IS
   'the part of the document that a JSON Pointer names (RFC 6901), or NULL if it is absent';
-COMMENT ON FUNCTION mergejoin_get(text, text) IS
+COMMENT ON FUNCTION mergejoin_get(pg_catalog.text, pg_catalog.text) IS
   'the part of the document that a JSON Pointer names (RFC 6901), or NULL if it is absent';
-COMMENT ON FUNCTION mergejoin_get(jsonb, text) IS
+COMMENT ON FUNCTION mergejoin_get(pg_catalog.jsonb, pg_catalog.text) IS
   'the part of the document that a JSON Pointer names (RFC 6901), or NULL if it is absent';
-COMMENT ON FUNCTION mergejoin_conflicts(json, json) IS
+COMMENT ON FUNCTION mergejoin_conflicts(pg_catalog.json, pg_catalog.json) IS
   'the places at which two merge patches conflict, as an array of JSON Pointers, empty if they do not';
-COMMENT ON FUNCTION mergejoin_conflicts(text, text) IS
+COMMENT ON FUNCTION mergejoin_conflicts(pg_catalog.text, pg_catalog.text) IS
   'the places at which two merge patches conflict, as an array of JSON Pointers, empty if they do not';
-COMMENT ON FUNCTION mergejoin_conflicts(jsonb, jsonb) IS
+COMMENT ON FUNCTION mergejoin_conflicts(pg_catalog.jsonb, pg_catalog.jsonb) IS
   'the places at which two merge patches conflict, as an array of JSON Pointers, empty if they do not';
-COMMENT ON FUNCTION mergejoin_is_patch(json) IS
+COMMENT ON FUNCTION mergejoin_is_patch(pg_catalog.json) IS
   'whether a value is a merge patch for this extension: its numbers are whole, and it is not too deep';
-COMMENT ON FUNCTION mergejoin_is_patch(text) IS
+COMMENT ON FUNCTION mergejoin_is_patch(pg_catalog.text) IS
   'whether a value is a merge patch for this extension: its numbers are whole, and it is not too deep';
-COMMENT ON FUNCTION mergejoin_is_patch(jsonb) IS
+COMMENT ON FUNCTION mergejoin_is_patch(pg_catalog.jsonb) IS
   'whether a value is a merge patch for this extension: its numbers are whole, and it is not too deep';
-COMMENT ON AGGREGATE mergejoin_agg(json) IS
+COMMENT ON AGGREGATE mergejoin_agg(pg_catalog.json) IS
   'the join of the patches of a group; an error if two conflict';
-COMMENT ON AGGREGATE mergejoin_agg(jsonb) IS
+COMMENT ON AGGREGATE mergejoin_agg(pg_catalog.jsonb) IS
   'the join of the patches of a group; an error if two conflict';
-COMMENT ON AGGREGATE mergejoin_try_agg(json) IS
+COMMENT ON AGGREGATE mergejoin_try_agg(pg_catalog.json) IS
   'the join of the patches of a group, or NULL if two conflict';
-COMMENT ON AGGREGATE mergejoin_try_agg(jsonb) IS
+COMMENT ON AGGREGATE mergejoin_try_agg(pg_catalog.jsonb) IS
   'the join of the patches of a group, or NULL if two conflict';
-COMMENT ON AGGREGATE mergejoin_conflict_agg(json) IS
+COMMENT ON AGGREGATE mergejoin_conflict_agg(pg_catalog.json) IS
   'the first two patches of a group that conflict, in the order of the call, and where; or NULL';
-COMMENT ON AGGREGATE mergejoin_conflict_agg(jsonb) IS
+COMMENT ON AGGREGATE mergejoin_conflict_agg(pg_catalog.jsonb) IS
   'the first two patches of a group that conflict, in the order of the call, and where; or NULL';
-COMMENT ON AGGREGATE mergejoin_report_agg(json) IS
+COMMENT ON AGGREGATE mergejoin_report_agg(pg_catalog.json) IS
   'the join of a group, its first conflict, or the first of its rows that is not a patch';
-COMMENT ON AGGREGATE mergejoin_report_agg(jsonb) IS
+COMMENT ON AGGREGATE mergejoin_report_agg(pg_catalog.jsonb) IS
   'the join of a group, its first conflict, or the first of its rows that is not a patch';
-COMMENT ON FUNCTION mergejoin_agg_take(internal, json) IS 'a part of the aggregates of mergejoin';
-COMMENT ON FUNCTION mergejoin_agg_take(internal, jsonb) IS 'a part of the aggregates of mergejoin';
-COMMENT ON FUNCTION mergejoin_agg_combine(internal, internal) IS 'a part of the aggregates of mergejoin';
-COMMENT ON FUNCTION mergejoin_agg_serialize(internal) IS 'a part of the aggregates of mergejoin';
-COMMENT ON FUNCTION mergejoin_agg_deserialize(bytea, internal) IS 'a part of the aggregates of mergejoin';
-COMMENT ON FUNCTION mergejoin_agg_final_json(internal) IS 'a part of the aggregates of mergejoin';
-COMMENT ON FUNCTION mergejoin_agg_final_jsonb(internal) IS 'a part of the aggregates of mergejoin';
-COMMENT ON FUNCTION mergejoin_try_agg_final_json(internal) IS 'a part of the aggregates of mergejoin';
-COMMENT ON FUNCTION mergejoin_try_agg_final_jsonb(internal) IS 'a part of the aggregates of mergejoin';
-COMMENT ON FUNCTION mergejoin_conflict_agg_final(json[]) IS 'a part of the aggregates of mergejoin';
-COMMENT ON FUNCTION mergejoin_report_agg_final(json[]) IS 'a part of the aggregates of mergejoin';
-COMMENT ON FUNCTION mergejoin_conflict_agg_final(jsonb[]) IS 'a part of the aggregates of mergejoin';
-COMMENT ON FUNCTION mergejoin_report_agg_final(jsonb[]) IS 'a part of the aggregates of mergejoin';
+COMMENT ON FUNCTION mergejoin_agg_take(pg_catalog.internal, pg_catalog.json) IS 'a part of the aggregates of mergejoin';
+COMMENT ON FUNCTION mergejoin_agg_take(pg_catalog.internal, pg_catalog.jsonb) IS 'a part of the aggregates of mergejoin';
+COMMENT ON FUNCTION mergejoin_agg_combine(pg_catalog.internal, pg_catalog.internal) IS 'a part of the aggregates of mergejoin';
+COMMENT ON FUNCTION mergejoin_agg_serialize(pg_catalog.internal) IS 'a part of the aggregates of mergejoin';
+COMMENT ON FUNCTION mergejoin_agg_deserialize(pg_catalog.bytea, pg_catalog.internal) IS 'a part of the aggregates of mergejoin';
+COMMENT ON FUNCTION mergejoin_agg_final_json(pg_catalog.internal) IS 'a part of the aggregates of mergejoin';
+COMMENT ON FUNCTION mergejoin_agg_final_jsonb(pg_catalog.internal) IS 'a part of the aggregates of mergejoin';
+COMMENT ON FUNCTION mergejoin_try_agg_final_json(pg_catalog.internal) IS 'a part of the aggregates of mergejoin';
+COMMENT ON FUNCTION mergejoin_try_agg_final_jsonb(pg_catalog.internal) IS 'a part of the aggregates of mergejoin';
+COMMENT ON FUNCTION mergejoin_conflict_agg_final(pg_catalog.json[]) IS 'a part of the aggregates of mergejoin';
+COMMENT ON FUNCTION mergejoin_report_agg_final(pg_catalog.json[]) IS 'a part of the aggregates of mergejoin';
+COMMENT ON FUNCTION mergejoin_conflict_agg_final(pg_catalog.jsonb[]) IS 'a part of the aggregates of mergejoin';
+COMMENT ON FUNCTION mergejoin_report_agg_final(pg_catalog.jsonb[]) IS 'a part of the aggregates of mergejoin';

@@ -49,19 +49,28 @@ static void keep_conflict(Group *group) {
     refuse_for_memory(&group->memory);
 }
 
-/* Takes a text. Of the places of a conflict one is left, and there may be no memory for all of them. */
-static void take(Group *group, mergejoin_text text) {
+/* Returns whether a text conflicts with what was taken, which is asked within the group's memory. */
+static bool conflicts(Group *group, mergejoin_text text) {
+  return conflict(text_of(group, mergejoin_patches_text), text, &group->memory);
+}
+
+/*
+ * Takes a text, for which so many bytes of the group's memory were made. Of the places of a conflict one is left, and there may be no
+ * memory for all of them.
+ */
+static void take(Group *group, mergejoin_text text, Size made) {
   mergejoin_reply reply;
 
   group->memory.is_over = false;
   prepare_call(&group->memory);
   reply = mergejoin_patches_add(&group->patches, text.bytes, text.length, NULL, 0, 0);
-  if (reply.status == MERGEJOIN_PATCH) refuse_patch(text);
+  if (reply.status == MERGEJOIN_PATCH) refuse_patch(text, &group->memory);
   if (reply.status == MERGEJOIN_PENDING ||
-      (reply.status == MERGEJOIN_NO_MEMORY && !(group->memory.is_over && conflict(text_of(group, mergejoin_patches_text), text))))
+      (reply.status == MERGEJOIN_NO_MEMORY && !(group->memory.is_over && conflicts(group, text))))
     refuse_for_memory(&group->memory);
   if (reply.status == MERGEJOIN_NO_MEMORY || reply.total > 1) keep_conflict(group);
   group->length += text.length;
+  group->memory.used -= made;
 }
 
 /* Returns the state that an argument is, or NULL. If it is made, it is without a text, and of the aggregate's memory context. */
@@ -80,7 +89,12 @@ static Group *group_of(FunctionCallInfo fcinfo, int number, bool is_made) {
 Datum mergejoin_take(PG_FUNCTION_ARGS) {
   Group *group = group_of(fcinfo, 0, !PG_ARGISNULL(1));
 
-  if (!PG_ARGISNULL(1)) take(group, text_of_argument(fcinfo, 1));
+  if (!PG_ARGISNULL(1)) {
+    Size used = group->memory.used;
+    mergejoin_text text = text_of_argument(fcinfo, 1, &group->memory.used);
+
+    take(group, text, group->memory.used - used);
+  }
   if (!group) PG_RETURN_NULL();
   PG_RETURN_POINTER(group);
 }
@@ -93,7 +107,7 @@ Datum mergejoin_combine(PG_FUNCTION_ARGS) {
     mergejoin_text kept = borrowed(other->kept ? other->kept : text_of(other, mergejoin_patches_kept));
 
     if (*kept.bytes == *CONFLICT) keep_conflict(group);
-    if (*kept.bytes != *CONFLICT) take(group, kept);
+    if (*kept.bytes != *CONFLICT) take(group, kept, 0);
   }
   if (!group) PG_RETURN_NULL();
   PG_RETURN_POINTER(group);

@@ -77,6 +77,12 @@ static mergejoin_reply called(const Request *request, uint8_t *buffer, size_t ca
   pg_unreachable();
 }
 
+/* Returns whether a call needed more memory than it may take, or has a result that is longer than a report can be. */
+static bool is_too_large(const mergejoin_reply *reply, const Memory *memory) {
+  return (reply->status == MERGEJOIN_NO_MEMORY && memory->is_over) ||
+         (reply->status == MERGEJOIN_RESULT && reply->length > LONGEST - AROUND);
+}
+
 /*
  * Calls, with a limit and a buffer. If a join or a replay is refused memory, it may be that two patches conflict at more places
  * than there is memory for: then it is called again for the first of them.
@@ -92,6 +98,7 @@ static mergejoin_reply called_in_memory(const Request *request, Memory *memory, 
     reply = called(request, buffer, capacity, PLACES);
     if (reply.status == MERGEJOIN_TOO_LARGE) reply.status = MERGEJOIN_NO_MEMORY;
   }
+  if (request->is_kept && is_too_large(&reply, memory)) reply = (mergejoin_reply){.status = MERGEJOIN_TOO_LARGE};
   if (reply.status == MERGEJOIN_NO_MEMORY) refuse_for_memory(memory);
   return reply;
 }
@@ -117,20 +124,21 @@ static size_t wanted_length(const Request *request, const mergejoin_reply *reply
  */
 Answer answer_of(const Request *request) {
   Answer answer;
-  Memory memory = {.context = AllocSetContextCreate(CurrentMemoryContext, "a call of mergejoin", ALLOCSET_DEFAULT_SIZES)};
+  Memory own = {0}, *memory = request->memory ? request->memory : &own;
   size_t size = likely_length(request), wanted;
 
+  if (memory == &own) own = begun_memory(request->made);
   for (;;) {
     size = Min(size, LONGEST);
     answer.value = palloc(VARHDRSZ + size);
-    answer.reply = called_in_memory(request, &memory, (uint8_t *)VARDATA(answer.value), size);
+    answer.reply = called_in_memory(request, memory, (uint8_t *)VARDATA(answer.value), size);
     wanted = wanted_length(request, &answer.reply);
     if (wanted <= size) break;
     if (wanted > LONGEST) refuse_length();
     size = wanted;
     pfree(answer.value);
   }
-  MemoryContextDelete(memory.context);
+  if (own.context) MemoryContextDelete(own.context);
   SET_VARSIZE(answer.value, VARHDRSZ + Min(answer.reply.length, size));
   return answer;
 }
@@ -144,9 +152,9 @@ text *result_of(const Request *request) {
 }
 
 /* Returns whether two patches conflict, of which the first may be NULL. It needs no memory for more than some of the places. */
-bool conflict(const text *first, mergejoin_text second) {
+bool conflict(const text *first, mergejoin_text second, Memory *memory) {
   mergejoin_text texts[] = {first ? borrowed(first) : second, second};
-  Request request = {.export = EXPORT_JOIN, .texts = texts, .count = lengthof(texts)};
+  Request request = {.export = EXPORT_JOIN, .texts = texts, .count = lengthof(texts), .memory = memory};
 
   return answer_of(&request).reply.status == MERGEJOIN_CONFLICT;
 }

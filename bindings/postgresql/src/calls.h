@@ -20,6 +20,8 @@
 
 /* The most bytes that a value can have after its header. */
 #define LONGEST (MaxAllocSize - VARHDRSZ)
+/* The most bytes of that which a report has around its join. */
+#define AROUND 64
 
 typedef enum Export { EXPORT_JOIN, EXPORT_REPLAY, EXPORT_MERGE, EXPORT_REWRITE, EXPORT_PATCH, EXPORT_GET } Export;
 
@@ -29,7 +31,10 @@ typedef struct Request {
   mergejoin_text document;     /* of all but a join: the document or the start */
   const mergejoin_text *texts; /* the patches, or the one patch or pointer; never NULL */
   size_t count;
-  size_t places; /* how many bytes the places of a conflict may take, if it is more than an error needs */
+  size_t places;  /* how many bytes the places of a conflict may take, if it is more than an error needs */
+  size_t made;    /* how many bytes the texts take that were made for the call */
+  Memory *memory; /* what the call takes its memory from, and gives it back to, or NULL: then that is its own */
+  bool is_kept;   /* whether a call that would need more than it may take is an answer, MERGEJOIN_TOO_LARGE, and no error */
 } Request;
 
 /* What the library returns. */
@@ -42,6 +47,6 @@ extern mergejoin_text borrowed(const text *value);
 extern void prepare_call(Memory *memory);
 extern Answer answer_of(const Request *request);
 extern text *result_of(const Request *request);
-extern bool conflict(const text *first, mergejoin_text second);
+extern bool conflict(const text *first, mergejoin_text second, Memory *memory);
 
 #endif

@@ -5,41 +5,25 @@
 
 #include "mb/pg_wchar.h"
 #include "utils/builtins.h"
+#include "writing.h"
 
 /* The most places that an error shows, and the most bytes. */
 #define MOST_PLACES 100
 #define LONGEST_PLACES 8192
+/* The most bytes of the place of a text that is not read. */
+#define LONGEST_PLACE 67108864
 /* The most bytes that an error shows of a patch. */
 #define LONGEST_PATCH 200
-
-/* Appends bytes of UTF-8 as a JSON string. (PostgreSQL's own function takes none with a NUL.) */
-static void append_string(StringInfo list, const char *bytes, size_t length) {
-  static const char escaped[] = "\"\\\b\t\n\f\r", spelled[] = "\"\\btnfr";
-
-  appendStringInfoChar(list, '"');
-  for (size_t at = 0; at < length; at += 1) {
-    const char *found = bytes[at] ? strchr(escaped, bytes[at]) : NULL;
-
-    if (found)
-      appendStringInfo(list, "\\%c", spelled[found - escaped]);
-    else if ((unsigned char)bytes[at] < ' ')
-      appendStringInfo(list, "\\u%04x", bytes[at]);
-    else
-      appendStringInfoChar(list, bytes[at]);
-  }
-  appendStringInfoChar(list, '"');
-}
 
 /* Returns why a text is not a document: the words, and after them the place as a JSON string if there is one. */
 char *why_unread(const Answer *answer) {
   const char *text = VARDATA(answer->value);
   size_t length = VARSIZE(answer->value) - VARHDRSZ, words = answer->reply.total, at = words + strlen(" at ");
-  StringInfoData why;
+  Growing why = growing(length + sizeof("\"\""), LONGEST_PLACE);
 
-  initStringInfo(&why);
-  appendBinaryStringInfo(&why, text, (int)(words ? Min(at, length) : length));
+  append(&why, text, words ? Min(at, length) : length);
   if (words != 0 && at <= length) append_string(&why, text + at, length - at);
-  return why.data;
+  return pnstrdup(why.bytes, why.length);
 }
 
 /* Returns where the string of a JSON text ends that begins at an offset, or 0 if the text ends before. */
@@ -87,13 +71,15 @@ static void refuse_conflict(const Answer *answer) {
   ereport(ERROR, errcode(ERRCODE_MERGEJOIN_CONFLICT),
           errmsg("conflict: patches %zu and %zu", reply->first, reply->second), errdetail_internal("%s", list.data),
           count == reply->total ? 0
+          : count == 0          ? errhint("The first of %zu places is longer than %d bytes; mergejoin_conflicts returns all.",
+                                          reply->total, LONGEST_PLACES)
                                 : errhint("These are the first %zu of %zu places; mergejoin_conflicts returns all.", count,
                                           reply->total));
 }
 
 /* Raises that a text of a group is not a patch, how it begins, and how to find it. */
-void refuse_patch(mergejoin_text wrong) {
-  Request request = {.export = EXPORT_JOIN, .texts = &wrong, .count = 1};
+void refuse_patch(mergejoin_text wrong, Memory *memory) {
+  Request request = {.export = EXPORT_JOIN, .texts = &wrong, .count = 1, .memory = memory};
   Answer answer = answer_of(&request);
   const char *bytes = (const char *)wrong.bytes;
   int shown = pg_mbcliplen(bytes, (int)wrong.length, LONGEST_PATCH);

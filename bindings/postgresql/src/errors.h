@@ -10,7 +10,7 @@
 extern char *why_unread(const Answer *answer);
 extern size_t first_places(const Answer *answer, size_t most, size_t longest, size_t *end);
 extern size_t append_places(StringInfo list, const Answer *answer, size_t most, size_t longest);
-extern void refuse_patch(mergejoin_text wrong) pg_attribute_noreturn();
+extern void refuse_patch(mergejoin_text wrong, Memory *memory) pg_attribute_noreturn();
 extern void refuse_group(void) pg_attribute_noreturn();
 extern void refuse_caller(void) pg_attribute_noreturn();
 extern void refuse(const Answer *answer) pg_attribute_noreturn();

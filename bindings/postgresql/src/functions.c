@@ -5,7 +5,6 @@
 #include "values.h"
 
 #include "catalog/pg_type.h"
-#include "utils/array.h"
 #include "utils/builtins.h"
 #include "utils/json.h"
 
@@ -30,10 +29,11 @@ extern PGDLLEXPORT void _PG_init(void);
 void _PG_init(void) { define_settings(); }
 
 /*
- * Borrows the elements of an array, which is the caller's, for a request, whose list of them is made in the current memory context.
- * An element that is null is refused, or passed over and not numbered.
+ * Reads the elements of an array, which is the caller's, for a request, whose list of them is made in the current memory context. An
+ * element that is null is refused, or passed over and not numbered. Returns whether all are read: none is from that one on whose text
+ * would be more than a call may take beside those before it.
  */
-static void borrow_elements(Request *request, ArrayType *array, bool passes_null) {
+static bool read_elements(Request *request, ArrayType *array, bool passes_null) {
   Oid type = ARR_ELEMTYPE(array);
   Datum *elements;
   bool *are_null;
@@ -45,27 +45,38 @@ static void borrow_elements(Request *request, ArrayType *array, bool passes_null
   request->texts = texts;
   request->count = 0;
   for (int number = 0; number < length; number += 1) {
-    if (!are_null[number])
-      texts[request->count++] = text_of_element(elements[number], type);
-    else if (!passes_null)
+    if (are_null[number] && !passes_null)
       ereport(ERROR, errcode(ERRCODE_NULL_VALUE_NOT_ALLOWED), errmsg("patch %d is null", number));
+    if (are_null[number]) continue;
+    if (!read_element(elements[number], type, &texts[request->count], &request->made)) return false;
+    request->count += 1;
   }
+  return true;
+}
+
+/* Reads an argument that is an array of patches. */
+static void read_patches(Request *request, FunctionCallInfo fcinfo, int number, bool passes_null) {
+  if (!read_elements(request, array_of_argument(fcinfo, number), passes_null)) refuse_for_call_memory();
 }
 
 /* Calls with a document, and an array of patches. */
 static Datum of_patches(FunctionCallInfo fcinfo, Export export) {
-  Request request = {.export = export, .document = text_of_argument(fcinfo, 0)};
+  Request request = {.export = export};
 
-  borrow_elements(&request, PG_GETARG_ARRAYTYPE_P(1), false);
+  request.document = text_of_argument(fcinfo, 0, &request.made);
+  read_patches(&request, fcinfo, 1, false);
   return returned(fcinfo, result_of(&request));
 }
 
 /* Calls with a document, and a patch or a pointer. */
 static Datum of_two(FunctionCallInfo fcinfo, Export export) {
-  mergejoin_text second = text_of_argument(fcinfo, 1);
-  Request request = {.export = export, .document = text_of_argument(fcinfo, 0), .texts = &second, .count = 1};
-  Answer answer = answer_of(&request);
+  mergejoin_text second;
+  Request request = {.export = export, .texts = &second, .count = 1};
+  Answer answer;
 
+  request.document = text_of_argument(fcinfo, 0, &request.made);
+  second = text_of_argument(fcinfo, 1, &request.made);
+  answer = answer_of(&request);
   if (answer.reply.status == MERGEJOIN_MISSING) PG_RETURN_NULL();
   if (answer.reply.status != MERGEJOIN_RESULT) refuse(&answer);
   return returned(fcinfo, answer.value);
@@ -74,7 +85,7 @@ static Datum of_two(FunctionCallInfo fcinfo, Export export) {
 Datum mergejoin_sql_join(PG_FUNCTION_ARGS) {
   Request request = {.export = EXPORT_JOIN};
 
-  borrow_elements(&request, PG_GETARG_ARRAYTYPE_P(0), false);
+  read_patches(&request, fcinfo, 0, false);
   return returned(fcinfo, result_of(&request));
 }
 
@@ -90,29 +101,39 @@ Datum mergejoin_sql_get(PG_FUNCTION_ARGS) { return of_two(fcinfo, EXPORT_GET); }
 
 /* Returns the places at which two patches conflict. */
 Datum mergejoin_sql_conflicts(PG_FUNCTION_ARGS) {
-  mergejoin_text texts[] = {text_of_argument(fcinfo, 0), text_of_argument(fcinfo, 1)};
+  mergejoin_text texts[2];
   Request request = {.export = EXPORT_JOIN, .texts = texts, .count = lengthof(texts), .places = allowed_memory()};
-  Answer answer = answer_of(&request);
+  Answer answer;
   size_t end;
 
+  texts[0] = text_of_argument(fcinfo, 0, &request.made);
+  texts[1] = text_of_argument(fcinfo, 1, &request.made);
+  answer = answer_of(&request);
   if (answer.reply.status == MERGEJOIN_RESULT) return returned(fcinfo, cstring_to_text("[]"));
   if (answer.reply.status != MERGEJOIN_CONFLICT) refuse(&answer);
   if (first_places(&answer, SIZE_MAX, SIZE_MAX, &end) < answer.reply.total) refuse_places(answer.reply.total);
   return returned(fcinfo, answer.value);
 }
 
-/* Returns whether a text is a patch, whatever it has. */
-Datum mergejoin_sql_is_patch(PG_FUNCTION_ARGS) {
-  mergejoin_text text = text_of_argument(fcinfo, 0);
-  Memory memory = {.context = CurrentMemoryContext};
+/* Reads a text as a patch, which takes memory, and returns whether it is one. A text for which a call may not take enough is none. */
+static bool is_patch(mergejoin_text text, Memory *memory) {
   mergejoin_patches patches = {0};
   uint32_t status;
 
-  prepare_call(&memory);
+  prepare_call(memory);
   status = mergejoin_patches_add(&patches, text.bytes, text.length, NULL, 0, 0).status;
-  mergejoin_patches_free(&patches);
-  if (status == MERGEJOIN_NO_MEMORY || status == MERGEJOIN_PENDING) refuse_for_memory(&memory);
-  PG_RETURN_BOOL(status == MERGEJOIN_RESULT);
+  if ((status == MERGEJOIN_NO_MEMORY || status == MERGEJOIN_PENDING) && !memory->is_over) refuse_for_memory(memory);
+  return status == MERGEJOIN_RESULT;
+}
+
+/* Returns whether a text is a patch, whatever it has. */
+Datum mergejoin_sql_is_patch(PG_FUNCTION_ARGS) {
+  Memory memory = begun_memory(0);
+  mergejoin_text text;
+  bool is_one = read_argument(fcinfo, 0, &text, &memory.used) && is_patch(text, &memory);
+
+  MemoryContextDelete(memory.context);
+  PG_RETURN_BOOL(is_one);
 }
 
 /* Appends two patches that conflict, and where: the first places, and how many there are if those are not all. */
@@ -124,19 +145,14 @@ static void append_conflict(StringInfo report, const Answer *answer) {
   appendStringInfoChar(report, '}');
 }
 
-/* Joins an array of the patches of a group, for an aggregate that has kept them. */
-static Answer answer_of_group(FunctionCallInfo fcinfo) {
-  Request request = {.export = EXPORT_JOIN, .places = REPORTED_PLACES};
-
-  borrow_elements(&request, PG_GETARG_ARRAYTYPE_P(0), true);
-  return answer_of(&request);
-}
-
 /* Ends mergejoin_conflict_agg: returns the first two of an array of patches that conflict, and where, or NULL if none do. */
 Datum mergejoin_first_conflict(PG_FUNCTION_ARGS) {
-  Answer answer = answer_of_group(fcinfo);
+  Request request = {.export = EXPORT_JOIN, .places = REPORTED_PLACES};
   StringInfoData report;
+  Answer answer;
 
+  read_patches(&request, fcinfo, 0, true);
+  answer = answer_of(&request);
   if (answer.reply.status == MERGEJOIN_RESULT || answer.reply.status == MERGEJOIN_NO_PATCHES) PG_RETURN_NULL();
   if (answer.reply.status != MERGEJOIN_CONFLICT) refuse(&answer);
   initStringInfo(&report);
@@ -144,31 +160,61 @@ Datum mergejoin_first_conflict(PG_FUNCTION_ARGS) {
   return returned(fcinfo, cstring_to_text_with_len(report.data, report.len));
 }
 
-/* Ends mergejoin_report_agg: returns what an array of patches is, of three. */
-Datum mergejoin_report(PG_FUNCTION_ARGS) {
-  Answer answer = answer_of_group(fcinfo);
-  StringInfoData report;
+/* Appends which patch of a group is none, and why. */
+static void append_bad(StringInfo report, size_t number, const char *why) {
+  appendStringInfo(report, "{\"bad\":{\"number\":%zu,\"why\":", number);
+  escape_json(report, why);
+  appendStringInfoChar(report, '}');
+}
 
-  initStringInfo(&report);
-  switch (answer.reply.status) {
-    case MERGEJOIN_NO_PATCHES:
-      PG_RETURN_NULL();
+/* Returns the number of the first of some patches, which are more than a call may take, that does not fit beside those before it. */
+static size_t first_too_large(const Request *request) {
+  Memory memory = begun_memory(0);
+  size_t number;
+
+  for (number = 0; number + 1 < request->count; number += 1) {
+    if (request->made > 0) memory.used += request->texts[number].length;
+    if (!is_patch(request->texts[number], &memory)) break;
+  }
+  MemoryContextDelete(memory.context);
+  return number;
+}
+
+/* Appends what the patches of a request are, of four, but for the last brace. */
+static void append_report(StringInfo report, const Request *request, const Answer *answer) {
+  switch (answer->reply.status) {
     case MERGEJOIN_RESULT:
-      appendStringInfoString(&report, "{\"join\":");
-      appendBinaryStringInfo(&report, VARDATA(answer.value), (int)answer.reply.length);
+      appendStringInfoString(report, "{\"join\":");
+      appendBinaryStringInfo(report, VARDATA(answer->value), (int)answer->reply.length);
       break;
     case MERGEJOIN_CONFLICT:
-      appendStringInfoString(&report, "{\"conflict\":");
-      append_conflict(&report, &answer);
+      appendStringInfoString(report, "{\"conflict\":");
+      append_conflict(report, answer);
       break;
     case MERGEJOIN_PATCH:
-      appendStringInfo(&report, "{\"bad\":{\"number\":%zu,\"why\":", answer.reply.first);
-      escape_json(&report, why_unread(&answer));
-      appendStringInfoChar(&report, '}');
+      append_bad(report, answer->reply.first, why_unread(answer));
+      break;
+    case MERGEJOIN_TOO_LARGE:
+      append_bad(report, first_too_large(request), "too large");
       break;
     default:
-      refuse(&answer);
+      refuse(answer);
   }
+}
+
+/* Ends mergejoin_report_agg: returns what an array of patches is. */
+Datum mergejoin_report(PG_FUNCTION_ARGS) {
+  Request request = {.export = EXPORT_JOIN, .places = REPORTED_PLACES, .is_kept = true};
+  bool is_whole = read_elements(&request, array_of_argument(fcinfo, 0), true);
+  Answer answer = answer_of(&request);
+  StringInfoData report;
+
+  if (is_whole && answer.reply.status == MERGEJOIN_NO_PATCHES) PG_RETURN_NULL();
+  initStringInfo(&report);
+  if (is_whole || answer.reply.status == MERGEJOIN_PATCH)
+    append_report(&report, &request, &answer);
+  else
+    append_bad(&report, request.count, "too large");
   appendStringInfoChar(&report, '}');
   return returned(fcinfo, cstring_to_text_with_len(report.data, report.len));
 }

@@ -36,23 +36,41 @@ static Memory *in_use = NULL;         /* of the call that runs */
 /* Defines mergejoin.call_memory. */
 void define_settings(void) {
   DefineCustomIntVariable("mergejoin.call_memory", "Sets the most memory that a call, or the state of an aggregate, may take.",
-                          "A call that needs more is an error. The value that it returns does not count.", &call_memory,
+                          "A call that needs more is an error. The values that it is given and returns do not count.", &call_memory,
                           1024 * 1024, 64, MAX_KILOBYTES, PGC_SUSET, GUC_UNIT_KB, NULL, NULL, NULL);
   MarkGUCPrefixReserved("mergejoin");
 }
 
+/* Returns how many bytes a call may take beside those that are taken. */
+Size memory_beside(Size taken) {
+  Size allowed = (Size)call_memory * 1024;
+
+  return allowed - Min(taken, allowed);
+}
+
 /* Returns how many bytes a call may take. */
-Size allowed_memory(void) { return (Size)call_memory * 1024; }
+Size allowed_memory(void) { return memory_beside(0); }
+
+/* Makes the memory of calls, of which so many bytes are taken, with a context of its own in the current one. */
+Memory begun_memory(Size used) {
+  Memory memory = {.context = AllocSetContextCreate(CurrentMemoryContext, "calls of mergejoin", ALLOCSET_DEFAULT_SIZES), .used = used};
+
+  return memory;
+}
 
 /* Has the next calls take this memory, which is its caller's. */
 void use_memory(Memory *memory) { in_use = memory; }
 
+/* Raises that a call would need more memory than it may take. */
+void refuse_for_call_memory(void) {
+  ereport(ERROR, errcode(ERRCODE_OUT_OF_MEMORY), errmsg("out of memory"),
+          errdetail("A call of mergejoin may take no more than mergejoin.call_memory, which is %d kB.", call_memory));
+}
+
 /* Raises why the library was refused memory. */
 void refuse_for_memory(const Memory *memory) {
   CHECK_FOR_INTERRUPTS();
-  if (memory->is_over)
-    ereport(ERROR, errcode(ERRCODE_OUT_OF_MEMORY), errmsg("out of memory"),
-            errdetail("A call of mergejoin may take no more than mergejoin.call_memory, which is %d kB.", call_memory));
+  if (memory->is_over) refuse_for_call_memory();
   ereport(ERROR, errcode(ERRCODE_OUT_OF_MEMORY), errmsg("out of memory"),
           errdetail("A call of mergejoin could not allocate memory."));
 }
@@ -78,10 +96,8 @@ static void *block_in(char *chunk, Size capacity) {
 }
 
 void *mergejoin_malloc(size_t size) {
-  Size allowed = allowed_memory();
-
   if (is_asked_to_stop()) return NULL;
-  if (size > allowed || in_use->used > allowed - size) {
+  if (size > memory_beside(in_use->used)) {
     in_use->is_over = true;
     return NULL;
   }

@@ -8,9 +8,12 @@
 
 #include "fmgr.h"
 #include "mergejoin.h"
+#include "utils/array.h"
 
-extern mergejoin_text text_of_argument(FunctionCallInfo fcinfo, int number);
-extern mergejoin_text text_of_element(Datum element, Oid type);
+extern bool read_element(Datum element, Oid type, mergejoin_text *read, Size *made);
+extern bool read_argument(FunctionCallInfo fcinfo, int number, mergejoin_text *read, Size *made);
+extern mergejoin_text text_of_argument(FunctionCallInfo fcinfo, int number, Size *made);
+extern ArrayType *array_of_argument(FunctionCallInfo fcinfo, int number);
 extern Datum returned(FunctionCallInfo fcinfo, text *json);
 
 #endif

@@ -83,7 +83,8 @@ def test_a_conflict_shows_the_first_places(attacked, table, shown, count):
     """No more than a hundred, and no more than 8 kB of them."""
     said = attacked.ask(f"SELECT mergejoin_join(VARIADIC array_agg(patch)) FROM {table};\n")
     assert len(json.loads(re.search("^DETAIL:  (.*)$", said, re.M)[1])) == shown and len(said) < 9000
-    assert f"HINT:  These are the first {shown} of {count} places; mergejoin_conflicts returns all.\n" in said
+    first = f"These are the first {shown} of {count} places" if shown else f"The first of {count} places is longer than 8192 bytes"
+    assert f"HINT:  {first}; mergejoin_conflicts returns all.\n" in said
 
 
 def test_all_places_are_returned(attacked):
@@ -164,3 +165,51 @@ def as_owner(directory):
     """Gives what runs a command as the owner of a directory."""
     owner = pathlib.Path(directory).owner()
     return ["runuser", "-u", owner, "--"] if pathlib.Path("/").owner() == "root" and owner != "root" else []
+
+
+# What a call can't read within a memory of 64 MB: many small values, and a jsonb of 80 kB whose text is longer than a value can be.
+LITTLE = "LOAD 'mergejoin';\n" + LIMIT.format("64MB")
+MANY, DIGITS = "('[' || repeat('0,', 2000000) || '0]')::{}", "('[' || repeat('1e131071,', 9000) || '0]')::{}"
+LARGE = {"many values": MANY.format("json"), "many values of a jsonb": MANY.format("jsonb"), "many digits": DIGITS.format("jsonb"),
+         "a text": MANY.format("text")}
+
+
+@pytest.mark.parametrize("kind", LARGE)
+def test_a_value_that_a_call_cannot_read_is_no_patch(server, kind):
+    assert server.ask(f"{LITTLE}SELECT mergejoin_is_patch({LARGE[kind]}), mergejoin_is_patch('1'::json);\n") == "f|t\n"
+
+
+def test_with_the_memory_that_a_call_has_at_first_24_megabytes_are_no_patch(server):
+    assert server.ask("""SELECT mergejoin_is_patch(('[' || repeat('{"a":0},', 3000000) || '0]')::json);""" "\n") == "f\n"
+
+
+@pytest.mark.parametrize("kind", ["many values", "many values of a jsonb", "many digits"])
+def test_a_report_names_a_patch_that_a_call_cannot_read(server, kind):
+    """It stops no other group. If one before it is no patch for another reason, that is named."""
+    cast = "::jsonb" if "jsonb" in LARGE[kind] else "::json"
+    one, wrong, none, large = f"'1'{cast}", f"'1.5'{cast}", f"'{{}}'{cast}", LARGE[kind]
+    groups = [(one, large, wrong), (none,), (one, wrong, large), (large,)]
+    values = ", ".join(f"({group}, {number}, {text})" for group, texts in enumerate(groups) for number, text in enumerate(texts))
+    query = f"SELECT mergejoin_report_agg(patch ORDER BY number) FROM (VALUES {values}) AS log (doc, number, patch) GROUP BY doc ORDER BY doc;\n"
+    reports = [next(iter(json.loads(line).values())) for line in server.ask(LITTLE + query).splitlines()]
+    bad = [{"number": 1, "why": "too large"}, {}, {"number": 1, "why": 'number not whole at ""'}, {"number": 0, "why": "too large"}]
+    assert reports == bad
+
+
+@pytest.mark.parametrize("kind", ["json", "jsonb"])
+def test_a_report_names_a_patch_that_does_not_fit_beside_those_before_it(server, kind):
+    made = f"SELECT json_build_object(number, ('[' || repeat('0,', 200000) || '0]')::json)::{kind} AS patch, number " \
+        "FROM generate_series(1, 20) AS number"
+    query = LITTLE + "SELECT mergejoin_report_agg(patch ORDER BY number) FROM ({} LIMIT {}) AS rows;\n"
+    bad = json.loads(server.ask(query.format(made, 20)))["bad"]
+    assert bad["why"] == "too large" and 1 < bad["number"] < 19
+    assert json.loads(server.ask(query.format(made, bad["number"] + 1))) == {"bad": bad}
+    assert "join" in json.loads(server.ask(query.format(made, bad["number"] // 2)))
+
+
+def test_the_text_of_a_jsonb_counts(server):
+    """A text of 28 MB can be read within a memory of 64 MB, but not if it is made first."""
+    text = "repeat('x', 28000000)"
+    assert server.ask(f"{LITTLE}SELECT mergejoin_is_patch(to_json({text})), mergejoin_is_patch(to_jsonb({text}));\n") == "t|f\n"
+    call = f"{LITTLE}SELECT length(mergejoin_join(to_jsonb({text}))::text);\n"
+    assert server.ask(call, "-v", "VERBOSITY=sqlstate") == "ERROR:  53200\n"

@@ -1,15 +1,15 @@
-"""A database with version 0.2 of the extension is updated: it has then what a new database has, and a view of it still answers.
-
-mergejoin--0.2.sql is the script that was released. What it calls is a library that has its names, and answers nothing.
+"""A database with version 0.2 of the extension (version_0_2.py) is updated: it has then what a new database has, and a view of it still
+answers. What fails until then, and afterwards in a session from before, is what docs/POSTGRESQL.md says, and so is what a dump needs.
 """
 
-import pathlib
 import re
+import subprocess
 
 import pytest
+from calls import TOP
 from server import config
+from version_0_2 import built, packages_of, script_of
 
-OLD = pathlib.Path(__file__).with_name("mergejoin--0.2.sql")
 # What an extension consists of, with all that is known of each part.
 PARTS = """
 SELECT part.oid::regprocedure::text, obj_description(part.oid, 'pg_proc'),
@@ -31,22 +31,11 @@ def parts_of_a_new_database(server):
 
 
 @pytest.fixture(name="updated", scope="module")
-def what_a_database_that_is_updated_answers(server, tmp_path_factory):
-    """What is left of the old version is taken away again, since the servers of other tests have this one alone."""
-    script = OLD.read_text("utf-8")
-    source, file = tmp_path_factory.mktemp("old") / "old.c", server.directory / "old.so"
-    names = "".join(f"PG_FUNCTION_INFO_V1({name});\nDatum {name}(PG_FUNCTION_ARGS) {{ PG_RETURN_NULL(); }}\n"
-                    for name in sorted(set(re.findall(r"'MODULE_PATHNAME', '(\w+)'", script))))
-    source.write_text(f'#include "postgres.h"\n#include "fmgr.h"\nPG_MODULE_MAGIC;\n{names}', "utf-8")
-    server.run("cc", "-shared", "-fPIC", f"-I{config('includedir-server')}", "-o", file, source)
-    placed = pathlib.Path(f"{server.root}{config('sharedir')}/extension/{OLD.name}")
-    placed.write_text(script.replace("MODULE_PATHNAME", str(file)), "utf-8")
-    try:
+def what_a_database_that_is_updated_answers(server):
+    with script_of(server, str(built(server))):
         began = server.ask_each(["CREATE DATABASE old;\n\\c old\nCREATE EXTENSION mergejoin VERSION '0.2'", MADE])
         assert began == ["", ""]
         return server.ask_each(["\\c old\nALTER EXTENSION mergejoin UPDATE", PARTS, "SELECT * FROM shown ORDER BY doc"])
-    finally:
-        placed.unlink()
 
 
 def test_it_is_updated_without_a_word(updated):
@@ -63,3 +52,50 @@ def test_a_view_of_the_old_names_answers(updated):
 
 def test_each_part_says_what_it_is_for(parts):
     assert re.findall(r"^mergejoin_\w+\([^|\n]*\)\|\|", parts, re.M) == [] and len(re.findall(r"^mergejoin_\w+\(", parts, re.M)) > 40
+
+
+CALL, FAILS = "SELECT mergejoin_join('{\"n\": 1}'::json)", 'ERROR:  42883: could not find function "{}" in file "'
+PAGE = (TOP / "docs/POSTGRESQL.md").read_text("utf-8")
+
+
+class Waiting:
+    """A session that stays, and answers one statement after another."""
+
+    def __init__(self, server, database):
+        self.process = server.begin(database)
+
+    def ask(self, statement):
+        self.process.stdin.write(f"{statement};\n\\echo == parted ==\n")
+        self.process.stdin.flush()
+        return "".join(iter(self.process.stdout.readline, "== parted ==\n"))
+
+
+def test_between_the_package_and_the_update_calls_fail_and_lose_nothing(server):
+    """A session from before goes on until the update, and then has to connect again. A row whose constraint can't be asked is refused."""
+    with packages_of(server) as install:
+        made = "CREATE TABLE kept (patch json CHECK (mergejoin_join(patch) IS NULL))"
+        assert server.ask_each(["CREATE DATABASE waiting;\n\\c waiting\nCREATE EXTENSION mergejoin VERSION '0.2'", made]) == ["", ""]
+        before = Waiting(server, "waiting")
+        assert before.ask(CALL) == "\n"
+        install()
+        new = server.ask_each([CALL, "INSERT INTO kept VALUES ('1')", "SELECT count(*) FROM kept"], "waiting")
+        assert [it.startswith(FAILS.format("sql_join")) for it in new] == [True, True, False] and new[2] == "0\n"
+        assert before.ask(CALL) == "\n"
+        assert server.ask("ALTER EXTENSION mergejoin UPDATE;\n", "waiting") == ""
+        assert server.ask(f"{CALL};\n", "waiting") == '{"n":1}\n'
+        assert before.ask(CALL).startswith(FAILS.format("mergejoin_sql_join"))
+        before.process.communicate()
+    assert "error `could not find function`" in PAGE
+
+
+def test_a_dump_restores_with_the_new_name(server):
+    """As docs/POSTGRESQL.md has the command."""
+    command = re.search(r"^\$ (sed .*) \| psql notes$", PAGE, re.M)[1]
+    with script_of(server, str(built(server))):
+        assert server.ask_each(["CREATE DATABASE dumped;\n\\c dumped\nCREATE EXTENSION mergejoin VERSION '0.2'", MADE]) == ["", ""]
+    file = server.directory / "old.sql"
+    file.write_text(server.run(f"{config('bindir')}/pg_dump", "dumped"), "utf-8")
+    assert server.ask(f"CREATE DATABASE restored;\n\\c restored\n\\o /dev/null\n\\i {file}\n").startswith("psql:")
+    renamed = subprocess.run(["sh", "-c", command], cwd=server.directory, capture_output=True, text=True, check=True).stdout
+    again = server.ask(f"CREATE DATABASE again;\n\\c again\n\\o /dev/null\n{renamed}\n\\o\nSELECT * FROM public.shown ORDER BY doc;\n")
+    assert again == ANSWERED
