@@ -57,13 +57,17 @@ size_t first_places(const char *places, size_t length, size_t most, size_t bytes
   return end;
 }
 
-/* Writes where two patches conflict: the JSON array of places, or its beginning and how many there are. */
+/* Writes where two patches conflict: the JSON array of places, or its beginning and how many there are, or that alone. */
 static void write_places(sqlite3_str *message, const char *places, const mergejoin_reply *reply) {
   size_t count, end = first_places(places, reply->length, MOST_PLACES, MOST_BYTES, &count);
+  sqlite3_uint64 shown = count, total = reply->total;
 
+  if (shown == 0) {
+    sqlite3_str_appendf(message, ": %llu place%s", total, total == 1 ? "" : "s");
+    return;
+  }
   sqlite3_str_appendf(message, ": %.*s]", (int)end, places);
-  if (count < reply->total)
-    sqlite3_str_appendf(message, ", the first %llu of %llu places", (sqlite3_uint64)count, (sqlite3_uint64)reply->total);
+  if (shown < total) sqlite3_str_appendf(message, ", the first %llu of %llu places", shown, total);
 }
 
 /* Writes bytes of UTF-8 as a JSON string. */

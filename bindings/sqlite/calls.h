@@ -14,7 +14,9 @@
 #define SQLITE_RESULT_SUBTYPE 0x001000000
 #endif
 /* What all functions and aggregates are. */
-#define FUNCTION_FLAGS (SQLITE_UTF8 | SQLITE_DETERMINISTIC | SQLITE_INNOCUOUS | SQLITE_RESULT_SUBTYPE)
+#define FUNCTION_FLAGS (SQLITE_UTF8 | SQLITE_DETERMINISTIC | SQLITE_RESULT_SUBTYPE)
+/* What a function is that takes about as much time and memory as its arguments are long: a schema that is not trusted may call it. */
+#define LINEAR SQLITE_INNOCUOUS
 /* The limit of places that a message shows: it has the first hundred, of 64 kB at most. */
 #define SHOWN_PLACES 262144
 

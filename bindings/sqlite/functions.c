@@ -14,6 +14,7 @@ typedef struct Function {
   const char *name;
   int count; /* of its arguments, or -1 for any number */
   int least; /* of these */
+  int flags; /* LINEAR, or none: copies may double a document, and edits be the square of what is read */
   char *(*call)(const mergejoin_text *texts, size_t count, size_t limit, mergejoin_reply *reply);
 } Function;
 
@@ -51,8 +52,9 @@ static char *get(const mergejoin_text *texts, size_t count, size_t limit, mergej
 }
 
 static const Function functions[] = {
-    {"mergejoin_join", -1, 0, join},       {"mergejoin_replay", -1, 1, replay}, {"mergejoin_merge", -1, 1, merge},
-    {"mergejoin_rewrite", 2, 2, rewrite}, {"mergejoin_patch", 2, 2, patch},    {"mergejoin_get", 2, 2, get},
+    {"mergejoin_join", -1, 0, LINEAR, join},   {"mergejoin_replay", -1, 1, LINEAR, replay},
+    {"mergejoin_merge", -1, 1, LINEAR, merge}, {"mergejoin_rewrite", 2, 2, 0, rewrite},
+    {"mergejoin_patch", 2, 2, 0, patch},       {"mergejoin_get", 2, 2, LINEAR, get},
 };
 
 /* Makes the call with texts, and gives what it returns. What is missing is NULL. */
@@ -110,11 +112,11 @@ static void is_patch(sqlite3_context *context, int count, sqlite3_value **values
 }
 
 int add_functions(sqlite3 *db) {
-  int status = sqlite3_create_function_v2(db, "mergejoin_is_patch", 1, FUNCTION_FLAGS, NULL, is_patch, NULL, NULL, NULL);
+  int status = sqlite3_create_function_v2(db, "mergejoin_is_patch", 1, FUNCTION_FLAGS | LINEAR, NULL, is_patch, NULL, NULL, NULL);
 
   for (size_t number = 0; status == SQLITE_OK && number < sizeof functions / sizeof *functions; number += 1) {
-    const Function *function = &functions[number];
-    status = sqlite3_create_function_v2(db, function->name, function->count, FUNCTION_FLAGS, (void *)function, call, NULL, NULL, NULL);
+    const Function *it = &functions[number];
+    status = sqlite3_create_function_v2(db, it->name, it->count, FUNCTION_FLAGS | it->flags, (void *)it, call, NULL, NULL, NULL);
   }
   return status;
 }

@@ -4,7 +4,8 @@ An example is a block that begins with a line ```console. Its lines that begin w
 command are what it prints on standard output and standard error together. A command that ends with a backslash goes on in the
 next line, which may begin with '> '. One bash runs the commands of a block, in order and with no standard input, so `$ echo $?`
 shows the status of the command before it. And one runs those of a page once more, as someone does who follows the page in one
-terminal. They find the scripts and the program, by their names when they are installed too, and have a directory of their own.
+terminal. They find the scripts and the program, by their names when they are installed too, and have a directory of their own. README is for
+a fresh clone, so its commands find none by the name when it is installed.
 
 Not run: the command bin/test, and blocks that are marked otherwise, as ```console not-run.
 
@@ -13,6 +14,7 @@ that begins with ```crates is lines of crates.txt.
 """
 
 import difflib
+import os
 import re
 import shlex
 
@@ -24,8 +26,7 @@ PAGES = ["README.md",
 # A command with the lines that it goes on in, and what stands below it.
 STEP = re.compile(r"^\$ ((?:.*\\\n)*.*\n)((?:(?!\$ ).*\n)*)", re.M)
 # Shows a command as the page does, and leaves $? as it was.
-PRELUDE = 'exec 2>&1\nPATH=$PWD/installed:$PATH\nshow() { local status=$?; printf "%s" "$1"; return $status; }\n'
-INSTALLED = {"mergejoin": "out/mergejoin", **{f"mergejoin-{name}": f"bin/{name}" for name in ("conflicts", "feed", "locate")}}
+PRELUDE = 'exec 2>&1\nshow() { local status=$?; printf "%s" "$1"; return $status; }\n'
 SOURCES = {"rust": "crates/*/src/**/*.rt", "antt": "crates/*/*/**/*.antt", "crates": "crates.txt"}
 
 
@@ -43,20 +44,18 @@ SHOWN = [pytest.param(kind, text, id=f"{page}:{line} {kind}") for page, kind, li
 
 
 @pytest.fixture(name="prints")
-def what_runs_an_example(program, run, tmp_path):
+def what_runs_an_example(program, installed, run, tmp_path):
     """Runs the commands of an example, and gives what it shows and what they print."""
     for path in [program, *(TOP / "bin").iterdir()]:
         (tmp_path / path.relative_to(TOP)).parent.mkdir(exist_ok=True)
         (tmp_path / path.relative_to(TOP)).symlink_to(path)
-    (tmp_path / "installed").mkdir()
-    for name, path in INSTALLED.items():
-        (tmp_path / "installed" / name).symlink_to(TOP / path)
 
-    def prints(example):
+    def prints(page, example):
         assert STEP.sub("", example) == "", "the first line of an example is no command"
         steps = [step for step in STEP.finditer(example) if step[1] != "bin/test\n"]
         script = "".join(f"show {shlex.quote('$ ' + step[1])}\n" + step[1].replace("\\\n> ", "\\\n") for step in steps)
-        return "".join(step[0] for step in steps), run(PRELUDE + script, shell=True)[1]
+        setting = {} if page == "README.md" else {"PATH": f"{installed}:{os.environ['PATH']}"}
+        return "".join(step[0] for step in steps), run(PRELUDE + script, shell=True, setting=setting)[1]
 
     return prints
 
@@ -69,7 +68,7 @@ def test_pages_have_not_lost_their_examples():
 @pytest.mark.parametrize("way", ["each by itself", "all in one terminal"])
 def test_examples_print_what_they_show(prints, page, way):
     examples = [text for at, kind, _, text in BLOCKS if (at, kind) == (page, "console")]
-    runs = map(prints, examples if way == "each by itself" else ["".join(examples)])
+    runs = [prints(page, example) for example in (examples if way == "each by itself" else ["".join(examples)])]
     shown, printed = ("".join(texts).splitlines() for texts in zip(*runs))
     assert not (diff := "\n".join(difflib.unified_diff(shown, printed, page, "printed", lineterm=""))), diff
 

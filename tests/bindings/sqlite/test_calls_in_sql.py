@@ -97,16 +97,25 @@ def test_a_result_is_json_to_the_functions_of_sqlite(connection):
 
 
 def test_functions_may_stand_in_a_schema(connection):
-    """They depend on their arguments alone, and do no harm. So an index and a check have them, also of a schema that is not trusted."""
-    connection.execute("PRAGMA trusted_schema = OFF")
-    connection.execute("CREATE TABLE checked (patch CHECK (mergejoin_is_patch(patch)))")
-    connection.execute("CREATE TABLE log (patch, owner AS (mergejoin_get(patch, '/owner')))")
-    connection.execute("CREATE INDEX owners ON log (mergejoin_get(patch, '/owner')) WHERE mergejoin_join(patch) <> '{}'")
+    """They depend on their arguments alone. So an index and a check have them, also of a schema that is not trusted, and all of them one that
+    is.
+    """
+    added = '[{"op":"add","path":"/new","value":1}]'
     connection.execute("CREATE VIEW shown AS SELECT mergejoin_agg(patch) FROM log")
-    connection.execute("INSERT INTO log VALUES ('{\"owner\":\"Ada\"}')")
-    assert outcome(connection, "SELECT owner FROM log") == [('"Ada"',)]
+    connection.execute(f"CREATE TABLE patched (patch, new CHECK (new <> 2) AS (mergejoin_patch(patch, '{added}')))")
+    connection.execute("CREATE INDEX rewritten ON patched (mergejoin_rewrite('{}', patch))")
+    connection.execute("CREATE TABLE log (patch, owner AS (mergejoin_get(patch, '/owner')))")
+    for schema in "OFF", "ON":
+        connection.execute(f"PRAGMA trusted_schema = {schema}")
+        connection.execute(f"CREATE TABLE checked_{schema} (patch CHECK (mergejoin_is_patch(patch)))")
+        connection.execute(f"CREATE INDEX owners_{schema} ON log (mergejoin_get(patch, '/owner')) WHERE mergejoin_join(patch) <> '{{}}'")
+        connection.execute("INSERT INTO log VALUES ('{\"owner\":\"Ada\"}')")
+        assert set(outcome(connection, "SELECT owner FROM log")) == {('"Ada"',)}
+        assert outcome(connection, f"INSERT INTO checked_{schema} VALUES ('{{')")[0] == "SQLITE_CONSTRAINT_CHECK"
+    connection.execute("INSERT INTO patched VALUES ('{\"owner\":\"Ada\"}')")
+    assert outcome(connection, "SELECT new FROM patched INDEXED BY rewritten WHERE mergejoin_rewrite('{}', patch) > ''") == \
+        [('{"new":1,"owner":"Ada"}',)]
     assert outcome(connection, "SELECT * FROM shown") == [('{"owner":"Ada"}',)]
-    assert outcome(connection, "INSERT INTO checked VALUES ('{')")[0] == "SQLITE_CONSTRAINT_CHECK"
 
 
 def test_the_first_places_of_a_conflict_are_shown(connection):
@@ -114,6 +123,14 @@ def test_the_first_places_of_a_conflict_are_shown(connection):
     places = ",".join(f'"/k{number:03}\\\\\\""' for number in range(100))
     wanted = f"conflict: patches 0 and 1: [{places}], the first 100 of 250 places"
     assert asked(connection, "join", *texts) == ("SQLITE_CONSTRAINT_FUNCTION", wanted)
+
+
+@pytest.mark.parametrize("count,words", [(3, "3 places"), (1, "1 place")])
+def test_of_places_that_are_all_too_long_the_number_is_shown(connection, count, words):
+    texts = [json.dumps({f"k{number}": value for number in range(count)}) for value in (1, 2)]
+    limited(connection, 100)
+    wanted = "SQLITE_CONSTRAINT_FUNCTION", f"conflict: patches 0 and 1: {words}"
+    assert [asked(connection, export, *start, *texts) for export, start in (("join", []), ("replay", ["{}"]))] == [wanted] * 2
 
 
 def test_no_place_follows_64_kb_of_them(connection):
@@ -213,6 +230,38 @@ def test_an_error_undoes_its_statement_and_no_more(connection):
     for statement in "UPDATE log SET patch = mergejoin_join(patch)", "INSERT INTO log SELECT mergejoin_join(patch) FROM log":
         assert outcome(connection, statement) == ("SQLITE_ERROR", "patch 0: not JSON")
     assert connection.in_transaction and outcome(connection, "SELECT patch FROM log") == [("1",), ("{",), ("2",)]
+
+
+# Each statement asks for more memory than is left, in a transaction with two rows: what is left of that.
+WITHOUT_MEMORY = """
+import resource, sqlite3, sys
+extension, *statements = sys.argv[1:]
+connections = [sqlite3.connect(":memory:", isolation_level=None) for _ in statements]
+for connection in connections:
+    connection.enable_load_extension(True)
+    connection.load_extension(extension)
+    connection.execute("CREATE TABLE log (patch)")
+    connection.execute("BEGIN")
+    connection.execute("INSERT INTO log VALUES (1), (2)")
+text = "[" + ",".join(["[]"] * 500_000) + "]"
+now = int(open("/proc/self/statm").read().split()[0]) * resource.getpagesize()
+resource.setrlimit(resource.RLIMIT_AS, (now + 20_000_000,) * 2)
+for connection, statement in zip(connections, statements):
+    try:
+        connection.execute(statement, [text])
+    except MemoryError:
+        print(connection.in_transaction, len(connection.execute("SELECT * FROM log").fetchall()))
+"""
+
+
+def test_without_memory_the_transaction_may_end(extension, run):
+    """All of it is undone where SQLite has no journal of the statement, as of one that reads or that writes one row. A program asks whether it is
+    still open.
+    """
+    ends = ["SELECT mergejoin_join(?) FROM log", "SELECT mergejoin_agg(it) FROM (SELECT ? AS it FROM log)", "INSERT INTO log VALUES (mergejoin_join(?))"]
+    stays = ["UPDATE log SET patch = mergejoin_join(?)", "INSERT INTO log SELECT mergejoin_join(?) FROM log"]
+    words = ["/usr/bin/python3", "-I", "-c", WITHOUT_MEMORY, extension, *ends, *stays]
+    assert run(words) == (0, "False 0\n" * len(ends) + "True 2\n" * len(stays), "")
 
 
 @pytest.mark.parametrize("export,texts", itertools.product(["join", "merge", "replay"], [["[" * n + "]" * n, "{}"] for n in (126, 127)]))

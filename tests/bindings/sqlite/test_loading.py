@@ -82,3 +82,27 @@ def test_it_is_loaded_again_after_it_was_unloaded(extension):
         one.close()
         assert other.execute(JOINED).fetchone() == ('{"a":1,"b":null}',)
         other.close()
+
+
+def test_a_process_goes_on_with_a_file_that_is_replaced(extension, tmp_path):
+    """Until it has closed each connection that loaded it. Neither a connection nor a database notices the next one."""
+    def said(connection):
+        return outcome(connection, "SELECT mergejoin_agg(column1) FROM (VALUES ('1'), ('2'))")[1].partition(":")[2].split()[0]
+
+    file, other = tmp_path / extension.name, tmp_path / "next.so"
+    shutil.copy(extension, file)
+    words = extension.read_bytes()
+    assert words.count(b"conflict: two patches") == 1
+    other.write_bytes(words.replace(b"conflict: two patches", b"conflict: TWO patches"))
+    one = connected(file, tmp_path / "one.db", isolation_level=None)
+    one.execute("CREATE TABLE log (patch UNIQUE, author AS (mergejoin_get(patch, '/author')))")
+    one.execute("CREATE INDEX authors ON log (author)")
+    other.rename(file)
+    two = connected(file, tmp_path / "one.db", isolation_level=None)
+    two.execute("INSERT INTO log VALUES ('{\"author\":1}')")
+    assert [said(one), said(two)] == ["two"] * 2 and outcome(one, "SELECT author FROM log INDEXED BY authors WHERE author > ''") == [("1",)]
+    one.close()
+    two.close()
+    three = connected(file, tmp_path / "one.db")
+    assert said(three) == "TWO" and outcome(three, "PRAGMA integrity_check") == [("ok",)]
+    three.close()

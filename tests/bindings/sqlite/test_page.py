@@ -1,4 +1,4 @@
-"""The statements of docs/SQLITE.md print what it shows, in one session of the shell, and so do the commands that run its program, which is
+"""The statements of docs/SQLITE.md print what it shows, in two sessions of the shell, and so do the commands that run its program, which is
 that of bindings/sqlite.
 """
 
@@ -7,9 +7,8 @@ import shutil
 
 import pytest
 from calls import TOP, run
+from sqlite_page import BLOCKS, PAGE
 
-PAGE = (TOP / "docs/SQLITE.md").read_text("utf-8")
-BLOCKS = re.findall(r"^```sql\n(.*?)^```$(?:\n+^```text\n(.*?)^```$)?", PAGE, re.M | re.S)
 COMMANDS = re.findall(r"^```console not-run\n(\$ python3 .*?)^```$", PAGE, re.M | re.S)
 REPLICA = TOP / "bindings/sqlite/replica.py"
 PARTED = "== parted =="
@@ -17,13 +16,15 @@ PARTED = "== parted =="
 
 @pytest.fixture(name="printed", scope="module")
 def what_the_statements_of_the_page_print(needs, extension, tmp_path_factory):
-    """They are run in one database. What is read from a pipe has the line of an error, too."""
+    """They are run in one database. What is read from a pipe has the line of an error, too. The session that is to end at an error begins
+    after those that show errors.
+    """
     needs("sqlite3")
     given = "".join(f"{statements}.print {PARTED}\n" for statements, _ in BLOCKS)
-    path = str(extension).removesuffix(".so")
-    words = f"sqlite3 -batch page.db 2>&1 <<'END'\n.load {path}\n{given}END"
-    printed = run_in(tmp_path_factory.mktemp("page"), words)
-    return re.sub(r"^(Runtime error) near line \d+", r"\1", printed, flags=re.M).split(f"{PARTED}\n")
+    first, bail, second = given.partition(".bail on\n")
+    path, directory = str(extension).removesuffix(".so"), tmp_path_factory.mktemp("page")
+    printed = [run_in(directory, f"sqlite3 -batch page.db 2>&1 <<'END'\n.load {path}\n{it}END") for it in (first, bail + second)]
+    return re.sub(r"^(Runtime error) near line \d+", r"\1", "".join(printed), flags=re.M).split(f"{PARTED}\n")
 
 
 def run_in(directory, line, **setting):
@@ -39,7 +40,7 @@ def test_the_page_shows_what_its_statements_print(printed, number):
 
 def test_the_page_has_the_program(python, tmp_path):
     program = REPLICA.read_text("utf-8")
-    assert f"```python\n{program}```\n" in PAGE and program.count("\n") <= 40
+    assert f"```python\n{program}```\n" in PAGE and program.count("\n") <= 58
 
 
 @pytest.mark.parametrize("commands", COMMANDS, ids=["program"])

@@ -1,11 +1,10 @@
-"""The replica that docs/SQLITE.md shows is a process, which is killed at random points, as is one that shortens. What it acknowledged is
-there, the database is whole, and in the end it shows what one replay of all patches gives.
+"""The replica that docs/SQLITE.md shows is a process, which is killed at random points, as is another one that receives at the same time. What
+they acknowledged is there, the database is whole, and in the end it shows what one replay of all patches gives.
 """
 
 import json
 import random
 import signal
-import sqlite3
 import subprocess
 import time
 
@@ -14,18 +13,11 @@ from calls import TOP
 from sqlite_extension import connected
 
 REPLICA = TOP / "bindings/sqlite/replica.py"
-# Shortens a document again and again, by the statements of the replica itself.
-SHORTENER = """
-import runpy, sys
-while True:
-    runpy.run_path(sys.argv[0])
-    print("shortened", flush=True)
-"""
 DATABASES, KILLS = 20, 3
 
 
 class Replica:
-    """A database in a file, with a process that receives, and one that shortens, each of which is killed now and then."""
+    """A database in a file, with two processes that receive, each of which is killed now and then."""
 
     def __init__(self, python, extension, directory, seed):
         self.python, self.extension, self.file, self.chance = python, extension, directory / "replica.db", random.Random(seed)
@@ -58,12 +50,21 @@ class Replica:
                         process.kill()
                 return process.wait()
 
-    def shorten(self):
-        """Begins to shorten, again and again."""
-        words = [self.python, "-I", "-c", f"import sys; sys.argv = {[str(REPLICA), str(self.file), 'shorten', 'notes']}\n{SHORTENER}"]
-        process = subprocess.Popen(words, stdout=subprocess.PIPE, text=True)
-        assert process.stdout.readline() == "shortened\n"
+    def other(self, lines):
+        """Begins another process that receives lines, and waits for its first acknowledgement."""
+        process = subprocess.Popen(self.words("receive"), stdin=subprocess.PIPE, stdout=subprocess.PIPE, text=True, encoding="utf-8")
+        process.stdin.writelines(lines)
+        process.stdin.flush()
+        self.acknowledged.add(process.stdout.readline())
         return process
+
+    def kill(self, process):
+        """Kills the other process. A line that it had not written to its end is not acknowledged."""
+        time.sleep(self.chance.random() * 0.004)
+        with process:
+            process.kill()
+            self.acknowledged.update(it for it in process.stdout if it.endswith("\n"))
+        assert process.returncode == -signal.SIGKILL
 
     def has_all(self):
         """The database is whole, and what was acknowledged is part of its join."""
@@ -80,21 +81,15 @@ def test_a_replica_that_is_killed_has_what_it_acknowledged(python, extension, tm
     replica = Replica(python, extension, tmp_path, seed)
     lines = replica.patches()
     for _ in range(KILLS):
-        shortener = replica.shorten()
+        other = replica.other(replica.chance.sample(lines, len(lines)))
         some = replica.chance.choices(lines, k=60)
         assert replica.receive(some, replica.chance.randrange(40)) in (0, -signal.SIGKILL)
-        time.sleep(replica.chance.random() * 0.004)
-        shortener.kill()
-        shortener.communicate()
-        assert shortener.returncode == -signal.SIGKILL
+        replica.kill(other)
         replica.has_all()
     again = replica.chance.sample(lines, len(lines)) + replica.chance.choices(lines, k=30)
     assert replica.receive(again, None) == 0 and replica.acknowledged == set(lines)
     replica.has_all()
-    shown = replica.run("show", "notes")
-    replica.run("shorten", "notes")
-    assert sqlite3.connect(replica.file).execute("SELECT count(*) FROM patches").fetchone() == (1,)
     given = json.dumps([it.partition("\t")[2] for it in lines])
     replayed = "import json, sys, mergejoin; print(mergejoin.replay('{\"n0\":\"start\",\"kept\":[1]}', json.loads(sys.argv[1])))"
     wanted = subprocess.run([python, "-I", "-c", replayed, given], capture_output=True, text=True, check=True).stdout
-    assert shown == replica.run("show", "notes") == wanted
+    assert replica.run("show", "notes") == wanted
