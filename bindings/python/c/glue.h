@@ -20,6 +20,9 @@ typedef struct texts {
  * not UTF-8, so that the library refuses it. */
 int texts_of_one(PyObject *given, texts *taken);
 
+/* Gives what an iterable has as a tuple. What the package's ordered() refuses sets its error, which has this word. */
+PyObject *all_of(PyObject *given, const char *what);
+
 /* Takes each text of an iterable. */
 int texts_of_all(PyObject *given, texts *taken);
 
@@ -31,7 +34,8 @@ int has_arguments(Py_ssize_t count, Py_ssize_t wanted);
 /* Takes a limit: an int, or None for no limit. */
 int limit_of(PyObject *given, size_t *limit);
 
-/* The result of a call as a str, or the error that its reply reports. The text is freed. */
+/* The result of a call as a str, or the error that its reply reports. The text is freed. Without one memory ran out, unless an error is
+ * set. */
 PyObject *answer_of(char *text, const mergejoin_reply *reply);
 
 /* Adds the types of what stays in memory to the module. */

@@ -1,14 +1,27 @@
 /* What stays in memory: the types Replica, Patches and PatchLog of the module. Each object has one handle of the library, and a lock, so
- * that threads take it one after the other. A thread gives up the interpreter's lock before it waits for that one. */
+ * that threads take it one after the other. A thread gives up the interpreter's lock before it waits for that one.
+ *
+ * Of the threads a child has the one that forked. If another had the lock of an object, nobody gives it back there, and the handle may be
+ * half changed. So the lock is looked at when the child first uses the object: if it is held, each use is an error. */
 #include "glue.h"
+
+#include <pthread.h>
 
 enum { SPARE = 65536 }; /* bytes of a buffer in addition to what the text had before */
 
-/* An object with a handle. `length` is how many bytes the text of its document, or of patches that of their join, had when it was last
+/* How many forks led to this process since the module was loaded. */
+static unsigned forks;
+
+static void count_fork(void) { forks += 1; }
+
+/* An object with a handle. `forks` is how many there were when its lock was last looked at, and `is_lost` whether it was held by a thread
+ * that is not in this process. `length` is how many bytes the text of its document, or of patches that of their join, had when it was last
  * read; `more` how many that of a replica's join or of a log's pairs had. `epoch` is the number of a log's start. */
 typedef struct live {
   PyObject_HEAD
   PyThread_type_lock lock;
+  unsigned forks;
+  int is_lost;
   size_t length, more;
   uint64_t epoch;
   union {
@@ -18,13 +31,31 @@ typedef struct live {
   } it;
 } live;
 
-/* A call of the library on the handle of an object. */
-#define ALONE_(self, call)                  \
-  Py_BEGIN_ALLOW_THREADS                    \
-  PyThread_acquire_lock((self)->lock, WAIT_LOCK); \
-  call;                                     \
-  PyThread_release_lock((self)->lock);      \
-  Py_END_ALLOW_THREADS
+/* Whether the handle of an object is as a call left it. The interpreter's lock is held, so that no other thread of this process uses the
+ * object for the first time. */
+static int is_whole(live *self) {
+  if (self->forks == forks) return !self->is_lost;
+  self->forks = forks;
+  self->is_lost = self->is_lost || !PyThread_acquire_lock(self->lock, NOWAIT_LOCK);
+  if (!self->is_lost) PyThread_release_lock(self->lock);
+  return !self->is_lost;
+}
+
+static int is_usable(live *self) {
+  int is_it = is_whole(self);
+  if (!is_it) PyErr_SetString(PyExc_RuntimeError, "another thread was in this object when the process forked");
+  return is_it;
+}
+
+/* A call of the library on the handle of an object. If that is not usable, the error is set, and nothing is called. */
+#define ALONE_(self, call)                          \
+  if (is_usable(self)) {                            \
+    Py_BEGIN_ALLOW_THREADS                          \
+    PyThread_acquire_lock((self)->lock, WAIT_LOCK); \
+    call;                                           \
+    PyThread_release_lock((self)->lock);            \
+    Py_END_ALLOW_THREADS                            \
+  }
 
 #define BYTES_(text) (text).at->bytes, (text).at->length
 
@@ -34,6 +65,7 @@ static PyObject *live_new(PyTypeObject *type, PyObject *arguments, PyObject *nam
   (void)arguments;
   (void)names;
   if (!self) return NULL;
+  self->forks = forks;
   self->lock = PyThread_allocate_lock();
   if (self->lock) return (PyObject *)self;
   Py_DECREF(self);
@@ -95,7 +127,7 @@ static int replica_init(live *self, PyObject *arguments, PyObject *names) {
 }
 
 static void replica_dealloc(live *self) {
-  mergejoin_replica_free(&self->it.replica);
+  if (is_whole(self)) mergejoin_replica_free(&self->it.replica);
   drop(self);
 }
 
@@ -138,7 +170,7 @@ static PyObject *replica_get(live *self, PyObject *const *arguments, Py_ssize_t 
 /* Patches */
 
 static void patches_dealloc(live *self) {
-  mergejoin_patches_free(&self->it.patches);
+  if (is_whole(self)) mergejoin_patches_free(&self->it.patches);
   drop(self);
 }
 
@@ -230,7 +262,7 @@ static int log_init(live *self, PyObject *arguments, PyObject *names) {
 }
 
 static void log_dealloc(live *self) {
-  mergejoin_patch_log_free(&self->it.log);
+  if (is_whole(self)) mergejoin_patch_log_free(&self->it.log);
   drop(self);
 }
 
@@ -262,7 +294,7 @@ static PyObject *log_conflicts(live *self, PyObject *limit) { return read_text(s
 
 /* Each identity is a pair of numbers. */
 static mergejoin_identity *identities_of(PyObject *given, size_t *count) {
-  PyObject *all = PySequence_Tuple(given);
+  PyObject *all = all_of(given, "identities");
   Py_ssize_t length = all ? PyTuple_Size(all) : 0;
   mergejoin_identity *identities = all ? PyMem_Malloc(sizeof *identities * (size_t)(length ? length : 1)) : NULL;
   if (all && !identities) PyErr_NoMemory();
@@ -297,10 +329,10 @@ static PyObject *log_decide(live *self, PyObject *const *arguments, Py_ssize_t c
 }
 
 static PyObject *log_epoch(live *self, PyObject *nothing) {
-  uint64_t epoch;
+  uint64_t epoch = 0;
   (void)nothing;
   ALONE_(self, epoch = self->epoch);
-  return PyLong_FromUnsignedLongLong(epoch);
+  return PyErr_Occurred() ? NULL : PyLong_FromUnsignedLongLong(epoch);
 }
 
 /* The types. Each is used by a class of the package, which looks at the arguments. */
@@ -344,6 +376,10 @@ static PyType_Spec specs[] = {
 };
 
 int live_add_types(PyObject *module) {
+  if (pthread_atfork(NULL, NULL, count_fork)) {
+    PyErr_NoMemory();
+    return -1;
+  }
   for (size_t number = 0; number < sizeof specs / sizeof *specs; number += 1) {
     PyObject *type = PyType_FromModuleAndSpec(module, &specs[number], NULL);
     int status = type ? PyModule_AddType(module, (PyTypeObject *)type) : -1;

@@ -56,14 +56,17 @@ failed:
 
 int texts_of_one(PyObject *given, texts *taken) { return take(PyTuple_Pack(1, given), taken); }
 
-int texts_of_all(PyObject *given, texts *taken) {
-  if (PyUnicode_Check(given) || PyBytes_Check(given) || PyByteArray_Check(given)) {
-    *taken = (texts){NULL, NULL, 0};
-    PyErr_SetString(PyExc_TypeError, "texts are to be given one by one, as in a list, and not as one text");
-    return -1;
-  }
-  return take(PySequence_Tuple(given), taken);
+PyObject *all_of(PyObject *given, const char *what) {
+  if (PyList_Check(given) || PyTuple_Check(given) || PyIter_Check(given)) return PySequence_Tuple(given);
+  PyObject *errors = PyImport_ImportModule("mergejoin._errors");
+  PyObject *taken = errors ? PyObject_CallMethod(errors, "ordered", "Os", given, what) : NULL;
+  Py_XDECREF(errors);
+  PyObject *all = taken ? PySequence_Tuple(taken) : NULL;
+  Py_XDECREF(taken);
+  return all;
 }
+
+int texts_of_all(PyObject *given, texts *taken) { return take(all_of(given, "texts"), taken); }
 
 void texts_drop(texts *taken) {
   Py_CLEAR(taken->kept);
@@ -103,7 +106,7 @@ static PyObject *raised(const char *text, const mergejoin_reply *reply) {
 PyObject *answer_of(char *text, const mergejoin_reply *reply) {
   PyObject *answer = NULL;
   if (!text || reply->status == MERGEJOIN_NO_MEMORY) {
-    PyErr_NoMemory();
+    if (!PyErr_Occurred()) PyErr_NoMemory();
   } else if (reply->status == MERGEJOIN_RESULT) {
     answer = PyUnicode_DecodeUTF8(text, (Py_ssize_t)reply->length, "strict");
   } else {

@@ -2,6 +2,7 @@
 
 import collections
 import json
+from collections import UserString
 from decimal import Decimal
 from fractions import Fraction
 
@@ -14,12 +15,32 @@ class Name(str):
     """A str of a kind of its own."""
 
 
+class Like:
+    """What equals a number and is none by its kind, as a bool of numpy."""
+
+    def __init__(self, number):
+        self.number = number
+
+    def __eq__(self, other):
+        return self.number == (other.number if isinstance(other, Like) else other)
+
+    def __hash__(self):
+        return hash(self.number)
+
+    def __int__(self):
+        return int(self.number)
+
+    def __float__(self):
+        return float(self.number)
+
+
 # Keys of all kinds: those of a row are equal.
 ALIKE = [
-    ["doc", Name("doc")], ["", Name()], ["\ud800"], ["caf\u00e9 \U0001f600"],
-    [1, 1.0, True, Decimal(1), Fraction(1), 1 + 0j], [0, -0.0, False, Decimal("-0")], [-1, Decimal("-1.0")], [-2, -2.0],
-    [0.5, Decimal("0.5"), Fraction(1, 2)], [2**70, float(2**70), Fraction(2**70)], [float("inf"), Decimal("inf")],
-    [None], [b"doc"], [()], [("doc", 1), (Name("doc"), True)], [("doc", None)], [frozenset(["doc", 1]), frozenset([1.0, "doc"])],
+    ["doc", Name("doc"), UserString("doc")], ["", Name(), UserString("")], ["\ud800", UserString("\ud800")], ["caf\u00e9 \U0001f600"],
+    [1, 1.0, True, Decimal(1), Fraction(1), 1 + 0j, Like(True)], [0, -0.0, False, Decimal("-0"), Like(0)], [-1, Decimal("-1.0")], [-2, -2.0],
+    [0.5, Decimal("0.5"), Fraction(1, 2), Like(0.5)], [2**70, float(2**70), Fraction(2**70)], [float("inf"), Decimal("inf")],
+    [UserString("other")], [Like(2.5)], [None], [b"doc"], [()], [("doc", 1), (Name("doc"), True)], [("doc", None)],
+    [frozenset(["doc", 1]), frozenset([1.0, "doc"])],
 ]
 
 

@@ -136,7 +136,7 @@ class Tasks(unittest.TestCase):
         bag = dask.bag.from_sequence(range(1000), npartitions=1000)
         before = len(dict(bag.dask))
         one, other = (len(dict(join_by_key(bag, shares).dask)) - before for shares in (50, 60))
-        self.assertEqual(one, MOST_SPLITS + 1000 + 50)
+        self.assertEqual(one, MOST_SPLITS + 2 * 1000 + 50)
         self.assertLess(other, MOST_SPLITS / 2)
         self.assertGreater(len(dict(join_by_key(bag, 60, False).dask)), MOST_SPLITS)
 

@@ -1,21 +1,29 @@
 """What the errors are, carry and say; and what is no text at all."""
 
+import collections
 import copy
+import json
 import pickle
 import subprocess
 import sys
 import threading
 import time
+import types
 import unittest
 
 import mergejoin
-from mergejoin import Conflict, InputError, Malformed, MergejoinError, Missing, NoPatches, Pending, Refused, TooLarge
+from mergejoin import (Conflict, InputError, Malformed, MergejoinError, Missing, NoPatches, Patches, PatchLog, Pending, Refused, Replica,
+                       TooLarge)
 
 ALL = [
     (Conflict(0, 2, ["/a", "/é"]), 'conflict: patches 0 and 2 at "/a", "/é"'),
     (Conflict(None, None, [""]), 'conflict: two patches at ""'),
     (NoPatches(), "no patches"),
+    (Conflict(0, 1, [], 7_000), "conflict: patches 0 and 1 at 7,000 places"),
+    (Conflict(0, 1, [], 1), "conflict: patches 0 and 1 at 1 place"),
+    (Conflict(0, 1, []), "conflict: patches 0 and 1"),
     (Refused(3, "test failed"), "operation 3: test failed"),
+    (Refused(0, "no number is left for a start"), "no number is left for a start"),
     (Malformed(0, "not an array"), "not an array"),
     (Malformed(2, "no path"), "operation 2: no path"),
     (Missing(), "missing"),
@@ -97,6 +105,50 @@ class Errors(unittest.TestCase):
                             (mergejoin.conflicts, ["{}"]), (mergejoin.Patches().add, [{}]),
                             (mergejoin.objects.join, [{"a": 1}]), (mergejoin.objects.merge, [{}, "text"])):
             self.assertRaises(TypeError, call, *words)
+
+    def test_what_has_no_order_is_no_list(self):
+        """Nor is one text, of which some have nothing to go over."""
+        wrong = [{"5": "{}"}, {}, collections.UserDict(), types.MappingProxyType({"1": 2}), collections.Counter(), set(), {"{}"}, frozenset(["{}"]),
+                 {}.keys(), "", b"", bytearray(), memoryview(b"")]
+        calls = [mergejoin.join, mergejoin.conflicts, lambda it: mergejoin.replay("{}", it), lambda it: mergejoin.merge("{}", it),
+                 PatchLog(1, "{}").decide, mergejoin.objects.join, mergejoin.objects.conflicts,
+                 lambda it: mergejoin.objects.replay({}, it), lambda it: mergejoin.objects.merge({}, it)]
+        for given in wrong:
+            for call in calls:
+                with self.assertRaises(TypeError) as raised:
+                    call(given)
+                self.assertIn(f"one by one, as in a list, and not as {type(given).__name__}", str(raised.exception))
+
+    def test_what_has_an_order_is_one(self):
+        for given in ([], (), iter([]), collections.deque(), collections.UserList(), {}.values(), (it for it in ())):
+            self.assertEqual(mergejoin.merge("7", given), "7")
+        for given in (["1", "2"], ("1", "2"), iter(["1", "2"]), collections.deque("12"), collections.UserList("12"), {1: "1", 2: "2"}.values()):
+            self.assertEqual(mergejoin.merge("7", given), "2")
+
+    def test_another_patches_is_wanted(self):
+        for other in ({}, [], "{}", None, Replica("{}")):
+            self.assertRaises(TypeError, Patches().add_all, other)
+
+    def test_an_error_of_a_decision_has_no_operation(self):
+        with self.assertRaises(Refused) as raised:
+            PatchLog(2**64 - 1, "{}").decide([])
+        self.assertEqual((str(raised.exception), raised.exception.cause), ("no number is left for a start",) * 2)
+
+    def test_a_conflict_whose_places_do_not_fit_has_their_number(self):
+        for count, words in ((7, "7 places"), (1, "1 place")):
+            texts = [json.dumps({f"n{number}": value for number in range(count)}) for value in (1, 2)]
+            for limit in (0, 2, 100):
+                with self.assertRaises(Conflict) as raised:
+                    mergejoin.join(texts, limit=limit)
+                self.assertEqual(str(raised.exception), f"conflict: patches 0 and 1 at {words}")
+
+    def test_a_place_is_as_it_is_in_the_text_and_the_words_escape_it(self):
+        """As docs/FROM-PYTHON.md says what may go to a terminal."""
+        with self.assertRaises(InputError) as raised:
+            mergejoin.join(['{"\\u0000\\u001b\\u007f\\u009b": 1.5}'])
+        error = raised.exception
+        self.assertEqual((error.place, ascii(error.place)), ("/\0\x1b\x7f\x9b", "'/\\x00\\x1b\\x7f\\x9b'"))
+        self.assertEqual(str(error), 'patch 0: number not whole at "/\\u0000\\u001b\x7f\x9b"')
 
     def test_texts_may_come_from_a_generator(self):
         self.assertEqual(mergejoin.join(text for text in ("{}", b"{}", bytearray(b"{}"), memoryview(b" {} ")[1:])), "{}")

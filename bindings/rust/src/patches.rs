@@ -32,7 +32,7 @@ const NO_PLACES: usize = 0;
 /// That two conflict is a state: it takes, and reads, all further patches, so that a text that is not a document is an error
 /// in every order.
 ///
-/// If memory runs out before a patch is joined, it is *pending*: it is taken, and each later call first makes it good. So the
+/// If memory runs out before a patch is joined, it is *pending*: it is taken, and each later call first tries again. So the
 /// calls that read take `&mut self` too.
 ///
 /// It may move to another thread, and serves one thread at a time: it is `Send`, and not `Sync`.
@@ -55,7 +55,7 @@ pub enum Added {
     Joined,
     /// They are taken, and two of all that was taken conflict, now or since earlier. [`Patches::text`] reports where.
     Conflict,
-    /// They are taken; memory ran out before they are joined. The next call makes that good.
+    /// They are taken; memory ran out before they are joined. Each later call tries again.
     Pending,
 }
 

@@ -48,12 +48,14 @@ fn escaped_in(rest: &mut Chars<'_>) -> char {
     }
 }
 
-/// Shows the places of a conflict after ` at `, and how many more there are.
+/// Shows the places of a conflict after ` at `, and how many more there are. Without a place that is how many there are.
 pub(crate) fn show(to: &mut fmt::Formatter<'_>, places: &[String], total: usize) -> fmt::Result {
-    write!(to, " at {}", Quoted(places))?;
-    match total.saturating_sub(places.len()) {
-        0 => Ok(()),
-        more => write!(to, " and {more} more"),
+    match (places, total.saturating_sub(places.len())) {
+        ([], 0) => Ok(()),
+        ([], 1) => to.write_str(" at 1 place"),
+        ([], total) => write!(to, " at {total} places"),
+        (_, 0) => write!(to, " at {}", Quoted(places)),
+        (_, more) => write!(to, " at {} and {more} more", Quoted(places)),
     }
 }
 

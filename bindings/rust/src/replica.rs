@@ -29,7 +29,7 @@ const PART: usize = 4096;
 /// # Ok::<(), Error>(())
 /// ```
 ///
-/// If memory runs out before a patch is shown, it is *pending*: it is received, and each later call first makes it good.
+/// If memory runs out before a patch is shown, it is *pending*: it is received, and each later call first tries again.
 /// So the calls that read take `&mut self` too.
 ///
 /// A replica may move to another thread, and serves one thread at a time: it is `Send`, and not `Sync`.
@@ -60,7 +60,7 @@ pub struct Replica {
 pub enum Received {
     /// It is received, and shown.
     Taken,
-    /// It is received; memory ran out before it is shown. The next call makes that good.
+    /// It is received; memory ran out before it is shown. Each later call tries again.
     Pending,
 }
 

@@ -28,6 +28,14 @@ fn nested(length: usize, names: usize, value: u8) -> String {
 }
 
 #[test]
+fn a_conflict_with_no_place_shows_how_many_there_are() {
+    let two = [r#"{"a":1,"b":1}"#, r#"{"a":2,"b":2}"#];
+    let shown = |limit, patches: [&str; 2]| within(limit).join(patches).unwrap_err().to_string();
+    assert_eq!(shown(0, two), "conflict: patches 0 and 1 at 2 places");
+    assert_eq!(shown(0, ["1", "2"]), "conflict: patches 0 and 1 at 1 place");
+}
+
+#[test]
 fn short_texts_take_no_more_than_the_limit_allows() {
     // A document that is copied into itself: each copy doubles it.
     let copies = vec![r#"{"op":"copy","from":"","path":"/a/-"}"#; 60].join(",");

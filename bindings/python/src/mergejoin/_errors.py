@@ -1,9 +1,13 @@
 """Why there is no text."""
 
 import json
-from typing import Any, List, Optional, Tuple, Union
+from collections.abc import Mapping, Set
+from typing import Any, Iterable, List, Optional, Tuple, TypeVar, Union
 
 from . import _library
+
+_Item = TypeVar("_Item")
+_OF_A_DECISION = "no number is left for a start"
 
 
 class MergejoinError(Exception):
@@ -36,8 +40,9 @@ class Conflict(MergejoinError):
     def __str__(self) -> str:
         which = "two patches" if self.first is None else f"patches {self.first} and {self.second}"
         places = [json.dumps(place, ensure_ascii=False) for place in self.places]
-        more = [f"{self.total - len(places):,} more"] if self.total > len(places) else []
-        return f"conflict: {which} at {', '.join(places + more)}"
+        if self.total > len(places):
+            places.append(f"{self.total - len(places):,} {'more' if places else 'places' if self.total > 1 else 'place'}")
+        return f"conflict: {which}" + (f" at {', '.join(places)}" if places else "")
 
 
 class NoPatches(MergejoinError):
@@ -51,6 +56,8 @@ class Refused(MergejoinError):
     """An operation of a JSON Patch can't be done.
 
     operation is its number, and cause is "into itself", "remove of root", "missing", "no place", "too deep" or "test failed".
+
+    Of PatchLog.decide() there is no operation: its number is 0, and cause "no number is left for a start".
     """
 
     operation: int
@@ -61,7 +68,7 @@ class Refused(MergejoinError):
         self.operation, self.cause = operation, cause
 
     def __str__(self) -> str:
-        return f"operation {self.operation}: {self.cause}"
+        return self.cause if self.cause == _OF_A_DECISION else f"operation {self.operation}: {self.cause}"
 
 
 class Malformed(MergejoinError):
@@ -102,16 +109,19 @@ class TooLarge(MergejoinError):
     """The result, or something that is made on the way to it, is larger than the limit.
 
     number is, of patch(), that of the operation whose result weighs more; of rewrite(), how many of its operations fit; and else 0.
+
+    key is that of the patches whose pairs are too large, if mergejoin.dask met it, and else None.
     """
 
     number: int
+    key: Any = None
 
     def __init__(self, number: int = 0) -> None:
         super().__init__(number)
         self.number = number
 
     def __str__(self) -> str:
-        return "too large"
+        return "too large" if self.key is None else f"conflicts of {self.key!r}: too large"
 
 
 class Pending(MergejoinError):
@@ -157,6 +167,13 @@ class InputError(MergejoinError, ValueError):
         else:
             which = f"patch {self.number}" if self.what == "patch" else self.what
         return f"{which}: {self.why}" + ("" if self.place is None else f" at {json.dumps(self.place, ensure_ascii=False)}")
+
+
+def ordered(given: Iterable[_Item], what: str) -> Iterable[_Item]:
+    """Return what is given in the place of a list, of which it may be any that has an order: not a mapping, nor a set, nor one text."""
+    if isinstance(given, (str, bytes, bytearray, memoryview, Mapping, Set)):
+        raise TypeError(f"{what} are to be given one by one, as in a list, and not as {type(given).__name__}")
+    return given
 
 
 def _words_and_place(text: str, length: int) -> Tuple[str, Optional[str]]:

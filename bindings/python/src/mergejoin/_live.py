@@ -161,6 +161,8 @@ class Patches:
 
     def add_all(self, other: "Patches") -> None:
         """Take all that another Patches was given, which stays as it is. It costs what the other's join costs."""
+        if not isinstance(other, Patches):
+            raise TypeError(f"another Patches is wanted, not {type(other).__name__}")
         taken = _library.Patches()
         taken.from_kept(other._kept())
         self._held.combine(taken)

@@ -4,12 +4,16 @@ import json
 from typing import Iterable, List, Optional, Tuple, TypeVar, Union, overload
 
 from . import _library
-from ._errors import InputError, Missing
+from ._errors import InputError, Missing, TooLarge, ordered
 
 Given = Union[str, bytes, bytearray, memoryview]
 Pair = Tuple[int, int, List[str]]
 _Default = TypeVar("_Default")
 _ABSENT = object()
+# The number of a later start, whose patches a log reads and does not store.
+_EARLY = 1
+# The numbers of the texts of conflicts() after which its limit is looked at.
+_LOOKED_AT = {2**power for power in range(4, 64)}
 
 
 def join(texts: Iterable[Given], *, limit: Optional[int] = None) -> str:
@@ -120,15 +124,26 @@ def conflicts(texts: Iterable[Given], *, limit: Optional[int] = None) -> List[Pa
     [(0, 2, ['/a', '/b'])]
 
     A text that conflicts with no other costs what it is long; one that does may cost what all texts are long. InputError is raised if a
-    text is not a document, and TooLarge if the list, as a JSON text, is longer than the limit.
+    text is not a document, and TooLarge if the list, as a JSON text, is longer than the limit. With a limit that is looked at each time that
+    the texts are twice as many. So no much longer list is made, if the texts are in no order.
     """
-    if isinstance(texts, (str, bytes, bytearray)):
-        raise TypeError("texts are to be given one by one, as in a list, and not as one text")
-    log = _library.PatchLog(0, "null")
-    for number, text in enumerate(texts):
+    log, fault = _library.PatchLog(0, "null"), None
+    for number, text in enumerate(ordered(texts, "texts")):
         try:
-            log.receive(0, number, 0, text)
+            log.receive(0 if fault is None else _EARLY, number, 0, text)
         except InputError as error:
             raise InputError("patch", number, error.why, error.place) from None
+        if limit is not None and number in _LOOKED_AT and fault is None:
+            fault = _too_large(log, limit)
+    if fault:
+        raise fault
     pairs = json.loads(log.conflicts(limit))
     return [(pair["first"][0], pair["second"][0], pair["places"]) for pair in pairs]
+
+
+def _too_large(log: _library.PatchLog, limit: int) -> Optional[TooLarge]:
+    try:
+        log.conflicts(limit)
+    except TooLarge as error:
+        return error
+    return None

@@ -10,14 +10,17 @@ There may be very many keys, with one short text each. What costs most then is o
 are in one piece, with a separator after each text but the last, and the pieces of a share are in one text.
 
 A key and those that equal it have to go to one share on every machine. So the share of a str, or of a subclass, depends on its
-characters, and that of a number on its value: 1, 1.0, True, Decimal(1) and Fraction(1) are one key. Keys of other kinds, as
-tuples, go to one share all together. If there are many of those, make a str of each.
+characters, and that of a number on its value: 1, 1.0, True, Decimal(1) and Fraction(1) are one key. What equals one of these, as a
+UserString or numpy.bool_, has its share. Keys of other kinds, as tuples, go to one share all together. If there are many of those, make
+a str of each.
 """
 
 import contextlib
+import inspect
 import math
 import numbers
 import pickle
+import random
 import zlib
 from collections import defaultdict
 from itertools import chain
@@ -29,7 +32,7 @@ from dask.bag import Bag
 from dask.base import tokenize
 from dask.highlevelgraph import HighLevelGraph
 
-from . import Conflict, InputError, conflicts, join
+from . import Conflict, InputError, TooLarge, conflicts, join
 
 _Given = Union[str, bytes]
 # The texts of a key that were not read, in one piece; or a str, their join, if they were joined before they moved.
@@ -45,6 +48,9 @@ _Graph = Dict[Tuple[Any, ...], Tuple[Any, ...]]  # of Dask: tasks by their keys
 
 # The separators of the texts of a key, and of keys and of their pieces. No document has these characters.
 _OF_TEXTS, _OF_KEYS = "\0", "\1"
+
+# The kinds of keys that equal no str and no number.
+_APART = (tuple, bytes, frozenset, type(None))
 
 # How many shares there are at most, and tasks that give a share its part of a partition, if the caller does not say it.
 _SHARES, _TASKS = 32, 50_000
@@ -78,10 +84,10 @@ def join_by_key(bag: Bag, split_out: Optional[int] = None, split_every: Optional
     task on the way takes what split_every partitions have for split_every shares. Without it that number is the square root of
     split_out. If it is given, there are two levels in any case, and with 1 or False one.
     """
-    return _by_key(bag, "join", _joins, split_out, split_every, joins=True)
+    return _by_key(bag, "join", (_joins,), split_out, split_every, joins=True)
 
 
-def conflicts_by_key(bag: Bag, split_out: Optional[int] = None) -> Bag:
+def conflicts_by_key(bag: Bag, split_out: Optional[int] = None, limit: Optional[int] = 4_000_000) -> Bag:
     """Return, of a bag of (key, text of a patch), the bag of (key, pairs) of the keys of which two patches conflict.
 
     The pairs are a list of (text, text, places), each once and sorted, and so are the texts of a pair. The places are those of
@@ -95,15 +101,19 @@ def conflicts_by_key(bag: Bag, split_out: Optional[int] = None) -> Bag:
     As with join_by_key(), nothing depends on partitions, orders and repeats, a text that is not a document raises InputError with
     its key, and the result has split_out partitions.
 
+    Of n patches that all conflict there are n * (n - 1) / 2 pairs. So TooLarge is raised, with the key, if the pairs of a key are longer
+    than the limit: as mergejoin.conflicts() has it, in bytes, of which a pair with a short place takes some 50. None is no limit.
+
     All texts of a key come together before one is read. So give it the texts of the keys for which join_by_key() has None, if the
     log is large.
     """
-    return _by_key(bag, "conflicts", _conflicting, split_out, None, joins=False)
+    return _by_key(bag, "conflicts", (_conflicting, limit), split_out, None, joins=False)
 
 
-def _by_key(bag: Bag, word: str, made: Callable[[_Pieces], List[Any]], split_out: Optional[int], split_every: Optional[int],
-            joins: bool) -> Bag:
-    """Gives the bag of what is made of the texts of each share. If joins, those of a partition may be joined before they move."""
+def _by_key(bag: Bag, word: str, made: Tuple[Any, ...], split_out: Optional[int], split_every: Optional[int], joins: bool) -> Bag:
+    """Gives the bag of what a function makes of the texts of each share and of what it is given besides. If joins, those of a partition may
+    be joined before they move.
+    """
     shares = max(1, min(bag.npartitions, _SHARES)) if split_out is None else split_out
     if split_every is None:
         width = math.ceil(math.sqrt(shares)) if bag.npartitions * shares > _TASKS else 1
@@ -111,13 +121,15 @@ def _by_key(bag: Bag, word: str, made: Callable[[_Pieces], List[Any]], split_out
         width = split_every or 1
     if shares < 1 or width < 1:
         raise ValueError(f"split_out and split_every have to be 1 or more, not {split_out} and {split_every}")
-    token = tokenize(bag, word, shares, width)
-    name, group = f"{word}-by-key-{token}", f"group-by-key-{token}"
+    token = tokenize(bag, word, shares, width, made[1:])
+    name, group, texts = f"{word}-by-key-{token}", f"group-by-key-{token}", f"texts-of-{tokenize(bag)}"
     graph, pickles = _moves(group, bag.npartitions, shares, width)
     for place in range(bag.npartitions):
-        graph[group, place] = (_grouped, (bag.name, place), shares, width, joins)
+        # Of a partition that can be read once several results share a list. If there is one alone, Dask leaves the list out.
+        graph[texts, place] = (list, (_unread, (bag.name, place)))
+        graph[group, place] = (_grouped, (texts, place), shares, width, joins)
     for share, keys in enumerate(pickles):
-        graph[name, share] = (made, (_gathered, keys))
+        graph[name, share] = (made[0], (_gathered, keys), *made[1:])
     return Bag(HighLevelGraph.from_collections(name, graph, dependencies=[bag]), name, shares)
 
 
@@ -143,13 +155,31 @@ def _transposed(sets: List[List[bytes]]) -> List[Tuple[bytes, ...]]:
     return list(zip(*sets))
 
 
+def _unread(partition: Iterable[Any]) -> Iterable[Any]:
+    """Gives a partition, unless it is a generator that another result of Dask has read, or a part of it."""
+    if inspect.isgenerator(partition) and inspect.getgeneratorstate(partition) != inspect.GEN_CREATED:
+        raise ValueError("a partition is a generator that was read before: if several results are made of it, it has to be a list")
+    return partition
+
+
 def _share_of(key: Any, shares: int) -> int:
     """Gives the share of a key, which is the same in each process, and for keys that are equal."""
-    if isinstance(key, str):
-        return zlib.crc32(str.encode(key, "utf-8", "surrogatepass")) % shares
-    if isinstance(key, numbers.Number) and key == key:  # the hash of NaN differs from process to process
-        return zlib.crc32(b"%d" % hash(key)) % shares
+    like = key if isinstance(key, (str, numbers.Number, *_APART)) else _like(key)
+    if isinstance(like, str):
+        return zlib.crc32(str.encode(like, "utf-8", "surrogatepass")) % shares
+    if isinstance(like, numbers.Number) and like == like:  # the hash of NaN differs from process to process
+        return zlib.crc32(b"%d" % hash(like)) % shares
     return 0
+
+
+def _like(key: Any) -> Any:
+    """Gives the str or the number that a key of another kind equals, as a UserString or numpy.bool_ does, or nothing."""
+    for kind in (str, int, float):
+        with contextlib.suppress(Exception):  # whatever a class raises that is no such thing
+            like = kind(key)
+            if like == key:
+                return like
+    return None
 
 
 def _shares_of(keys: Iterable[Any], shares: int) -> List[int]:
@@ -285,18 +315,21 @@ def _joins(pieces: _Pieces) -> List[Tuple[Any, Optional[str]]]:
     return [(key, piece if isinstance(piece, str) else _with_key(_join_or_none, key, _texts_of(piece))) for key, piece in pieces.items()]
 
 
-def _conflicting(pieces: _Pieces) -> List[Tuple[Any, List[_Pair]]]:
-    found = ((key, _with_key(_pairs, key, _texts_of(piece))) for key, piece in pieces.items())
+def _conflicting(pieces: _Pieces, limit: Optional[int]) -> List[Tuple[Any, List[_Pair]]]:
+    found = ((key, _with_key(lambda texts: _pairs(texts, limit), key, _texts_of(piece))) for key, piece in pieces.items())
     return [(key, pairs) for key, pairs in found if pairs]
 
 
 def _with_key(call: Callable[[List[_Text]], _Made], key: Any, texts: List[_Text]) -> _Made:
-    """Calls with the texts of a key. An InputError has the key, and the number 0: that in one of many orders says nothing."""
+    """Calls with the texts of a key, which an error has then, and the number 0: that in one of many orders says nothing."""
     try:
         return call(texts)
     except InputError as error:
-        error.key, error.number = key, 0
-        raise
+        of_key: Union[InputError, TooLarge] = InputError(error.what, 0, error.why, error.place)
+    except TooLarge:
+        of_key = TooLarge()
+    of_key.key = key
+    raise of_key
 
 
 def _join_or_none(texts: List[bytes]) -> Optional[str]:
@@ -314,6 +347,15 @@ def _join_or_pair(texts: List[str]) -> List[str]:
         return [texts[conflict.first], texts[conflict.second]]
 
 
-def _pairs(texts: List[bytes]) -> List[_Pair]:
+def _pairs(texts: List[bytes], limit: Optional[int]) -> List[_Pair]:
+    """Gives the pairs in order. If there is a limit, the texts are given in none, so that of the first ones so many conflict as of all."""
     given = sorted(set(texts))
-    return [(given[first].decode("utf-8"), given[second].decode("utf-8"), places) for first, second, places in conflicts(given)]
+    if limit is not None:
+        random.Random(len(given)).shuffle(given)
+    found = conflicts(given, limit=limit)
+    shown = [text.decode("utf-8") for text in given]
+    pairs: List[_Pair] = []
+    for first, second, places in found:
+        one, other = shown[first], shown[second]
+        pairs.append((one, other, places) if one < other else (other, one, places))
+    return sorted(pairs)

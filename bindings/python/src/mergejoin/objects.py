@@ -18,10 +18,10 @@ need not become objects.
 """
 
 import json
-from typing import Any, Iterable, Iterator, List, Mapping, Optional, Tuple
+from typing import Any, Iterable, Iterator, List, Optional, Tuple
 
 from . import _library, _texts
-from ._errors import InputError, Missing
+from ._errors import InputError, Missing, ordered
 from ._texts import Given, Pair
 
 __all__ = ["join", "replay", "merge", "rewrite", "patch", "get", "conflicts"]
@@ -106,8 +106,8 @@ def conflicts(patches: Iterable[object], *, limit: Optional[int] = None) -> List
 
 
 def _all_written(patches: Iterable[object]) -> List[bytes]:
-    if not isinstance(patches, (list, tuple)) and isinstance(patches, (str, bytes, bytearray, Mapping)):
-        raise TypeError("patches are to be given one by one, as in a list, and not as one patch")
+    if not isinstance(patches, (list, tuple)):
+        patches = ordered(patches, "patches")
     return [_written(patch, "patch", number) for number, patch in enumerate(patches)]
 
 
