@@ -87,6 +87,9 @@ find_jsonpatch() {
   fi
 }
 
+# The sizes that are measured, which rise. With BENCH_SMALL, which the tests set, it is the first alone.
+sizes_of() { if [[ -n ${BENCH_SMALL-} ]]; then echo "$1"; else echo "$*"; fi; }
+
 # The programs: each with its name in the table and its command, of words with no space.
 titles=() commands=()
 add() { titles+=("$1") commands+=("$2"); }

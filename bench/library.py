@@ -13,7 +13,8 @@ import subprocess
 import sys
 import tempfile
 
-RUNS = 7
+SMALL = bool(os.environ.get("BENCH_SMALL"))  # as the tests set it: each call once, with few texts
+RUNS = 1 if SMALL else 7
 
 
 def record(number):
@@ -43,12 +44,12 @@ def patches_of_40(count):
 
 def rows():
     """Gives the title, the job, the texts and how often it is done in the shorter run and more in the longer."""
-    for names in (1, 5, 20, 100, 500):
+    for names in (1, 5, 20, 100, 500)[:1 if SMALL else None]:
         yield f"merge of {names} names", "merge", merge_of(names), 10, 10 + 20_000 // (names + 20)
     yield "merge of a patch of 40 bytes into 45 kB", "merge", [long_start(45_000), *patches_of_40(1)], 10, 40
-    for count in (2, 10, 100, 1_000, 100_000):
+    for count in (2, 10, 100, 1_000, 100_000)[:1 if SMALL else None]:
         yield f"join of {count:,} texts of 33 bytes", "join", texts_of_33(count), 1, 1 + max(1, 2_000 // count)
-    for size, words in ((8_000, "8 kB"), (800_000, "0.8 MB")):
+    for size, words in ((8_000, "8 kB"), (800_000, "0.8 MB"))[:1 if SMALL else None]:
         yield f"receive 40 bytes on {words}", "receive", [long_start(size), *patches_of_40(10_100)], 100, 10_100
 
 

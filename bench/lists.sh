@@ -14,7 +14,7 @@ columns() {
 }
 
 rows=()
-for patches in 10 100 1000 2000; do
+for patches in $(sizes_of 10 100 1000 2000); do
   say "$patches patches .."
   name=lists.$patches
   python3 list_inputs.py "$patches" start >"$name.start"

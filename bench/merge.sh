@@ -22,7 +22,7 @@ if python=$(interpreter python3); then
   add "$(python3 --version)" "$python merge.py"
 fi
 
-for names in 100 1000 10000; do
+for names in $(sizes_of 100 1000 10000); do
   python3 inputs.py "$names" >"$names.json"
   measure "$names"
 done

@@ -30,7 +30,9 @@ if [[ $python ]]; then
   add "$("$python" --version), jsonpatch $version" "$(interpreter "$python") patch.py"
 fi
 
-python3 patch_inputs.py 1000 300000 >patch.json
+operations=1000
+if [[ -n ${BENCH_SMALL-} ]]; then operations=10; fi
+python3 patch_inputs.py "$operations" $((300 * operations)) >patch.json
 measure patch
 
 print_head "Millions of instructions by callgrind, of 1,000 operations on a document of 300 kB; in brackets, how many times those of C++."

@@ -3,7 +3,7 @@
 # 10 kB, 100 kB and 1 MB, of this program, of the same in Rust with serde_json (bench/rust),
 # and where they do the job of jq and of Python with jsonpatch. What they print must be the
 # same. The figures are kept in bench/sizes.txt, of which docs/pictures/draw.py draws the
-# plot of docs/COST.md.
+# plot of docs/COST.md. With BENCH_SMALL, which the tests set, they are printed, of the least size.
 set -euo pipefail
 
 # shellcheck source=bench/common.sh
@@ -43,17 +43,21 @@ programs() {
 
 programs
 add jq 'jq -cS -f merge.jq'
-job 'merge' points merge 10000 100000 1000000
+read -ra bytes < <(sizes_of 10000 100000 1000000)
+job 'merge' points merge "${bytes[@]}"
 programs
 add jsonpatch "$(interpreter "$python") patch.py"
-job 'patch' edits patch 10000 100000 1000000
+job 'patch' edits patch "${bytes[@]}"
 programs
 add jq "jq -cS --arg path $place -f get.jq"
-job 'get' document "get $place" 10000 100000 1000000
+job 'get' document "get $place" "${bytes[@]}"
 programs
-job 'join' join join 85 850 8500
-job 'replay' replay replay 60 600 6000
-job 'rewrite' touched rewrite 10000 100000 1000000
+read -ra patches < <(sizes_of 85 850 8500)
+job 'join' join join "${patches[@]}"
+read -ra patches < <(sizes_of 60 600 6000)
+job 'replay' replay replay "${patches[@]}"
+job 'rewrite' touched rewrite "${bytes[@]}"
 
-printf '%s\n' "${rows[@]}" >"$top/bench/sizes.txt"
+if [[ -n ${BENCH_SMALL-} ]]; then kept=/dev/stdout; else kept=$top/bench/sizes.txt; fi
+printf '%s\n' "${rows[@]}" >"$kept"
 exit "$differ"
