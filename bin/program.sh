@@ -8,6 +8,7 @@ built_by=$top/out/mergejoin.kit    # the toolchain that proved and built it
 unchanged=$top/out/mergejoin.list  # the names, times and sizes of all these when they were seen to have those checksums
 facts='%p %T@ %C@ %s\n'            # of a file. A program can set the time of a file's text, but not that of its last change (%C@)
 kinds=(-name '*.rt' -o -name '*.antt' -o -name crates.txt -o -path HANDLES)
+left_out=(-regex 'crates/[^/]*/out' -prune) # by rt: a directory of this name within a crate's modules has sources, as any other
 
 # Standard error may be closed.
 say() { printf 'mergejoin: %s\n' "$1" >&2 || true; }
@@ -22,7 +23,7 @@ list_roots() {
 sources_sum() (
   CDPATH='' cd -- "$1" || exit
   list_roots
-  find "${roots[@]}" -name out -prune -o -type f \( "${kinds[@]}" \) -print0 | LC_ALL=C sort -z | xargs -0 sha256sum | sum_of
+  find "${roots[@]}" "${left_out[@]}" -o -type f \( "${kinds[@]}" \) -print0 | LC_ALL=C sort -z | xargs -0 sha256sum | sum_of
 )
 
 # The checksum of standard input.
@@ -37,7 +38,7 @@ sum_of() {
 built_list() (
   CDPATH='' cd -- "$top" || exit
   list_roots
-  find "${roots[@]}" out/mergejoin -name out -prune -o -type f \( "${kinds[@]}" -o -path out/mergejoin \) -printf "$facts"
+  find "${roots[@]}" out/mergejoin "${left_out[@]}" -o -type f \( "${kinds[@]}" -o -path out/mergejoin \) -printf "$facts"
 )
 
 # Those of the sources and of all directories in which they are: they show whether something was changed or moved meanwhile, also
@@ -45,7 +46,7 @@ built_list() (
 sources_state() (
   CDPATH='' cd -- "$top" || exit
   list_roots
-  find "${roots[@]}" -name out -prune -o \( -type f \( "${kinds[@]}" \) -o -path crates -o -type d -path 'crates/*/*' \) \
+  find "${roots[@]}" "${left_out[@]}" -o \( -type f \( "${kinds[@]}" \) -o -path crates -o -type d -path 'crates/*/*' \) \
     -printf "%i $facts"
 )
 

@@ -46,8 +46,8 @@ reads_input() {
 directory='' run=''
 command -v rt >/dev/null || { say "the Rattle toolchain's command rt is not on the PATH"; exit; }
 [[ -r $top/crates.txt && -d $top/crates/mergejoin ]] || { say "$top has no crates to run"; exit; }
-say "this answer comes from the sources as they are, not from the proved program, and takes a minute or two; bin/prove \
-proves and builds it in some 15 minutes, and later calls take 12 ms"
+say "this answer comes from the sources as they are, not from the proved program, and takes a minute or two, each time until \
+bin/prove has run once: that proves and builds the program in some 15 minutes, and a call takes 12 ms then"
 trap 'rm -rf -- "$directory"; exit 125' EXIT
 for signal in INT TERM HUP; do
   # shellcheck disable=SC2064

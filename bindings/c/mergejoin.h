@@ -103,7 +103,8 @@ enum mergejoin_status {
   /** The document, or the start, is not one: "not JSON", "number not whole" (a document has whole numbers from -2^63 to
    * 2^64 - 1) or "too deep" (a document has at most 126 levels). After the last two follow " at " and the JSON Pointer of the first
    * such number, or of the first array or object that is too deep; `total` is then how many bytes the words have before that.
-   * Of a kept form also "not kept patches", and no place. */
+   * The pointer has the names of the text as they are, with control characters and NUL: escape it before it reaches a terminal or
+   * a log. Of a kept form also "not kept patches", and no place. */
   MERGEJOIN_DOCUMENT = 5,
   /** The patch of number `first` is not a document, by the same words, with the same place; the number of a single patch is 0. */
   MERGEJOIN_PATCH = 6,
@@ -116,7 +117,7 @@ enum mergejoin_status {
    * this. */
   MERGEJOIN_NO_MEMORY = 9,
   /** "pending": the handle has received or taken the patch, and memory ran out before it could be shown. The patch is not lost, and
-   * need not be given again: the next call that reads the handle goes on with it, and returns this if memory runs out again. */
+   * need not be given again: each later call that reads the handle, or gives it a patch, goes on with it first. */
   MERGEJOIN_PENDING = 10,
   /** The result, or something on the way to it, is larger than the limit: no text, and the buffer is unchanged. Of a JSON Patch
    * `first` is the number of the operation whose result weighs more; of a rewriting, how many of its operations fit; and 0 if the
@@ -160,8 +161,8 @@ typedef struct mergejoin_patch_log {
   void *held;
 } mergejoin_patch_log;
 
-/** Who made a patch, and the sender's number for it. Identities are ordered by the sender, and then by the number. A sender gives each
- * of its patches for one start a number of its own. */
+/** Who made a patch, and the sender's number for it. Identities are ordered by the sender, and then by the number. A sender counts its
+ * patches through all starts, and never uses a number twice. Many readers of JSON change a number of 2^53 or more. */
 typedef struct mergejoin_identity {
   uint64_t sender;
   uint64_t number;
@@ -289,7 +290,8 @@ mergejoin_reply mergejoin_patches_add(mergejoin_patches *patches, const uint8_t 
                                       size_t capacity, size_t limit);
 
 /**
- * Takes what the other has taken, which has taken nothing then. The other is another handle.
+ * Takes what the other has taken, which has taken nothing then. The other is another handle. The join that weighs less is added to
+ * the other one, whichever of the handles has it: it costs what that join costs.
  *
  * MERGEJOIN_NO_MEMORY (neither has changed), MERGEJOIN_CONFLICT (taken), MERGEJOIN_PENDING (taken).
  */

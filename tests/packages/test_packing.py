@@ -109,8 +109,18 @@ def test_another_user_runs_and_installs_what_was_built(visitor):
     assert (status, err) == (0, "") and out.startswith(f"installed {visitor.own}/prefix/bin/mergejoin\n")
 
 
+def test_the_crate_is_packed_by_the_cargo_of_the_distribution(needs, one, tmp_path):
+    """Not by one that is in front of it on the PATH, as a user may have: it may make other bytes."""
+    needs("/usr/bin/cargo")
+    (tmp_path / "cargo").write_text("#!/bin/sh\nexit 9\n")
+    (tmp_path / "cargo").chmod(0o755)
+    ended = calls.run([PACKAGE, tmp_path / "made"], setting={"PATH": f"{tmp_path}:{os.environ['PATH']}"}, limit=LIMIT)
+    is_made(ended, tmp_path / "made")
+    assert (tmp_path / "made" / CRATE).read_bytes() == (one / CRATE).read_bytes()
+
+
 def test_another_user_packs_what_was_built(visitor, one):
-    """The same bytes. Cargo may be for root alone."""
+    """The same bytes. If the distribution's cargo is not installed, another may be for root alone."""
     status, _, err = visitor.run(visitor.top / "bin/package", visitor.own / "packed")
     assert (status, err) in ((0, ""), (0, "package: no crate for Rust, since cargo is not on the PATH\n"))
     names = [name for name in MADE[:-1] if name != CRATE or not err]

@@ -11,8 +11,8 @@ from calls import TOP, run
 
 CRATES = ["mp_tree", "mp_pointer", "mp_patch", "mp_merge", "mp_cli", "mergejoin"]
 UNPROVED = """\
-mergejoin: this answer comes from the sources as they are, not from the proved program, and takes a minute or two; \
-bin/prove proves and builds it in some 15 minutes, and later calls take 12 ms
+mergejoin: this answer comes from the sources as they are, not from the proved program, and takes a minute or two, each time until \
+bin/prove has run once: that proves and builds the program in some 15 minutes, and a call takes 12 ms then
 """
 
 

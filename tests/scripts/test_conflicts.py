@@ -4,11 +4,15 @@ Files, arguments and streams that are wrong are reported.
 
 import itertools
 import json
+import os
 import random
 import shutil
+import signal
+import subprocess
 
 import pytest
 from calls import TOP
+from copies import UNPROVED
 from model import places
 
 CONFLICTS = TOP / "bin/conflicts"
@@ -29,6 +33,10 @@ FILES = {
     "half": json.dumps({"x": "x" * 600_000}),
     "other half": json.dumps({"y": "y" * 600_000}),
     "exact": json.dumps("x" * (1_048_576 - 3)),
+    "one": json.dumps({"n": 1, "x": "x" * 250_000}),
+    "two": json.dumps({"n": 1, "y": "y" * 250_000}),
+    # The first two fit into half of an input. All three make an array that is as long as an input may be, and one byte longer.
+    **{f"fills {more}": json.dumps({"n": 2, "z": "z" * (1_048_576 + more - 3 * len('{"n": 1, "x": ""}') - 500_000 - 4)}) for more in (0, 1)},
     **{f"third {number}": json.dumps({f"{number}": "x" * 400_000, "n": number // 2}) for number in range(3)},
 }
 LIMIT = "too long"
@@ -46,6 +54,9 @@ CALLS = {
     "many pairs": (["red", "bigger", "blue", "big", "round"], ['red\tblue\t"/colour"', 'bigger\tblue\t"/size"',
                                                                'bigger\tbig\t"/a~1b/~0", "/size/x"', 'blue\tbig\t"/size"']),
     "files after --": (["--", "--help", "\ttab"], ['--help\t\\u0009tab\t"/size"']),
+    "a name with a control character first": (["--", "\ttab", "--help"], ['\\u0009tab\t--help\t"/size"']),
+    "as long as an input": (["one", "two", "fills 0"], ['one\tfills 0\t"/n"', 'two\tfills 0\t"/n"']),
+    "longer by one byte": (["one", "two", "fills 1"], ['one\tfills 1\t"/n"', 'two\tfills 1\t"/n"']),
     "a file named by an option among others": (["blue", "--help"], ['blue\t--help\t"/size"']),
     "longer than an input": (["third 0", "third 1", "third 2"], ['third 0\tthird 2\t"/n"', 'third 1\tthird 2\t"/n"']),
     "no file": ([], "usage: conflicts FILE.."),
@@ -86,6 +97,19 @@ def test_pairs_are_listed_or_it_is_said_what_is_wrong(run, words, said):
 @pytest.mark.parametrize("line,status,out,err", SHELL.values(), ids=SHELL)
 def test_a_line_of_the_shell_ends_as_it_should(run, line, status, out, err):
     assert run(line, shell=True) == (status, out, err)
+
+
+def test_a_module_next_to_the_script_is_not_run(counted):
+    (counted.directory / "json.py").write_text("print('mine')")
+    assert counted.pairs([{"a": 1}, {"a": 2}]) == ('000\t001\t"/a"\n', 3)
+
+
+def test_an_interrupt_ends_it_with_no_line(run, tmp_path):
+    run(["mkfifo", "pipe"])
+    with subprocess.Popen([CONFLICTS, "pipe"], cwd=tmp_path, stdout=subprocess.PIPE, stderr=subprocess.PIPE, start_new_session=True) as conflicts:
+        with open(tmp_path / "pipe", "wb"):  # (which waits until it is opened there too)
+            os.killpg(conflicts.pid, signal.SIGINT)
+            assert (*conflicts.communicate(timeout=20), conflicts.returncode) == (b"", b"", -signal.SIGINT)
 
 
 @pytest.mark.parametrize("word", ["--help", "-h"])
@@ -141,3 +165,24 @@ def test_random_patches_give_the_pairs_that_a_model_gives(counted, seed):
     out, runs = counted.pairs(patches)
     assert out == "".join(lines)
     assert runs <= 1 + 5 * len(lines)
+
+
+def test_where_nothing_is_proved_each_run_is_counted(copy):
+    for name in "abc":
+        copy.write(name, json.dumps({name: "x" * 400_000}))
+    status, out, err = copy.run(["bin/conflicts", "a", "b", "c"], cwd=copy.top)
+    first, rest = err[:len(UNPROVED)], err[len(UNPROVED):]
+    assert (status, out, first) == (0, "", UNPROVED)
+    assert rest == "".join(f"conflicts: run {number} of bin/mergejoin ..\n" for number in range(2, rest.count("\n") + 2))
+    assert copy.asked() == ["try in mergejoin"] * (rest.count("\n") + 1)
+
+
+def test_that_nothing_is_proved_is_said_before_the_answer(copy):
+    """While the first run goes on."""
+    copy.write("a", "{}")
+    setting = {**os.environ, **copy.setting, "SLOW": str(copy.directory / "slow")}
+    with subprocess.Popen([copy.top / "bin/conflicts", copy.top / "a"], env=setting, stderr=subprocess.PIPE, start_new_session=True) as run:
+        assert run.stderr.readline().decode() == UNPROVED
+        assert run.poll() is None
+        os.killpg(run.pid, signal.SIGTERM)
+    assert run.returncode == -signal.SIGTERM

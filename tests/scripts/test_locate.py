@@ -161,6 +161,8 @@ TEXTS = [
     (b'{"a":1,\n "b":}', NO_JSON, "2:6: not JSON: Expecting value"),
     (b'["\xff"]', NO_JSON, "1:3: not UTF-8"),
     ('["é",\n"'.encode() + b'\xc3"]', NO_JSON, "2:2: not UTF-8"),
+    ('["é", '.encode() + b'\xc3"]', NO_JSON, "1:7: not UTF-8"),
+    ('["é", x]'.encode(), NO_JSON, "1:7: not JSON: Expecting value"),
     (b"[" * 126 + b"]" * 127, NO_JSON, "1:253: not JSON: Extra data"),
     (b"[" * 127 + b"]" * 127, NO_JSON, "1:127: more than 126 levels"),
     (b"[" * 126 + b"]" * 126, NO_JSON, None),
@@ -309,6 +311,13 @@ def test_values_that_differ_in_the_order_of_their_names_do_not_conflict(located)
         (located.directory / name).write_text(text)
     says = 'locate: these files have no conflict at "/a": the line is of others\n'
     assert located.run([LOCATE, "join", "ordered", "reversed"], given=CONFLICT) == (1, "", says)
+
+
+def test_a_module_next_to_the_script_is_not_run(located):
+    (located.directory / "json.py").write_text("print('mine')")
+    (located.directory / "locate").write_bytes(LOCATE.read_bytes())
+    (located.directory / "locate").chmod(0o755)
+    assert located.run(["./locate", "join", "one"], given=CONFLICT)[1:] == located.run([LOCATE, "join", "one"], given=CONFLICT)[1:]
 
 
 def test_an_interrupt_ends_it_with_no_line(located):

@@ -73,7 +73,7 @@ def test_a_changed_source_has_no_program_until_it_is_put_back(proved, name, old,
     assert proved.join() == PROVED
 
 
-@pytest.mark.parametrize("name", ["crates/mp_tree/src/more.rt", "crates/mp_tree/proofs/More.antt", "HANDLES"])
+@pytest.mark.parametrize("name", ["crates/mp_tree/src/more.rt", "crates/mp_tree/src/out/more.rt", "crates/mp_tree/proofs/More.antt", "HANDLES"])
 def test_a_new_source_has_no_program_until_it_is_removed(proved, name):
     proved.write(name, "//! One.\n")
     assert proved.join() == NOT_PROVED
@@ -86,8 +86,9 @@ def test_what_rt_makes_is_no_source(proved):
     assert proved.join() == PROVED
 
 
-def test_changed_sources_are_built_again(proved):
-    proved.write("crates/mp_tree/src/lib.rt", "//! Two.\n")
+@pytest.mark.parametrize("name", ["lib.rt", "out/more.rt"])
+def test_changed_sources_are_built_again(proved, name):
+    proved.write(f"crates/mp_tree/src/{name}", "//! Two.\n")
     assert proved.run(["bin/prove"]) == (0, "", built())
     assert proved.asked() == CRATES
     assert proved.join() == PROVED

@@ -6,6 +6,7 @@ import os
 import pathlib
 import re
 import subprocess
+import time
 
 import pytest
 from copies import CRATES, PROVED, built
@@ -107,15 +108,47 @@ def test_if_one_file_cannot_be_put_in_its_place_none_is(prefix, name):
     assert not list((prefix.path / name).iterdir())
 
 
+def tool(prefix, name, text):
+    """A command in front of the distribution's: the setting in which it is found."""
+    directory = prefix.copy.directory / "tools"
+    directory.mkdir()
+    (directory / name).write_text(text)
+    (directory / name).chmod(0o755)
+    return {"PATH": f"{directory}:{prefix.copy.setting['PATH']}"}
+
+
+@pytest.mark.parametrize("can_be_put", [True, False])
+def test_on_a_file_system_without_second_names_all_or_none_are_put(prefix, can_be_put):
+    (prefix.path / "bin").mkdir(parents=True)
+    (prefix.path / "bin/mergejoin").write_bytes(b"older")
+    if not can_be_put:
+        prefix.copy.write("bin/prove", f"#!/bin/sh\nmkdir -p '{prefix.path}/share/doc/mergejoin/REPLICAS.md'\n", 0o755)
+    status = prefix.copy.run(["bin/install", prefix.path], tool(prefix, "ln", "#!/bin/sh\nexit 1\n"))[0]
+    assert (status, can_be_put) in ((0, True), (1, False))
+    if can_be_put:
+        prefix.has_all()
+    else:
+        assert prefix.left() == {"bin/mergejoin": b"older"}
+
+
+def test_if_it_is_ended_while_files_are_put_all_are(prefix):
+    """By an mv that takes its time."""
+    setting = {**os.environ, **prefix.copy.setting, **tool(prefix, "mv", '#!/bin/sh\n: >"$0.ran"\nsleep 0.1\nexec /bin/mv "$@"\n')}
+    words = [prefix.copy.top / "bin/install", prefix.path]
+    with subprocess.Popen(words, env=setting, stdout=subprocess.DEVNULL, stderr=subprocess.DEVNULL) as install:
+        while install.poll() is None and not (prefix.copy.directory / "tools/mv.ran").exists():
+            time.sleep(0.01)
+        install.terminate()
+    prefix.has_all()
+
+
 def test_what_cannot_be_put_back_is_kept_and_named(prefix):
     """The disk turns read-only, as it were, once the first file is put."""
-    program, tools = prefix.path / "bin/mergejoin", prefix.copy.directory / "tools"
+    program = prefix.path / "bin/mergejoin"
     program.parent.mkdir(parents=True)
     program.write_text("older")
-    tools.mkdir()
-    (tools / "mv").write_text('#!/bin/sh\n[ ! -e "$0.ran" ] || exit 1\n: >"$0.ran"\nexec /bin/mv "$@"\n')
-    (tools / "mv").chmod(0o755)
-    status, out, err = prefix.copy.run(["bin/install", prefix.path], {"PATH": f"{tools}:{prefix.copy.setting['PATH']}"})
+    setting = tool(prefix, "mv", '#!/bin/sh\n[ ! -e "$0.ran" ] || exit 1\n: >"$0.ran"\nexec /bin/mv "$@"\n')
+    status, out, err = prefix.copy.run(["bin/install", prefix.path], setting)
     where = re.fullmatch(f"mergejoin: what was {program} is (.*)\n", err)
     assert (status, out) == (1, "") and pathlib.Path(where[1]).read_text() == "older"
     assert [name for name in prefix.left() if "/.mergejoin." not in name] == ["bin/mergejoin"]
