@@ -11,8 +11,9 @@
  *
  * A short text can ask for all memory: a JSON Patch doubles a document with each copy, and two patches may conflict at very many
  * places. So call with the texts of strangers under a limit, which is the last argument of each call: no result of an operation,
- * no rewriting, no list of places and no answer then takes more, as MERGEJOIN_TOO_LARGE and MERGEJOIN_CONFLICT say. What a call
- * takes to read its texts is bounded by their lengths, which the caller knows: see "owns" below.
+ * no rewriting, no list of places or of pairs and no answer then takes more, as MERGEJOIN_TOO_LARGE, MERGEJOIN_CONFLICT and
+ * MERGEJOIN_MORE say. What a call takes to read its texts is bounded by their lengths, which the caller knows: see "owns" below. What
+ * a patch log takes is bounded by the number of its patches, which mergejoin_patch_log_count returns.
  *
  * What a call
  *
@@ -26,8 +27,8 @@
  *            360 while the worst patches that were tried are joined or rewritten; and in addition what copies and the answer
  *            take: up to four times the limit, and up to eight if nearly each character of the answer has to be escaped. Without a
  *            limit, for n bytes that are read, the places of a conflict and the edits of a rewriting may have n * n / 15
- *            bytes. If malloc or realloc fails, the
- *            status is MERGEJOIN_NO_MEMORY or MERGEJOIN_PENDING. A handle holds mostly 1 to 50 bytes for each byte of its start
+ *            bytes. If malloc or realloc fails, the status is MERGEJOIN_NO_MEMORY or MERGEJOIN_PENDING, or a conflict on a
+ *            handle has no text. A handle holds mostly 1 to 50 bytes for each byte of its start
  *            and of its patches, and up to 350 for many small objects, of which it has each twice: a replica in the join and in
  *            the document, a patch log by itself, and in the join if it conflicts with no other.
  *   needs    256 KiB of stack: the deepest documents take up to 176 KiB of them.
@@ -89,7 +90,9 @@ enum mergejoin_status {
   MERGEJOIN_RESULT = 0,
   /** A JSON array of the first places at which patches conflict, as JSON Pointers, in order; `total` is how many there are in all.
    * The array has all of them if they weigh at most the limit together and it has at most so many bytes; else as many as do. If the
-   * limit is less than the 2 bytes of an array there is no text. A place weighs 128, 8 for each token, and the bytes of its
+   * limit is less than the 2 bytes of an array there is no text, nor is there one on a handle if memory ran out for it. A
+   * mergejoin_patches holds the first places of its conflict that weigh at most 65,536 together: `total` is how many these are, and
+   * MERGEJOIN_MORE says if there are more. A place weighs 128, 8 for each token, and the bytes of its
    * spelling. Of join and replay these are the places of the patches `first` < `second`. Of a decision they are those of the
    * patches with the identities `first` and `second` of those that are chosen; of each other call of a handle the numbers are 0. */
   MERGEJOIN_CONFLICT = 1,
@@ -142,10 +145,13 @@ typedef struct mergejoin_reply {
   size_t first;
   size_t second;
   size_t total; /**< of a conflict: how many places there are; of words that a place follows: how many bytes they have */
-  size_t spare; /**< 0 in this version, as `flags` is */
+  size_t spare; /**< 0 in this version */
   uint32_t status; /**< an enum mergejoin_status */
-  uint32_t flags;
+  uint32_t flags; /**< MERGEJOIN_MORE or 0 */
 } mergejoin_reply;
+
+/** In `flags`: there are more places than `total`, or more pairs or places than mergejoin_patch_log_conflicts has in its text. */
+#define MERGEJOIN_MORE 1u
 
 /* Handles. Each is {0} (in C++ {}) before its first use, is never copied, and is freed once it is not needed. To free it again, or to
  * free {0}, is harmless: after that it is {0}. */
@@ -243,7 +249,8 @@ mergejoin_reply mergejoin_replica_start(mergejoin_replica *replica, const uint8_
 
 /**
  * Receives a merge patch: afterwards the document shows it. If it conflicts with what was received, the text has the places at
- * which it does, and the replica is as it was. A patch that was received before changes nothing.
+ * which it does, and the replica is as it was; if memory ran out for the places, it is a conflict still, with MERGEJOIN_MORE and a
+ * `total` of 0. A patch that was received before changes nothing.
  *
  * MERGEJOIN_NOT_STARTED, MERGEJOIN_PATCH, MERGEJOIN_CONFLICT, MERGEJOIN_NO_MEMORY (not received), MERGEJOIN_PENDING (received).
  */
@@ -280,8 +287,8 @@ mergejoin_reply mergejoin_replica_get(mergejoin_replica *replica, const uint8_t 
 void mergejoin_replica_free(mergejoin_replica *replica);
 
 /**
- * Takes a merge patch. {0} has taken none. If two of those taken conflict, now or since an earlier call, the text is the places of the
- * conflict that was seen first; the patch is taken too.
+ * Takes a merge patch. {0} has taken none. If two of those taken conflict, now or since an earlier call, the text is the first places
+ * of the conflict that was seen first; the patch is taken too.
  *
  * MERGEJOIN_PATCH, MERGEJOIN_NO_MEMORY (not taken), MERGEJOIN_CONFLICT (taken), MERGEJOIN_PENDING (taken).
  */
@@ -308,8 +315,8 @@ static inline
 mergejoin_reply mergejoin_patches_text(mergejoin_patches *patches, uint8_t *out, size_t capacity, size_t limit);
 
 /**
- * What was taken, as a text that mergejoin_patches_from_kept reads: empty if nothing was taken, else the join, or `!` and the JSON
- * array of places if two conflict.
+ * What was taken, as a text that mergejoin_patches_from_kept reads: empty if nothing was taken, else the join, or, if two conflict, the
+ * JSON array of the places that are held: behind `!` if these are all, and behind `!+` if there are more.
  *
  * MERGEJOIN_PENDING, MERGEJOIN_NO_MEMORY, MERGEJOIN_TOO_LARGE.
  */
@@ -362,12 +369,22 @@ mergejoin_reply mergejoin_patch_log_document(mergejoin_patch_log *log, uint8_t *
 
 /**
  * Each two patches that conflict, as a JSON array in the order of their identities, the lower one first:
- * [{"first":[1,1],"second":[2,1],"places":["/a"]}] of number 1 of sender 1 and number 1 of sender 2.
+ * [{"first":[1,1],"second":[2,1],"places":["/a"]}] of number 1 of sender 1 and number 1 of sender 2. Within the limit these are the
+ * pairs that come first, as many as weigh at most the limit together and make a text of at most so many bytes; a pair weighs 64 and
+ * its places, and the last one may have the first of its places alone. MERGEJOIN_MORE says if a pair or a place is left out.
  *
  * MERGEJOIN_NOT_STARTED, MERGEJOIN_NO_MEMORY, MERGEJOIN_TOO_LARGE.
  */
 static inline
 mergejoin_reply mergejoin_patch_log_conflicts(mergejoin_patch_log *log, uint8_t *out, size_t capacity, size_t limit);
+
+/**
+ * How many patches the log stores, as the text of a whole number. A caller that bounds this bounds what the log takes.
+ *
+ * MERGEJOIN_NOT_STARTED, MERGEJOIN_NO_MEMORY, MERGEJOIN_TOO_LARGE.
+ */
+static inline
+mergejoin_reply mergejoin_patch_log_count(mergejoin_patch_log *log, uint8_t *out, size_t capacity, size_t limit);
 
 /**
  * Ends the start by the patches with the chosen identities, of which no two conflict: what they make of it is the new start, whose
@@ -475,6 +492,7 @@ MERGEJOIN_WITHOUT_NULL_(mergejoin_patch_log_receive,
                         (log, epoch, sender, number, MERGEJOIN_TEXT_(patch, length), MERGEJOIN_OUT_))
 MERGEJOIN_OF_NONE_(mergejoin_patch_log_document, mergejoin_patch_log)
 MERGEJOIN_OF_NONE_(mergejoin_patch_log_conflicts, mergejoin_patch_log)
+MERGEJOIN_OF_NONE_(mergejoin_patch_log_count, mergejoin_patch_log)
 MERGEJOIN_WITHOUT_NULL_(mergejoin_patch_log_decide,
                         (mergejoin_patch_log *log, const mergejoin_identity *chosen, size_t count, uint8_t *out,
                          size_t capacity, size_t limit),
@@ -618,23 +636,19 @@ static inline char *mergejoin_patches_kept_new(mergejoin_patches *patches, size_
   MERGEJOIN_NEW_(MERGEJOIN_DOCUMENT_, mergejoin_patches_kept(patches, out, capacity, limit));
 }
 
-/* The text of a call that has taken patches. If it was cut, it is the places of a conflict, which are read again; if memory runs
- * out then, the patches are taken all the same, and the status is MERGEJOIN_PENDING. */
+/* The text of a call that has taken patches. If it was cut, it is the places of a conflict, which are read again; if there is no
+ * memory for them, there is no text. */
 static inline char *mergejoin_taken_(mergejoin_patches *patches, uint8_t *out, size_t capacity, size_t limit,
                                      mergejoin_reply *reply) {
   if (out && reply->length >= capacity) {
     size_t longer = reply->length + 1;
     uint8_t *places = MERGEJOIN_AS_(uint8_t *, malloc(longer));
-    mergejoin_no_memory_(reply);
-    if (places) *reply = mergejoin_patches_text(patches, places, longer, limit);
-    if (reply->status != MERGEJOIN_NO_MEMORY) {
+    reply->length = 0;
+    if (places) {
+      *reply = mergejoin_patches_text(patches, places, longer, limit);
       free(out);
       return mergejoin_text_in_(places, longer, reply);
     }
-    free(places);
-    reply->status = MERGEJOIN_PENDING;
-    reply->length = sizeof "pending" - 1;
-    memcpy(out, "pending", reply->length);
   }
   return mergejoin_text_in_(out, capacity, reply);
 }
@@ -688,6 +702,10 @@ static inline char *mergejoin_patch_log_document_new(mergejoin_patch_log *log, s
 
 static inline char *mergejoin_patch_log_conflicts_new(mergejoin_patch_log *log, size_t limit, mergejoin_reply *reply) {
   MERGEJOIN_NEW_(MERGEJOIN_PART_, mergejoin_patch_log_conflicts(log, out, capacity, limit));
+}
+
+static inline char *mergejoin_patch_log_count_new(mergejoin_patch_log *log, size_t limit, mergejoin_reply *reply) {
+  MERGEJOIN_NEW_(MERGEJOIN_WORDS_, mergejoin_patch_log_count(log, out, capacity, limit));
 }
 
 static inline char *mergejoin_patch_log_decide_new(mergejoin_patch_log *log, const mergejoin_identity *chosen, size_t count,

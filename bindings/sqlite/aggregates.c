@@ -83,24 +83,13 @@ static bool make_joined(sqlite3_context *context, Group *group) {
   return true;
 }
 
-/* Returns the limit of the places of a conflict, of which each is at most twice as long as the text that it is in. */
-static size_t limit_of_places(const Texts *texts) {
-  Cursor cursor = {0};
-  mergejoin_text text;
-  size_t most = 0;
-
-  while (texts_next(texts, &cursor, &text))
-    if (text.length > most) most = text.length;
-  return 2 * most + SHOWN_PLACES;
-}
-
-/* Gives the join, or what is wrong with it. */
+/* Gives the join, or what is wrong with it. Of a conflict the first places are held, as few as weigh 64 kB. */
 static void give_join(sqlite3_context *context, Group *group, bool is_null_of_conflict) {
   mergejoin_reply reply;
   char *text;
 
   if (group->is_conflict && is_null_of_conflict) return;
-  text = mergejoin_patches_text_new(&group->joined, group->is_conflict ? limit_of_places(&group->texts) : longest(context), &reply);
+  text = mergejoin_patches_text_new(&group->joined, group->is_conflict ? SIZE_MAX : longest(context), &reply);
   if (text && reply.status == MERGEJOIN_RESULT) {
     give(context, text, reply.length, free);
     return;

@@ -61,13 +61,15 @@ size_t first_places(const char *places, size_t length, size_t most, size_t bytes
 static void write_places(sqlite3_str *message, const char *places, const mergejoin_reply *reply) {
   size_t count, end = first_places(places, reply->length, MOST_PLACES, MOST_BYTES, &count);
   sqlite3_uint64 shown = count, total = reply->total;
+  const bool is_more = (reply->flags & MERGEJOIN_MORE) != 0;
+  const char *than = is_more ? "more than " : "";
 
   if (shown == 0) {
-    sqlite3_str_appendf(message, ": %llu place%s", total, total == 1 ? "" : "s");
+    sqlite3_str_appendf(message, ": %s%llu place%s", than, total, total == 1 ? "" : "s");
     return;
   }
   sqlite3_str_appendf(message, ": %.*s]", (int)end, places);
-  if (shown < total) sqlite3_str_appendf(message, ", the first %llu of %llu places", shown, total);
+  if (shown < total || is_more) sqlite3_str_appendf(message, ", the first %llu of %s%llu places", shown, than, total);
 }
 
 /* Writes bytes of UTF-8 as a JSON string. */

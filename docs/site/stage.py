@@ -38,6 +38,8 @@ What `mergejoin.h` says of the library for C. `man 3 mergejoin` shows the same.
 
 {statuses}
 
+{flags}
+
 ## Calls
 
 {general}
@@ -108,6 +110,11 @@ def type_of(name, hidden):
     return directive("struct", name, *[] if hidden else (":members:", ":undoc-members:"))
 
 
+def defined(pattern):
+    """Gives the directives of the numbers and texts that the header defines by names like that."""
+    return "\n\n".join(directive("define", name) for name in re.findall(rf"^#define ({pattern}) ", HEADER.read_text("utf-8"), re.M))
+
+
 def c_api():
     """Gives the page of the calls of C."""
     header, blank = Header(), "\n\n"
@@ -119,7 +126,7 @@ def c_api():
         types=blank.join([*shown(header.types["mergejoin_replica"][:-1]), *(type_of(*found) for found in types)]),
         statuses=directive("enum", "mergejoin_status"), calls=blank.join(calls), helpers=blank.join(shown(header.helpers)),
         owned=blank.join(directive("function", call.name) for call in header.owned),
-        version=blank.join(directive("define", name) for name in re.findall(r"^#define (MERGEJOIN_VERSION\w*)", HEADER.read_text("utf-8"), re.M)))
+        flags=defined("MERGEJOIN_MORE"), version=defined(r"MERGEJOIN_VERSION\w*"))
 
 
 def link_manual(html, names):

@@ -40,7 +40,7 @@ class Six:
         function = getattr(self.library, f"mergejoin_{name}")
         function.restype = Reply
         reply = function(*words, self.buffer, ctypes.c_size_t(len(self.buffer)), ctypes.c_size_t(limit))
-        assert reply.length <= len(self.buffer)
+        assert reply.length <= len(self.buffer) and reply.spare == reply.flags == 0
         return Said(reply.status, reply.first, reply.second, reply.total, self.buffer[:reply.length])
 
     def of_texts(self, name, texts):

@@ -1,4 +1,4 @@
-// Makes calls as a script says, and prints of each its name, the status, the numbers and the length of the reply, how many requests
+// Makes calls as a script says, and prints of each its name, the status, the numbers, the flags and the length of the reply, how many requests
 // to the heap were refused meanwhile, how many bytes of stack it took, how many the block has that a helper made, and the text.
 // Standard input has a command a line:
 //
@@ -10,8 +10,8 @@
 //   heap                        prints how many blocks were taken and not given back, their bytes, the most bytes since the last
 //                               such command, and the most memory of the process in kB
 //
-// With the argument `new` the calls are made by the header's helpers, with `stack` each is made on a stack of its own, and with
-// `exact` the buffer ends where its block does, as each text does.
+// With the argument `new` the calls are made by the header's helpers, with `stack` each is made on a stack of its own, with `exact` the
+// buffer ends where its block does, as each text does, and with `asked` all requests to the heap are counted, and not those refused.
 #include <malloc.h>
 #include <stdio.h>
 #include <string.h>
@@ -21,7 +21,7 @@
 #include "painted_stack.h"
 #include "refusing_heap.h"
 
-enum { HANDLES = 8, MOST_TEXTS = 1 << 14, MOST_NUMBERS = 1 << 10, MOST_BYTES = 1 << 24 };
+enum { HANDLES = 8, MOST_TEXTS = 1 << 14, MOST_NUMBERS = 1 << 10, MOST_BYTES = 1 << 25 };
 
 static mergejoin_replica replicas[HANDLES];
 static mergejoin_patches sets[HANDLES];
@@ -32,7 +32,7 @@ static mergejoin_identity *chosen;
 static char line[MOST_BYTES];
 static uint8_t *buffer;
 static size_t count, given, capacity = 4096, limit = SIZE_MAX, behind = 32;
-static int is_new, is_stack, is_each;
+static int is_new, is_stack, is_asked, is_each;
 
 typedef struct call {
   char name[16];
@@ -59,6 +59,7 @@ typedef struct call {
   CALL(log_receive, patch_log_receive, log, *numbers, numbers[1], numbers[2], TEXT(0)) \
   CALL(log_document, patch_log_document, log)               \
   CALL(log_conflicts, patch_log_conflicts, log)             \
+  CALL(log_count, patch_log_count, log)                     \
   CALL(log_decide, patch_log_decide, log, chosen, given / 2) \
   CALL(join_of, join, texts, count)                         \
   CALL(replay_of, replay, TEXT(0), texts + 1, count - 1)    \
@@ -87,22 +88,25 @@ static void make(void *made) {
   if (!strcmp(it->name, "log_free")) mergejoin_patch_log_free(log);
 }
 
-// Whether the buffer has dots after the text, and fields without a meaning are 0.
+// Whether what has no meaning is 0.
+static int is_plain(const mergejoin_reply *reply) { return !reply->spare && !(reply->flags & ~MERGEJOIN_MORE); }
+
+// Whether that is so, and the buffer has dots after the text.
 static int is_intact(const mergejoin_reply *reply) {
   size_t written = reply->length < capacity ? reply->length : capacity;
   for (size_t place = written; place < capacity + behind; place += 1) {
     if (buffer[place] != '.') return 0;
   }
-  return !reply->spare && !reply->flags;
+  return is_plain(reply);
 }
 
 static void print(const call *it, size_t stack) {
   const mergejoin_reply *reply = &it->reply;
   size_t shown = reply->length < capacity || it->made ? reply->length : capacity;
-  int is_well = it->made ? !it->made[shown] && !reply->spare && !reply->flags : is_intact(reply);
+  int is_well = it->made ? !it->made[shown] && is_plain(reply) : is_intact(reply);
   if (is_new && it->is_made && !it->made != (reply->status == MERGEJOIN_NO_MEMORY)) is_well = 0;
-  printf("%s %u %zu %zu %zu %zu %zu %zu %zu %s ", it->name, reply->status, reply->first, reply->second, reply->total,
-         reply->length, refusals, stack, malloc_usable_size(it->made), is_well ? "intact" : "spoilt");
+  printf("%s %u %zu %zu %zu %u %zu %zu %zu %zu %s ", it->name, reply->status, reply->first, reply->second, reply->total, reply->flags,
+         reply->length, is_asked ? requests : refusals, stack, malloc_usable_size(it->made), is_well ? "intact" : "spoilt");
   fwrite(it->made ? it->made : (const char *)buffer, 1, is_new && !it->made ? 0 : shown, stdout);
   putchar('\n');
 }
@@ -187,6 +191,7 @@ static int obey(void) {
 int main(int words, char **word) {
   is_new = words == 2 && !strcmp(word[1], "new");
   is_stack = words == 2 && !strcmp(word[1], "stack");
+  is_asked = words == 2 && !strcmp(word[1], "asked");
   if (words == 2 && !strcmp(word[1], "exact")) behind = 0;
   while (fgets(line, sizeof line, stdin)) {
     if (!obey()) return printf("what is %s", line), 2;

@@ -1,5 +1,6 @@
 """Runs driver.c, which makes calls as a script says, gives their replies, and compares them."""
 
+import itertools
 import json
 import os
 import pathlib
@@ -17,6 +18,7 @@ WRAPPED = ["-Wl,--wrap=malloc,--wrap=realloc,--wrap=free", "-pthread"]
 MEMCHECK = ["valgrind", "-q", "--error-exitcode=9", "--leak-check=full", "--show-leak-kinds=all", "--errors-for-leak-kinds=all"]
 RESULT, CONFLICT, NO_PATCHES, REFUSED, MISSING, DOCUMENT, PATCH = range(7)
 POINTER, NO_MEMORY, PENDING, TOO_LARGE, NOT_STARTED = range(8, 13)
+MORE = 1
 
 
 class Reply(typing.NamedTuple):
@@ -25,6 +27,7 @@ class Reply(typing.NamedTuple):
     first: int
     second: int
     total: int
+    flags: int
     length: int
     refusals: int
     stack: int
@@ -33,7 +36,8 @@ class Reply(typing.NamedTuple):
     text: str
 
     def said(self):
-        return [self.status, self.first, self.second, self.total, self.text]
+        """The status, the numbers, after them the flags if they are not 0, and the text."""
+        return [self.status, self.first, self.second, self.total, *([self.flags] if self.flags else []), self.text]
 
 
 class Heap(typing.NamedTuple):
@@ -91,7 +95,7 @@ def replies(words, lines):
         if line.startswith("heap "):
             heaps.append(Heap(*map(int, line.split()[1:])))
             continue
-        name, *numbers, intact, text = re.fullmatch(r"(\w+)" + r" (\d+)" * 8 + r" (\w+) (.*)", line).groups()
+        name, *numbers, intact, text = re.fullmatch(r"(\w+)" + r" (\d+)" * 9 + r" (\w+) (.*)", line).groups()
         found.append(Reply(name, *map(int, numbers), intact, text))
     assert all(it.intact == "intact" for it in found), next(it for it in found if it.intact != "intact")
     return found, heaps
@@ -117,7 +121,7 @@ def last(words, scripts):
 
 
 def compare(words, rows):
-    """Each row is replied to as it says: the lines before, the call, and the status, the numbers and the text of its reply."""
+    """Each row is replied to as it says: the lines before, the call, and what its reply says."""
     rows = list(rows)
     found = last(words, ([*before, line] for before, line, *_ in rows))
     for (_, line, *wanted), reply in zip(rows, found):
@@ -136,6 +140,11 @@ def compare_in_buffers(words, rows, sizes=lambda length: range(length + 3)):
     print(f"{len(found)} calls in buffers")
 
 
+def weight_of(place):
+    """What a place weighs, as the header says it."""
+    return 128 + 8 * place.count("/") + len(place.encode())
+
+
 def within(limit, wanted, weight=lambda place: 0):
     """Gives what is said within a limit, of what is said without one: of a conflict as many of the first places as weigh at most
     the limit together and make no longer an array, and no text if that of none is longer."""
@@ -150,6 +159,34 @@ def within(limit, wanted, weight=lambda place: 0):
     return [status, *numbers, text]
 
 
+def pairs_within(limit, wanted):
+    """Gives the same of the pairs of a log that conflict: as many of the first as weigh at most the limit, each 64 and its places, of which
+    the last may have the first alone; and of these as many as make no longer a text."""
+    *numbers, text = wanted
+    left, listed, more = limit, [], False
+    for pair in json.loads(text):
+        count = count_within(left - PAIR_WEIGHT, map(weight_of, pair["places"]))
+        more = count < len(pair["places"])
+        if left < PAIR_WEIGHT:
+            break
+        listed.append(pair | {"places": pair["places"][:count]})
+        left -= PAIR_WEIGHT + sum(map(weight_of, pair["places"][:count]))
+        if more:
+            break
+    texts = [json.dumps(listed[:count], ensure_ascii=False, separators=(",", ":")) for count in range(len(listed) + 1)]
+    text = max((it for it in texts if len(it.encode()) <= limit), key=len, default=None)
+    if text is None:
+        return [TOO_LARGE, 0, 0, 0, ""]
+    return [*numbers, *([MORE] if more or text != texts[-1] else []), text]
+
+
+def count_within(limit, weights):
+    """How many of the first weights are at most the limit together."""
+    return sum(total <= limit for total in itertools.accumulate(weights))
+
+
+# What a pair weighs beside its places.
+PAIR_WEIGHT = 64
 # What a script begins with, and what frees each handle that scripts use.
 PLAIN = ["capacity 4096", f"limit {2**64 - 1}"]
 FREED = [call(name, number) for name in ("free", "drop", "log_free") for number in range(3)]

@@ -63,6 +63,7 @@ HOLDS(MERGEJOIN_NO_MEMORY == 9);
 HOLDS(MERGEJOIN_PENDING == 10);
 HOLDS(MERGEJOIN_TOO_LARGE == 11);
 HOLDS(MERGEJOIN_NOT_STARTED == 12);
+HOLDS(MERGEJOIN_MORE == 1);
 
 static const uint8_t five[] = {'5'}, none[] = {'[', ']'};
 static mergejoin_reply reply; // of the last helper
@@ -182,6 +183,9 @@ static void patch_log(void) {
   made(mergejoin_patch_log_conflicts_new(&it, SIZE_MAX, &reply), MERGEJOIN_RESULT, "[]");
   ends(mergejoin_patch_log_document(&it, NOTHING, 0, 0), MERGEJOIN_TOO_LARGE, 0);
   ends(mergejoin_patch_log_conflicts(&it, NOTHING, 0, SIZE_MAX), MERGEJOIN_RESULT, 2);
+  made(mergejoin_patch_log_count_new(&it, SIZE_MAX, &reply), MERGEJOIN_RESULT, "1");
+  ends(mergejoin_patch_log_count(&it, NOTHING, 0, SIZE_MAX), MERGEJOIN_RESULT, 1);
+  ends(mergejoin_patch_log_count(&it, NOTHING, 0, 0), MERGEJOIN_TOO_LARGE, 0);
   made(mergejoin_patch_log_decide_new(&it, &one, 1, SIZE_MAX, &reply), MERGEJOIN_RESULT, "");
   made(mergejoin_patch_log_decide_new(&it, &one, 1, SIZE_MAX, &reply), MERGEJOIN_MISSING, "missing");
   ends(mergejoin_patch_log_decide(&it, NOTHING, 0, NOTHING, 0, SIZE_MAX), MERGEJOIN_RESULT, 0);

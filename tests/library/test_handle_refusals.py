@@ -5,7 +5,7 @@ handle has then is as the status says, a call that is made again gives what it s
 import pytest
 
 import driving
-from driving import CONFLICT, NO_MEMORY, PENDING, RESULT, call, each
+from driving import CONFLICT, MORE, NO_MEMORY, PENDING, RESULT, call, each
 
 START = {"k": 0, "m": {"x": [1, "two"]}, "n": {"o": {"p": None}}}
 ONE, NEXT = {"a": {"b": 1, "c": {"d": "text"}}, "k": None}, {"a": {"e": [1, {"f": 2}]}, "n": {"o": None}}
@@ -87,14 +87,19 @@ STAGES = {
 # What takes a patch, and can leave it pending, by stage, but for those in which nothing is taken or nothing is to be made of it; and
 # what may come then.
 TAKES = [title for title, (_, line, _) in STAGES.items() if line.split()[0] in ("receive", "add", "combine")]
-NEVER_PENDING = {"receive of a conflict", "receive of no document", "first add", "add again", "add of no document", "combine with none",
-                 "combine of none"}
+NEVER_PENDING = {*(title for title in TAKES if "conflict" in title), "receive of no document", "first add", "add again", "add of no document",
+                 "combine with none", "combine of none"}
 THEN = {
     "receive": ["document", "joined", call("get", 0, b"/a"), call("receive", 0, APART), call("receive", 0, OTHER), call("start", 0, 5), call("free")],
     "add": ["text", "kept", call("add", 0, APART), call("add", 0, OTHER), call("combine", 0, b"", 1), call("combine", 1, b"", 0),
             call("from", 0, NEXT), call("drop")],
 }
 THEN["combine"] = THEN["add"]
+
+
+# What finds the places of a conflict. Without memory for them it is a conflict still, and patches hold none of them from then on.
+FINDS = {f"{what} {wide}conflict" for what in ("receive of a", "add of a", "combine with a") for wide in ("", "wide ")}
+WITHOUT_PLACES = call("from", 0, b"!+[]")
 
 
 def plain(reply):
@@ -120,6 +125,21 @@ def unrefused(words, *scripts):
     return [[plain(it) for it in found] for found in each(words, scripts)]
 
 
+def is_answer(reply, wanted):
+    """It is what is wanted; or a conflict without memory for the text of its places."""
+    return reply == wanted or (wanted.status == CONFLICT and reply == wanted._replace(length=0, text=""))
+
+
+def is_without_places(reply, wanted):
+    """It is a conflict without memory for its places."""
+    return wanted.status == reply.status == CONFLICT and (reply.total, reply.flags) == (0, MORE) and wanted.total and reply.text in ("", "[]")
+
+
+def placeless(driver, way, lines):
+    """What calls reply on patches that conflict and hold no place."""
+    return unrefused([driver, way], [WITHOUT_PLACES, *lines])[0][1:]
+
+
 @pytest.mark.parametrize("way", ["buffer", "new"])
 @pytest.mark.parametrize("title", STAGES)
 def test_after_an_allocation_failure_a_handle_has_what_the_status_says(driver, title, way):
@@ -128,19 +148,26 @@ def test_after_an_allocation_failure_a_handle_has_what_the_status_says(driver, t
     wanted, untouched, changed = then[len(before)], there[len(before):], then[len(before) + 1:]
     seen = set()
     for number, how, (reply, *rest) in refused([driver, way], before, line, [*reads, line, *reads]):
-        seen.add(reply.status)
         state, again, finally_ = rest[:len(reads)], rest[len(reads)], rest[len(reads) + 1:]
+        # The first request of a helper is that of a long buffer, but for patches without a start. A short one serves too.
+        assert reply == wanted or (way, number, how) != ("new", 1, 0) or line.split()[0] in ("add", "combine", "from")
+        if is_without_places(reply, wanted):
+            seen.add("no places")
+            after = changed if line.startswith("receive") else placeless(driver, way, reads)
+            then = wanted if line.startswith("receive") else placeless(driver, way, [line])[0]
+            assert title in FINDS and state == finally_ == after and again == then, (number, how, reply, state, again)
+            continue
+        seen.add(reply.status)
         if reply.status == NO_MEMORY:
-            assert reply[2:6] == (0, 0, 0, 0) and reply.text == "" and state == untouched, (number, how, reply, state)
+            assert reply[2:7] == (0, 0, 0, 0, 0) and reply.text == "" and state == untouched, (number, how, reply, state)
         elif reply.status == PENDING:
             assert title in TAKES and reply.text == "pending" and state == changed, (number, how, reply, state)
         else:
-            assert reply == wanted and state == changed, (number, how, reply, state)
-        # The first request of a helper is that of a long buffer, but for patches without a start. A short one serves too.
-        assert reply == wanted or (way, number, how) != ("new", 1, 0) or line.split()[0] in ("add", "combine", "from")
+            assert is_answer(reply, wanted) and state == changed, (number, how, reply, state)
         assert again == (wanted if reply.status == NO_MEMORY else twice[len(before) + 1]), (number, how, again)
         assert finally_ == changed == twice[len(before) + 2:], (number, how, finally_)
-    print(f"{title}: statuses {sorted(seen)}")
+    assert ("no places" in seen) == (title in FINDS)
+    print(f"{title}: statuses {sorted(map(str, seen))}")
 
 
 @pytest.mark.parametrize("title", [title for title in TAKES if "wide" not in title])
@@ -160,8 +187,10 @@ def test_what_is_pending_is_not_lost(driver, title):
                 trouble = (title, number, how, then, place, refuses, reply, state)
                 if reply.status == NO_MEMORY:
                     assert state == untouched, trouble
+                elif is_without_places(reply, wanted):
+                    assert state == (changed if then.startswith("receive") else placeless(driver, "buffer", reads)), trouble
                 else:
-                    assert state == changed and (reply.status == PENDING or reply == wanted), trouble
+                    assert state == changed and (reply.status == PENDING or is_answer(reply, wanted)), trouble
 
 
 @pytest.mark.parametrize("title", STAGES)

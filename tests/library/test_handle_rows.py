@@ -2,13 +2,14 @@
 limit; and buffers of each size. What a call leaves is read by the calls after it.
 """
 
+import itertools
 import json
 
 import pytest
 
 import driving
-from driving import CONFLICT, DOCUMENT, MISSING, NO_PATCHES, NOT_STARTED, PATCH, POINTER, REFUSED, RESULT, TOO_LARGE, call, compare
-from driving import compare_in_buffers, each, last, within
+from driving import CONFLICT, DOCUMENT, MISSING, MORE, NO_PATCHES, NOT_STARTED, PATCH, POINTER, REFUSED, RESULT, TOO_LARGE, call, compare
+from driving import compare_in_buffers, each, last, pairs_within, weight_of, within
 
 START, ONE, TWO = {"k": 0, "m": {"x": [1]}}, {"a": {"b": 1}}, {"a": {"b": 2, "c": 3}, "d": None}
 STARTED = [call("start", 0, START)]
@@ -30,11 +31,12 @@ UNREAD = [(b"", "not JSON", None), (b"[", "not JSON", None), (b"1,2", "not JSON"
 UNPOINTED = [(b"foo", "no slash", 0), (b"/a~2", "bad tilde", 2), (b"/a~", "bad tilde", 2), (b"/a\xff", "not UTF-8", 2), (b"\xff", "not UTF-8", 0)]
 # Of a kept form the words alone are said.
 UNKEPT = [(b"!", "not JSON"), (b"![1.5]", "number not whole"), (b"!" + DEEP, "too deep"), *((text, words) for text, words, _ in UNREAD[1:])]
-UNKEPT += [(text, "not kept patches") for text in (b"![]", b"!5", b'!"/a"', b'!["a"]', b'!["/a",5]', b'!{"/a":1}', b'!["/~2"]')]
+UNKEPT += [(b"!+", "not JSON"), (b'! +["/a"]', "not JSON"), (b'!++["/a"]', "not JSON"), (b"!+[1.5]", "number not whole"), (b"!+" + DEEP, "too deep")]
+UNKEPT += [(text, "not kept patches") for text in (b"![]", b"!5", b'!"/a"', b'!["a"]', b'!["/a",5]', b'!{"/a":1}', b'!["/~2"]', b"!+5", b'!+["/a",5]')]
 
 
 def rows():
-    """Gives the calls before, the call, and the status, the numbers and the text of its reply."""
+    """Gives the calls before, the call, and what its reply says: the status, the numbers, the flags if they are not 0, and the text."""
     yield [], call("receive", 0, b"["), NOT_STARTED, 0, 0, 0, "not started"
     yield [], call("document"), NOT_STARTED, 0, 0, 0, "not started"
     yield [], call("joined"), NOT_STARTED, 0, 0, 0, "not started"
@@ -141,6 +143,13 @@ def keeps():
     yield [*ADDED, call("from", 0, b'!["/a"]')], call("kept"), RESULT, 0, 0, 0, '!["/a"]'
     yield [*ADDED, call("from", 0, b'!["/a"]')], call("add", 0, {"z": 1}), CONFLICT, 0, 0, 1, '["/a"]'
     yield [call("from", 0, b'!["/a"]')], call("text"), CONFLICT, 0, 0, 1, '["/a"]'
+    for text, total, array in ((b'!+["/a"]', 1, '["/a"]'), (b'!+ ["/a" , "/b"]', 2, '["/a","/b"]'), (b"!+[]", 0, "[]")):
+        yield ADDED, call("from", 0, text), CONFLICT, 0, 0, total, MORE, array
+        held = [*ADDED, call("from", 0, text)]
+        yield held, call("kept"), RESULT, 0, 0, 0, "!+" + array
+        yield held, call("text"), CONFLICT, 0, 0, total, MORE, array
+        yield held, call("add", 0, TWO), CONFLICT, 0, 0, total, MORE, array
+        yield [*held, *[call("add", 1, {"z": 1})]], call("combine", 1, b"", 0), CONFLICT, 0, 0, total, MORE, array
     for text, words in UNKEPT:
         yield ADDED, call("from", 0, text), DOCUMENT, 0, 0, 0, words
         yield [*ADDED, call("from", 0, text)], call("text"), RESULT, 0, 0, 0, JOINED
@@ -167,7 +176,7 @@ PAIR = '[{"first":[1,1],"second":[2,1],"places":["/a/b"]}]'
 
 
 def stores():
-    for line in (message(b"[", 1, 1), call("log_document"), call("log_conflicts"), decision()):
+    for line in (message(b"[", 1, 1), call("log_document"), call("log_conflicts"), call("log_count"), decision()):
         yield [], line, NOT_STARTED, 0, 0, 0, "not started"
         yield [*STORED, call("log_free")], line, NOT_STARTED, 0, 0, 0, "not started"
     for text, words, place in UNREAD:
@@ -183,6 +192,7 @@ def stores():
         if word != "stored":
             yield [*STORED, message(5, *numbers)], call("log_document"), RESULT, 0, 0, 0, APART
             yield [*STORED, message(5, *numbers)], call("log_conflicts"), RESULT, 0, 0, 0, PAIR
+        yield [*STORED, message(5, *numbers)], call("log_count"), RESULT, 0, 0, 0, "4" if word == "stored" else "3"
     for number in (0, MOST):
         started = [call("log_start", 0, START, numbers=[number])]
         yield started, message(ONE, number, 1, 1), RESULT, 0, 0, 0, "stored"
@@ -192,6 +202,7 @@ def stores():
     for started in (LOGGED, [*STORED, *LOGGED]):
         yield started, call("log_document"), RESULT, 0, 0, 0, '{"k":0,"m":{"x":[1]}}'
         yield started, call("log_conflicts"), RESULT, 0, 0, 0, "[]"
+        yield started, call("log_count"), RESULT, 0, 0, 0, "0"
     yield STORED, call("log_document"), RESULT, 0, 0, 0, APART
     yield STORED, call("log_conflicts"), RESULT, 0, 0, 0, PAIR
     last_one = [*STORED, message({"a": 5, "z": 2}, MOST, MOST)]
@@ -200,6 +211,9 @@ def stores():
     in_order = [pairs[0], pairs[1], pairs[2], pairs[3] + "]"]
     yield last_one, call("log_conflicts"), RESULT, 0, 0, 0, ",".join(in_order)
     yield last_one, call("log_document"), RESULT, 0, 0, 0, '{"k":0,"m":{"x":[1]}}'
+    # Identities so long that a pair with a place or none has more bytes than it weighs.
+    most = [*LOGGED, message({"a": 1, "b": 1}, MOST, MOST - 1), message({"a": 2, "b": 2}, MOST, MOST)]
+    yield most, call("log_conflicts"), RESULT, 0, 0, 0, f'[{{"first":[{MOST},{MOST - 1}],"second":[{MOST},{MOST}],"places":["/a","/b"]}}]'
     long = [*LOGGED, message(WIDE, 1, 1), message(WIDER, 2, 1)]
     yield long, call("log_conflicts"), RESULT, 0, 0, 0, f'[{{"first":[1,1],"second":[2,1],"places":{WIDE_PLACES}}}]'
 
@@ -211,6 +225,7 @@ def decides():
         decided = [*STORED, decision(*chosen)]
         yield decided, call("log_document"), RESULT, 0, 0, 0, SHOWN[:-1] + ',"z":1}'
         yield decided, call("log_conflicts"), RESULT, 0, 0, 0, "[]"
+        yield decided, call("log_count"), RESULT, 0, 0, 0, "0"
         yield decided, message(TWO, 2, 1), RESULT, 0, 0, 0, "late"
         yield decided, message(TWO, 8, 1, 1), RESULT, 0, 0, 0, "stored"
         yield decided, decision(one), MISSING, 0, 0, 0, "missing"
@@ -220,7 +235,7 @@ def decides():
         yield STORED, decision(*chosen), MISSING, number, 0, 0, "missing"
     for chosen, *numbers in (([one, two], 0, 1), ([two, one], 1, 0), ([apart, two, apart, two, one, one], 4, 1)):
         yield STORED, decision(*chosen), CONFLICT, *numbers, 1, PLACES
-        for line, shown in ((call("log_document"), APART), (call("log_conflicts"), PAIR)):
+        for line, shown in ((call("log_document"), APART), (call("log_conflicts"), PAIR), (call("log_count"), "3")):
             yield [*STORED, decision(*chosen)], line, RESULT, 0, 0, 0, shown
     # Of several pairs the first in the order of identities.
     yield [*STORED, message({"z": 3, "a": 1}, 0, 5)], decision(two, apart, one, (0, 5)), CONFLICT, 3, 2, 1, '["/a"]'
@@ -241,7 +256,7 @@ def test_each_row(driver, way):
 
 def test_each_status_of_each_call_is_in_a_row():
     seen = {(line.split()[0], status) for _, line, status, *_ in ROWS}
-    logs = {f"log_{name}" for name in ("start", "receive", "document", "conflicts", "decide")}
+    logs = {f"log_{name}" for name in ("start", "receive", "document", "conflicts", "count", "decide")}
     assert seen >= {(name, NOT_STARTED) for name in ("receive", "document", "joined", "get", *(logs - {"log_start"}))}
     assert {name for name, status in seen if status == RESULT} == {
         "start", "receive", "document", "joined", "get", "add", "combine", "text", "kept", "from", *logs}
@@ -255,16 +270,30 @@ def test_a_message_is_stored_whatever_the_limit_of_its_reply(driver):
     assert [it.said() for it in each([driver], [script])[0][1:]] == [[TOO_LARGE, 0, 0, 0, ""], [RESULT, 0, 0, 0, "repeat"]]
 
 
+# The calls that find the places of a conflict within the limit. Patches hold those that they have found.
+FINDING = ("receive", "log_decide")
+
+
+def wanted_within(limit, line, wanted):
+    """What a call says within a limit, of what it says without one."""
+    name = line.split()[0]
+    if name == "log_conflicts" and wanted[0] == RESULT:
+        return pairs_within(limit, wanted)
+    return within(limit, wanted, *([weight_of] if name in FINDING else []))
+
+
 def compare_within_limits(words, tried):
     """Each limit and row: the reply is what is said within the limit."""
     found = last(words, ([*before, f"limit {limit}", line] for limit, (before, line, *_) in tried))
     for (limit, (_, line, *wanted)), reply in zip(tried, found):
-        assert reply.said() == within(limit, wanted) and reply.length == len(reply.text.encode()), (line, limit)
+        assert reply.said() == wanted_within(limit, line, wanted) and reply.length == len(reply.text.encode()), (line, limit, reply)
+    return found
 
 
 @pytest.mark.parametrize("way", ["buffer", "new"])
 def test_a_limit_bounds_results_and_places_and_nothing_else(driver, way):
-    """As long as the text it changes nothing; a byte less is too large, or leaves out a place; and errors are not bounded."""
+    """As long as the text it changes nothing, where nothing is weighed; a byte less is too large, or leaves out a place; and errors are
+    not bounded."""
     sizes = [(len(row[-1].encode()), row) for row in ROWS]
     tried = [(limit, row) for size, row in sizes for limit in {0, 1, 2, size // 2, max(size - 1, 0), size}]
     compare_within_limits([driver, way], tried)
@@ -272,11 +301,43 @@ def test_a_limit_bounds_results_and_places_and_nothing_else(driver, way):
 
 @pytest.mark.parametrize("way", ["buffer", "new"])
 def test_a_limit_is_on_both_sides_of_each_place(driver, way):
-    """An array of the first places ends where the next would make it longer than the limit."""
+    """An array of the first places ends where the next would make it longer, or heavier, than the limit."""
     wide = [row for row in ROWS if row[2] == CONFLICT and row[-1] == WIDE_PLACES]
-    sizes = [len(driving.written(json.loads(WIDE_PLACES)[:count])) for count in range(21)]
-    compare_within_limits([driver, way], [(limit, row) for row in wide for size in sizes for limit in (size - 1, size)])
+    firsts = [json.loads(WIDE_PLACES)[:count] for count in range(21)]
+    sizes = [size for places in firsts for size in (len(driving.written(places)), sum(map(weight_of, places)))]
+    compare_within_limits([driver, way], [(limit, row) for row in wide for size in sizes for limit in (size - 1, size) if limit >= 0])
     assert len(wide) >= 6
+
+
+@pytest.mark.parametrize("way", ["buffer", "new"])
+def test_a_limit_is_on_both_sides_of_each_pair_and_each_of_its_places(driver, way):
+    """Of several pairs, of one with many places, and of pairs that have more bytes than they weigh."""
+    listing = [row for row in ROWS if row[1].startswith("log_conflicts") and row[2] == RESULT and len(row[-1]) > 2]
+    flags = set()
+    for row in listing:
+        weights = [weight for pair in json.loads(row[-1]) for weight in (driving.PAIR_WEIGHT, *map(weight_of, pair["places"]))]
+        sizes = {0, 1, 2, *range(40, 300), *itertools.accumulate(weights), len(row[-1].encode())}
+        flags |= {it.flags for it in compare_within_limits([driver, way], [(limit, row) for it in sizes for limit in {it, max(it - 1, 0)}])}
+    assert len(listing) >= 4 and flags == {0, MORE}
+
+
+def test_patches_hold_the_first_places_of_their_conflict(driver):
+    """Those that weigh at most 65,536 together; how many these are, and whether there are more."""
+    for names, held in ((256, 256), (257, 256), (1000, 256)):
+        # Each place weighs 128, 8 for its token, and 120 bytes: 256 in all.
+        one, other = ({f"{number:0119}": value for number in range(names)} for value in (1, 2))
+        places = driving.written([f"/{name}" for name in one][:held])
+        more = [MORE] if held < names else []
+        conflict = [CONFLICT, 0, 0, held, *more, places]
+        added, apart = [call("add", 0, one), call("add", 0, other)], [call("add", 0, one), call("add", 1, other)]
+        kept = "!" + "+" * len(more) + places
+        rows = [(added[:1], added[1], *conflict), (apart, call("combine", 0, b"", 1), *conflict), (added, call("text"), *conflict),
+                (added, call("kept"), RESULT, 0, 0, 0, kept), ([], call("from", 0, kept.encode()), *conflict)]
+        compare([driver], [(["capacity 100000", *before], *row) for before, *row in rows])
+        compare([driver, "new"], rows)
+    # A byte more of one place leaves it out, and all after it.
+    one, other = ({f"{number:0119}" + "x" * (number == 200): value for number in range(256)} for value in (1, 2))
+    assert last([driver], [[call("add", 0, one), call("add", 0, other)]])[0].said()[:5] == [CONFLICT, 0, 0, 255, MORE]
 
 
 def test_a_buffer_of_each_size_has_the_beginning_of_the_text(driver):

@@ -95,6 +95,9 @@ class Log:
             if status == CONFLICT:
                 yield pair, total, places
 
+    def count(self):
+        return RESULT, 0, str(len(self.stored)).encode()
+
     def document(self):
         conflicting = {it for pair, *_ in self.pairs() for it in pair}
         return self.six("replay", self.given, [patch for it, patch in self.stored.items() if it not in conflicting])
@@ -159,7 +162,7 @@ def log_run(six, some):
     model = Log(six, 5, start)
     yield call("log_start", 0, start, numbers=[5]), (RESULT, 0, b"")
     for _ in range(CALLS):
-        what = some.choice(["receive"] * 5 + ["document", "conflicts", "decide"])
+        what = some.choice(["receive"] * 5 + ["document", "conflicts", "count", "decide"])
         identity = some.randrange(3), some.randrange(4)
         if what == "receive":
             patch, epoch = text(some), model.epoch + some.choice([0, 0, 0, 0, -1, 1])

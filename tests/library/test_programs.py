@@ -142,7 +142,7 @@ def test_no_export_is_given_null(needs, directory, valgrind, compiler):
     exports = re.findall(r"^mergejoin_reply (\w+)\(", driving.HEADER.read_text("utf-8"), re.M)
     between = directory / "no_null.o"
     run(["gcc", "-std=gnu11", *driving.WARNINGS, f"-I{driving.HEADER.parent}", "-c", HERE / "no_null.c", "-o", between])
-    assert len(exports) == run(["nm", between]).count(" T __wrap_") == 21
+    assert len(exports) == run(["nm", between]).count(" T __wrap_") == 22
     wrapped = f"-Wl,{','.join(f'--wrap={name}' for name in exports)}"
     program = driving.compiled(directory, HERE / "header.c", between, wrapped, compiler=compiler.split())
     run([*MEMCHECK, program])
@@ -213,7 +213,7 @@ def test_the_version_is_the_same_everywhere(directory):
 
 
 @pytest.mark.parametrize("language", ["c", "c++"])
-def test_the_header_leaves_no_macro_but_those_of_its_version(directory, language):
+def test_the_header_leaves_no_macro_but_the_flag_and_those_of_its_version(directory, language):
     defined = run(["gcc", "-x", language, "-dM", "-E", driving.HEADER])
     parts = ("", "_MAJOR", "_MINOR", "_PATCH", "_STRING")
-    assert set(re.findall(r"^#define (\w*mergejoin\w*)", defined, re.M | re.I)) == {"MERGEJOIN_H", *(f"MERGEJOIN_VERSION{part}" for part in parts)}
+    assert set(re.findall(r"^#define (\w*mergejoin\w*)", defined, re.M | re.I)) == {"MERGEJOIN_H", "MERGEJOIN_MORE", *(f"MERGEJOIN_VERSION{part}" for part in parts)}

@@ -10,7 +10,7 @@ import pytest
 import driving
 from calling import Six
 from deepest import ARRAYS, DEEPEST, OBJECTS, PLACE, WIDE, apart, stack_of_the_header
-from driving import MEMCHECK, NO_MEMORY, REFUSED, RESULT, TOO_LARGE, call_of, compare, compare_in_buffers, last, within
+from driving import MEMCHECK, NO_MEMORY, REFUSED, RESULT, TOO_LARGE, call_of, compare, compare_in_buffers, last, weight_of, within
 from rows import ROWS, many, text_of, total_of, vector_rows
 
 
@@ -88,10 +88,6 @@ def test_each_row_in_a_buffer_of_its_own(driver):
     compare([driver, "new"], LINES)
 
 
-def weight(place):
-    return 128 + 8 * place.count("/") + len(place.encode())
-
-
 def test_each_row_within_limits(driver):
     """A limit bounds the text of a result: as long as the text it changes nothing unless a result on the way weighs more, and one
     byte less is too large. It bounds the places of a conflict, and no words of an error. The helpers reply the same."""
@@ -103,7 +99,7 @@ def test_each_row_within_limits(driver):
         # Of a rewriting and of a JSON Patch results on the way are bounded too: there any number may be too large.
         is_on_the_way = line.startswith(("rewrite_of", "patch_of")) and wanted[0] in (RESULT, REFUSED)
         too_large = [TOO_LARGE, reply.first, 0, 0, ""] if is_on_the_way else None
-        assert reply.said() in (within(limit, wanted, weight), too_large), (line, limit, reply)
+        assert reply.said() in (within(limit, wanted, weight_of), too_large), (line, limit, reply)
         assert reply.length == len(reply.text.encode()) and other.said() == reply.said(), (line, limit, reply, other)
 
 

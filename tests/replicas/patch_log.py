@@ -21,7 +21,7 @@ class PatchLog:
         function, out = getattr(self.library, f"mergejoin_patch_log_{name}"), ctypes.create_string_buffer(1 << 16)
         function.restype = Reply
         reply = function(ctypes.byref(self.handle), *given, out, ctypes.c_size_t(len(out)), ctypes.c_size_t(SIZE_MAX))
-        assert reply.length <= len(out)
+        assert reply.length <= len(out) and not reply.flags
         return reply, out.raw[:reply.length].decode()
 
     def receive(self, epoch, identity, patch):
@@ -39,6 +39,11 @@ class PatchLog:
         reply, text = self.call("conflicts")
         assert reply.status == 0, text
         return text
+
+    def count(self):
+        reply, text = self.call("count")
+        assert reply.status == 0, text
+        return int(text)
 
     def decide(self, chosen):
         """Gives the status, and the number of the first identity that it is about."""

@@ -93,6 +93,7 @@ class Replica:
         arrival = self.patches.receive(message["epoch"], identity, message["patch"])
         if arrival == "stored":
             self.texts[identity] = message["patch"]
+            assert self.patches.count() == len(self.texts)
             self.log("shown", sorted(self.texts), self.patches.document(), self.patches.conflicts())
             self.follow()
         return arrival

@@ -34,7 +34,7 @@ def is_for_a_contract(how):
 
 @pytest.fixture(name="tried", scope="module")
 def what_the_log_says_of_each_edit(needs):
-    needs(lacking=None if LOG.is_file() else "there is no out/gate.log, which bin/test writes")
+    needs(lacking=None if LOG.is_file() else "there is no out/gate.log, which bin/test all writes")
     return dict(TRIED.findall(LOG.read_text("utf-8", "replace")))
 
 

@@ -49,15 +49,7 @@ static void keep_conflict(Group *group) {
     refuse_for_memory(&group->memory);
 }
 
-/* Returns whether a text conflicts with what was taken, which is asked within the group's memory. */
-static bool conflicts(Group *group, mergejoin_text text) {
-  return conflict(text_of(group, mergejoin_patches_text), text, &group->memory);
-}
-
-/*
- * Takes a text, for which so many bytes of the group's memory were made. Of the places of a conflict one is left, and there may be no
- * memory for all of them.
- */
+/* Takes a text, for which so many bytes of the group's memory were made. Of the places of a conflict one is left. */
 static void take(Group *group, mergejoin_text text, Size made) {
   mergejoin_reply reply;
 
@@ -65,10 +57,8 @@ static void take(Group *group, mergejoin_text text, Size made) {
   prepare_call(&group->memory);
   reply = mergejoin_patches_add(&group->patches, text.bytes, text.length, NULL, 0, 0);
   if (reply.status == MERGEJOIN_PATCH) refuse_patch(text, &group->memory);
-  if (reply.status == MERGEJOIN_PENDING ||
-      (reply.status == MERGEJOIN_NO_MEMORY && !(group->memory.is_over && conflicts(group, text))))
-    refuse_for_memory(&group->memory);
-  if (reply.status == MERGEJOIN_NO_MEMORY || reply.total > 1) keep_conflict(group);
+  if (reply.status == MERGEJOIN_PENDING || reply.status == MERGEJOIN_NO_MEMORY) refuse_for_memory(&group->memory);
+  if (reply.total > 1) keep_conflict(group);
   group->length += text.length;
   group->memory.used -= made;
 }

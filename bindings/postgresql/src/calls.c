@@ -150,11 +150,3 @@ text *result_of(const Request *request) {
   if (answer.reply.status != MERGEJOIN_RESULT) refuse(&answer);
   return answer.value;
 }
-
-/* Returns whether two patches conflict, of which the first may be NULL. It needs no memory for more than some of the places. */
-bool conflict(const text *first, mergejoin_text second, Memory *memory) {
-  mergejoin_text texts[] = {first ? borrowed(first) : second, second};
-  Request request = {.export = EXPORT_JOIN, .texts = texts, .count = lengthof(texts), .memory = memory};
-
-  return answer_of(&request).reply.status == MERGEJOIN_CONFLICT;
-}

@@ -47,6 +47,5 @@ extern mergejoin_text borrowed(const text *value);
 extern void prepare_call(Memory *memory);
 extern Answer answer_of(const Request *request);
 extern text *result_of(const Request *request);
-extern bool conflict(const text *first, mergejoin_text second, Memory *memory);
 
 #endif

@@ -23,6 +23,7 @@ typedef struct live {
   unsigned forks;
   int is_lost;
   size_t length, more;
+  int is_cut; /* whether the text that was read last has less than there is */
   uint64_t epoch;
   union {
     mergejoin_replica replica;
@@ -103,6 +104,7 @@ static PyObject *read_text(live *self, reading *read, size_t *length, PyObject *
       capacity = reply.length;
     }
     if (out && reply.status == MERGEJOIN_RESULT) *length = reply.length;
+    self->is_cut = (reply.flags & MERGEJOIN_MORE) != 0;
   });
   return answer_of((char *)out, &reply);
 }
@@ -290,7 +292,22 @@ static mergejoin_reply log_conflicts_of(live *self, uint8_t *out, size_t capacit
 
 static PyObject *log_document(live *self, PyObject *limit) { return read_text(self, log_document_of, &self->length, limit); }
 
-static PyObject *log_conflicts(live *self, PyObject *limit) { return read_text(self, log_conflicts_of, &self->more, limit); }
+/* The text of the pairs that come first, and whether more are left out. */
+static PyObject *log_conflicts(live *self, PyObject *limit) {
+  PyObject *text = read_text(self, log_conflicts_of, &self->more, limit);
+  return text ? Py_BuildValue("Ni", text, self->is_cut) : NULL;
+}
+
+static PyObject *log_count(live *self, PyObject *nothing) {
+  mergejoin_reply reply = {0};
+  char *text = NULL;
+  (void)nothing;
+  ALONE_(self, text = mergejoin_patch_log_count_new(&self->it.log, SIZE_MAX, &reply));
+  PyObject *answer = answer_of(text, &reply);
+  PyObject *count = answer ? PyNumber_Long(answer) : NULL;
+  Py_XDECREF(answer);
+  return count;
+}
 
 /* Each identity is a pair of numbers. */
 static mergejoin_identity *identities_of(PyObject *given, size_t *count) {
@@ -352,7 +369,7 @@ static PyMethodDef patches_methods[] = {
 static PyMethodDef log_methods[] = {
     METHOD_("receive", log_receive, METH_FASTCALL), METHOD_("document", log_document, METH_O),
     METHOD_("conflicts", log_conflicts, METH_O), METHOD_("decide", log_decide, METH_FASTCALL),
-    METHOD_("epoch", log_epoch, METH_NOARGS), {NULL, NULL, 0, NULL},
+    METHOD_("epoch", log_epoch, METH_NOARGS), METHOD_("count", log_count, METH_NOARGS), {NULL, NULL, 0, NULL},
 };
 
 static PyType_Slot replica_slots[] = {

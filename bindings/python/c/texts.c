@@ -91,9 +91,10 @@ static PyObject *raised(const char *text, const mergejoin_reply *reply) {
   PyObject *errors = PyImport_ImportModule("mergejoin._errors");
   PyObject *error = NULL;
   if (errors) {
-    error = PyObject_CallMethod(errors, "error_of", "InnnN", (unsigned)reply->status, (Py_ssize_t)reply->first,
+    error = PyObject_CallMethod(errors, "error_of", "InnnNI", (unsigned)reply->status, (Py_ssize_t)reply->first,
                                 (Py_ssize_t)reply->second, (Py_ssize_t)reply->total,
-                                PyUnicode_DecodeUTF8(text, (Py_ssize_t)reply->length, "strict"));
+                                PyUnicode_DecodeUTF8(text, (Py_ssize_t)reply->length, "strict"),
+                                (unsigned)(reply->flags & MERGEJOIN_MORE));
     Py_DECREF(errors);
   }
   if (error) {

@@ -36,12 +36,13 @@ class Bounds(unittest.TestCase):
         log = [(key, f'{{"x":{number}}}') for key in "abc" for number in range(40)]
         bag = dask.bag.from_sequence(log, npartitions=4)
         wanted = pairs_of(log)
-        size = max(len(str(pairs)) for pairs in wanted.values())
-        for limit in (None, 4_000_000, size * 2):
+        size = 780 * (64 + 128 + 8 + len("/x"))  # of each pair, and of its place
+        for limit in (None, 4_000_000, size):
             self.assertEqual(dict(conflicts_by_key(bag, limit=limit).compute(scheduler="synchronous")), wanted)
-        with self.assertRaises(mergejoin.TooLarge) as raised:
-            conflicts_by_key(bag, limit=1_000).compute(scheduler="synchronous")
-        self.assertIn(raised.exception.key, "abc")
+        for limit in (1_000, size - 1):
+            with self.assertRaises(mergejoin.TooLarge) as raised:
+                conflicts_by_key(bag, limit=limit).compute(scheduler="synchronous")
+            self.assertIn(raised.exception.key, "abc")
 
     def test_many_pairs_are_in_order(self):
         """Of more texts than those that are looked at first."""

@@ -1,6 +1,7 @@
 """A limit bounds what a call makes: a JSON Patch that doubles a document, a rewriting, the places of a conflict, and a long result."""
 
 import json
+import pickle
 import subprocess
 import sys
 import time
@@ -62,10 +63,13 @@ class Limits(unittest.TestCase):
             log.receive(0, (0, number), text)
         for call, words in ((replica.receive, [WIDE[1]]), (log.decide, [[(0, 0), (0, 1)]])):
             with self.assertRaises(Conflict) as raised:
-                call(*words, limit=100)
-            self.assertEqual((raised.exception.total, len(raised.exception.places)), (20_000, 9))  # of 10 bytes each
+                call(*words, limit=1_300)
+            self.assertEqual((raised.exception.total, len(raised.exception.places)), (20_000, 9))  # of a weight of 143 each
         self.assertRaises(TooLarge, log.conflicts, limit=1_000)
         self.assertEqual(len(log.conflicts()[0].places), 20_000)
+        pairs, more = log.first_conflicts(limit=1_000)
+        self.assertEqual(([len(pair.places) for pair in pairs], more), ([6], True))  # of a pair 64 and 143 for each place
+        self.assertEqual(log.first_conflicts(limit=64 + 20_000 * 143), (log.conflicts(), False))
 
     def test_patches_report_few_places_of_a_conflict(self):
         patches = Patches()
@@ -73,7 +77,18 @@ class Limits(unittest.TestCase):
             patches.add(text)
         with self.assertRaises(Conflict) as raised:
             patches.text(limit=100)
-        self.assertEqual((raised.exception.total, len(raised.exception.places)), (20_000, 9))
+        held = 65_536 // 143
+        self.assertEqual((raised.exception.total, raised.exception.more, len(raised.exception.places)), (held, True, 9))
+        self.assertTrue(str(raised.exception).endswith('"/n00008", more'))
+        self.assertEqual(pickle.loads(pickle.dumps(patches)), patches)
+
+    def test_pairs_that_conflict(self):
+        """Of few texts, and of so many that their list is measured on the way."""
+        for texts in WIDE, [*WIDE, *["{}"] * 30]:
+            for call, given in ((mergejoin.conflicts, texts), (objects.conflicts, [json.loads(text) for text in texts])):
+                self.assertRaises(TooLarge, call, given, limit=1_000)
+                self.assertRaises(TooLarge, call, given, limit=63 + 20_000 * 143)
+                self.assertEqual([len(places) for _, _, places in call(given, limit=64 + 20_000 * 143)], [20_000])
 
     def test_a_conflict_makes_no_later_patch_dearer(self):
         """No place of it is written when a patch is added."""

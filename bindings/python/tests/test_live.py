@@ -7,10 +7,11 @@ import random
 import subprocess
 import sys
 import threading
+import tracemalloc
 import unittest
 
 import mergejoin
-from mergejoin import Arrival, Conflict, InputError, Missing, NoPatches, Patches, PatchLog, Refused, Replica
+from mergejoin import Arrival, Conflict, InputError, Missing, NoPatches, Patches, PatchLog, Refused, Replica, TooLarge
 
 START = '{"title": "Notes", "tags": ["a"]}'
 ADA, BOB, UNTITLED = '{"author": "Ada"}', '{"author": "Bob"}', '{"title": null}'
@@ -69,6 +70,10 @@ class Replicas(unittest.TestCase):
         other.receive(ADA)
         self.assertEqual(one, other)
         self.assertNotEqual(Replica('{"author":"Ada"}'), Replica("{}"))
+        received = Replica("{}")
+        received.receive(ADA)
+        self.assertEqual(received.document(), Replica(ADA).document())
+        self.assertNotEqual(received, Replica(ADA))
         self.assertNotEqual(one, START)
         self.assertRaises(TypeError, hash, one)
 
@@ -111,8 +116,22 @@ class Logs(unittest.TestCase):
         self.assertEqual(log.document(), mergejoin.replay(START, [UNTITLED]))
         self.assertEqual(log.conflicts(), [((1, 1), (2, 1), ["/author"])])
         self.assertEqual([log.receive(epoch, (1, 1), BOB) for epoch in (6, 7, 8)], [Arrival.LATE, Arrival.REPEAT, Arrival.EARLY])
+        self.assertEqual(log.count(), 3)
         log.decide([(1, 2), (2, 1), (1, 2)])
+        self.assertEqual(log.count(), 0)
         self.assertEqual((log.epoch, log.document(), log.conflicts()), (8, mergejoin.replay(START, [UNTITLED, BOB]), []))
+
+    def test_the_first_conflicts(self):
+        """A pair counts 64, and its place 143."""
+        log, whole, without = self.log(), [((1, 1), (2, 1), ["/author"])], [((1, 1), (2, 1), [])]
+        for limit, pairs in ((None, whole), (207, whole), (206, without), (64, without), (63, []), (2, [])):
+            self.assertEqual(log.first_conflicts(limit=limit), (pairs, pairs != whole))
+            if pairs == whole:
+                self.assertEqual(log.conflicts(limit=limit), whole)
+            else:
+                self.assertRaises(TooLarge, log.conflicts, limit=limit)
+        self.assertRaises(TooLarge, log.first_conflicts, limit=1)
+        self.assertEqual(PatchLog(0, "{}").first_conflicts(limit=2), ([], False))
 
     def test_a_decision_that_is_refused(self):
         log = self.log()
@@ -184,6 +203,11 @@ print({len(text), len(replica.document()), len(replica.joined()), len(patches.te
 """
 
 
+def resident():
+    with open("/proc/self/statm", encoding="ascii") as file:
+        return int(file.read().split()[1]) * 4096
+
+
 class Memory(unittest.TestCase):
     def test_repeats_take_no_buffer(self):
         """Of 400 MB of the same patch the text is as long as that of one."""
@@ -191,10 +215,6 @@ class Memory(unittest.TestCase):
         self.assertEqual((done.returncode, done.stdout, done.stderr), (0, "{100008}\n", ""))
 
     def test_what_is_dropped_is_freed(self):
-        def resident():
-            with open("/proc/self/statm", encoding="ascii") as file:
-                return int(file.read().split()[1]) * 4096
-
         long, before = json.dumps({f"n{number}": number for number in range(5_000)}), 0
         for number in range(120):
             replica, patches, log = Replica(long), Patches(), PatchLog(0, long)
@@ -204,6 +224,32 @@ class Memory(unittest.TestCase):
             self.assertRaises(InputError, patches.add, "[")
             before = before or (number == 40 and resident())
         self.assertLess(resident() - before, 4_000_000)
+
+    def test_long_texts_are_freed(self):
+        """Of results, and of an error with many places."""
+        long, wide = json.dumps({"a": "x" * 200_000}), [json.dumps({f"n{it}": value for it in range(9_000)}) for value in (1, 2)]
+        replica = Replica(long)
+        calls = (lambda: mergejoin.join([long]), lambda: mergejoin.get(long, "/a"), replica.document,
+                 lambda: self.assertRaises(Conflict, mergejoin.join, wide))
+        for call in calls:
+            before = 0
+            for number in range(80):
+                call()
+                before = before or (number == 20 and resident())
+            self.assertLess(resident() - before, 4_000_000)
+
+    def test_locks_and_types_are_given_back(self):
+        for make in (lambda: Replica("{}"), Patches, lambda: PatchLog(0, "{}")):
+            kind, counts, sizes = type(make()._held), [], []
+            tracemalloc.start()
+            for _ in range(3):
+                for _ in range(1_000):
+                    make()
+                counts.append(sys.getrefcount(kind))
+                sizes.append(tracemalloc.get_traced_memory()[0])
+            tracemalloc.stop()
+            self.assertEqual(counts[0], counts[2])
+            self.assertLess(sizes[2] - sizes[0], 20_000)
 
     def test_references_are_given_back(self):
         texts, blob = [f'{{"é{number}": 1}}' for number in range(50)], bytearray(b'{"a":1}')

@@ -74,7 +74,8 @@ fn buffer_of(capacity: usize) -> Result<Vec<u8>, Error> {
     reserved.map(|()| buffer).map_err(|_| Error::NoMemory)
 }
 
-fn result_of(reply: &Reply, mut text: String) -> Result<String, Error> {
+/// Gives the text of a result, or why there is none.
+pub(crate) fn result_of(reply: &Reply, mut text: String) -> Result<String, Error> {
     if reply.status != RESULT {
         return Err(Error::of(reply, text));
     }

@@ -1,6 +1,6 @@
 //! Why there is no text.
 
-use crate::raw::{Reply, CONFLICT, MISSING, NO_MEMORY, PATCH, PENDING, REFUSED};
+use crate::raw::{Reply, CONFLICT, MISSING, MORE, NO_MEMORY, PATCH, PENDING, REFUSED};
 use crate::{places, DocumentCause, FormCause, PointerCause, RefusedCause};
 use std::fmt;
 
@@ -16,8 +16,11 @@ pub enum Error {
         /// The places at which they conflict, as JSON Pointers, in the order of paths: all of them, or as many of the first as
         /// the limit allows.
         places: Vec<String>,
-        /// How many places there are in all.
+        /// How many places there are in all, as far as they were looked at.
         total: usize,
+        /// Whether there are more than that: [`Patches`](crate::Patches) holds the first places of its conflict, up to 64 kB, and
+        /// [`Replica`](crate::Replica) knows none if memory ran out for them.
+        more: bool,
     },
     /// There are no patches to join.
     NoPatches,
@@ -93,6 +96,7 @@ impl Error {
                 patches: (number < reply.second).then_some((number, reply.second)),
                 places: places::read(words, reply.total),
                 total: reply.total,
+                more: reply.flags & MORE != 0,
             },
             2 => Error::NoPatches,
             REFUSED => Error::Refused {
@@ -154,12 +158,13 @@ impl fmt::Display for Error {
                 patches,
                 places,
                 total,
+                more,
             } => {
                 to.write_str("conflict")?;
                 if let Some((first, second)) = patches {
                     write!(to, ": patches {first} and {second}")?;
                 }
-                places::show(to, places, *total)
+                places::show(to, places, *total, *more)
             }
             Error::NoPatches => to.write_str("no patches"),
             Error::Refused { operation, cause } => write!(to, "operation {operation}: {cause}"),

@@ -1,7 +1,9 @@
 //! A patch log that stays in memory.
 
-use crate::calls::{guess_after, reply_of, text_of};
-use crate::raw::{self, Handle, OfHandle, Reply, CONFLICT, MISSING, NO_MEMORY, REFUSED, RESULT};
+use crate::calls::{guess_after, reply_of, result_of, text_of};
+use crate::raw::{
+    self, Handle, OfHandle, Reply, CONFLICT, MISSING, MORE, NO_MEMORY, REFUSED, RESULT,
+};
 use crate::{places, Error};
 use std::fmt;
 
@@ -199,9 +201,65 @@ impl PatchLog {
     ///
     /// [`Error::NoMemory`], or [`Error::TooLarge`].
     pub fn conflicts(&mut self) -> Result<String, Error> {
-        let text = self.read(raw::mergejoin_patch_log_conflicts, self.listed)?;
+        match self.first_conflicts()? {
+            (text, false) => Ok(text),
+            (_, true) => Err(Error::TooLarge),
+        }
+    }
+
+    /// Gives the same text of the pairs that come first, as many as the limit allows, and whether a pair or a place is left out.
+    /// A pair counts 64 bytes and its places, and a place 128, 8 for each token, and its bytes; the last pair may have the first
+    /// of its places alone.
+    ///
+    /// ```
+    /// # use mergejoin::{Error, Identity, PatchLog};
+    /// let mut log = PatchLog::new(7, "{}")?;
+    /// for sender in 1..4 {
+    ///     log.receive(7, Identity { sender, number: 1 }, format!(r#"{{"a":{sender}}}"#))?;
+    /// }
+    /// log.set_limit(250);
+    /// let (first, more) = log.first_conflicts()?;
+    /// assert_eq!(first, r#"[{"first":[1,1],"second":[2,1],"places":["/a"]}]"#);
+    /// assert!(more);
+    /// assert_eq!(log.conflicts(), Err(Error::TooLarge));
+    /// # Ok::<(), Error>(())
+    /// ```
+    ///
+    /// # Errors
+    ///
+    /// [`Error::NoMemory`], or [`Error::TooLarge`] if the limit is less than the two bytes of an empty array.
+    pub fn first_conflicts(&mut self) -> Result<(String, bool), Error> {
+        let (held, limit) = (&mut self.held, self.limit);
+        let guess = guess_after(self.listed).min(limit);
+        // SAFETY: as of `read`.
+        let (reply, text) = unsafe {
+            reply_of(guess, |out, capacity| {
+                raw::mergejoin_patch_log_conflicts(held, out, capacity, limit)
+            })
+        }?;
+        let text = result_of(&reply, text)?;
         self.listed = text.len();
-        Ok(text)
+        Ok((text, reply.flags & MORE != 0))
+    }
+
+    /// Gives how many patches are stored. What a log takes, and what its calls cost, is bounded by this and by the lengths of the
+    /// patches.
+    ///
+    /// # Errors
+    ///
+    /// [`Error::NoMemory`].
+    pub fn count(&mut self) -> Result<usize, Error> {
+        let held = &mut self.held;
+        // SAFETY: as of `read`.
+        let text = unsafe {
+            text_of(0, |out, capacity| {
+                raw::mergejoin_patch_log_count(held, out, capacity, usize::MAX)
+            })
+        }?;
+        text.parse().map_err(|_| Error::Unknown {
+            status: RESULT,
+            words: text,
+        })
     }
 
     /// Ends the start by the patches with these identities: what they make of it is the new start, whose number is the next.
@@ -292,7 +350,7 @@ impl fmt::Display for DecideError {
                 total,
             } => {
                 write!(to, "conflict: {first} and {second}")?;
-                places::show(to, places, *total)
+                places::show(to, places, *total, false)
             }
             DecideError::NoMemory => to.write_str("out of memory"),
             DecideError::Unknown { status, words } => write!(to, "status {status}: {words}"),

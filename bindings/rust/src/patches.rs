@@ -114,8 +114,8 @@ impl Patches {
         self.read(raw::mergejoin_patches_text)
     }
 
-    /// Gives the kept form, to store or to send: the empty text if nothing was taken, the text of the join, or `!` and the
-    /// places of a conflict as a JSON array. [`Patches::from_kept`] takes it.
+    /// Gives the kept form, to store or to send: the empty text if nothing was taken, the text of the join, or the first places of a
+    /// conflict as a JSON array, behind `!` if these are all and behind `!+` if there are more. [`Patches::from_kept`] takes it.
     ///
     /// ```
     /// # use mergejoin::Patches;
@@ -138,8 +138,8 @@ impl Patches {
     ///
     /// # Errors
     ///
-    /// [`Error::Document`] if the text, or what follows its `!`, is not a document; [`Error::NotKept`] if what follows is not an
-    /// array of one JSON Pointer and more; or [`Error::NoMemory`].
+    /// [`Error::Document`] if the text, or what follows its `!` or `!+`, is not a document; [`Error::NotKept`] if what follows is not an
+    /// array of JSON Pointers, or is an empty one after `!`; or [`Error::NoMemory`].
     pub fn from_kept(kept: impl AsRef<[u8]>) -> Result<Self, Error> {
         let (mut patches, kept) = (Patches::new(), kept.as_ref());
         patches.take(raw::mergejoin_patches_from_kept, kept)?;

@@ -48,9 +48,17 @@ fn escaped_in(rest: &mut Chars<'_>) -> char {
     }
 }
 
-/// Shows the places of a conflict after ` at `, and how many more there are. Without a place that is how many there are.
-pub(crate) fn show(to: &mut fmt::Formatter<'_>, places: &[String], total: usize) -> fmt::Result {
+/// Shows the places of a conflict after ` at `, and how many more there are, if that is known. Without a place that is how many
+/// there are.
+pub(crate) fn show(
+    to: &mut fmt::Formatter<'_>,
+    places: &[String],
+    total: usize,
+    more: bool,
+) -> fmt::Result {
     match (places, total.saturating_sub(places.len())) {
+        ([], _) if more => Ok(()),
+        (_, _) if more => write!(to, " at {} and more", Quoted(places)),
         ([], 0) => Ok(()),
         ([], 1) => to.write_str(" at 1 place"),
         ([], total) => write!(to, " at {total} places"),

@@ -14,6 +14,9 @@ pub(crate) const PATCH: u32 = 6;
 pub(crate) const NO_MEMORY: u32 = 9;
 pub(crate) const PENDING: u32 = 10;
 
+/// In the flags of a reply: there is more than what is reported.
+pub(crate) const MORE: u32 = 1;
+
 /// A text that a call borrows, as the header's `mergejoin_text`.
 #[repr(C)]
 pub(crate) struct Text<'a> {
@@ -31,7 +34,7 @@ pub(crate) struct Reply {
     pub(crate) total: usize,
     _spare: usize,
     pub(crate) status: u32,
-    _flags: u32,
+    pub(crate) flags: u32,
 }
 
 /// A handle, as the header's `mergejoin_replica`, `mergejoin_patches` and `mergejoin_patch_log`.
@@ -255,6 +258,12 @@ extern "C" {
         limit: usize,
     ) -> Reply;
     pub(crate) fn mergejoin_patch_log_conflicts(
+        log: &mut Handle,
+        out: *mut u8,
+        capacity: usize,
+        limit: usize,
+    ) -> Reply;
+    pub(crate) fn mergejoin_patch_log_count(
         log: &mut Handle,
         out: *mut u8,
         capacity: usize,

@@ -11,11 +11,16 @@ const BOB: &str = r#"{"author":"Bob"}"#;
 const UNTITLED: &str = r#"{"title":null}"#;
 const START: &str = r#"{"title":"Notes"}"#;
 
+/// How many of the places `/n0` to `/n19999` patches hold of a conflict at all of them, in their order, and the last of these.
+const HELD: usize = 458;
+const LAST_HELD: &str = "/n10408";
+
 fn conflict(place: &str) -> Error {
     Error::Conflict {
         patches: None,
         places: vec![place.to_owned()],
         total: 1,
+        more: false,
     }
 }
 
@@ -24,13 +29,16 @@ fn unread(cause: DocumentCause) -> Error {
     Error::Document { cause, place: None }
 }
 
-/// The time of 500 more patches.
+/// The least time, of five, of 500 more patches.
 fn of_more(patches: &mut Patches) -> Duration {
-    let begun = Instant::now();
-    for _ in 0..500 {
-        patches.add(r#"{"a":1}"#).unwrap();
-    }
-    begun.elapsed()
+    let times = (0..5).map(|_| {
+        let begun = Instant::now();
+        for _ in 0..500 {
+            patches.add(r#"{"a":1}"#).unwrap();
+        }
+        begun.elapsed()
+    });
+    times.min().unwrap()
 }
 
 #[test]
@@ -47,8 +55,32 @@ fn a_conflict_at_many_places_makes_no_later_patch_dearer() {
     assert_eq!(conflicting.add(wide(2)), Ok(Added::Conflict));
     let time = of_more(&mut plain);
     assert!(of_more(&mut conflicting) < 10 * time + Duration::from_millis(5));
-    let text = conflicting.text();
-    assert!(matches!(text, Err(Error::Conflict { total: 20_000, .. })));
+    match conflicting.text() {
+        Err(Error::Conflict { places, total, more, .. }) => {
+            assert_eq!((places.len(), total, more), (HELD, HELD, true));
+            assert_eq!(places[HELD - 1], LAST_HELD);
+        }
+        answer => panic!("{answer:?}"),
+    }
+}
+
+#[test]
+fn patches_say_if_there_are_more_places_than_they_hold() {
+    for (kept, shown) in [
+        (r#"!["/a"]"#, r#"conflict at "/a""#),
+        (r#"!+["/a"]"#, r#"conflict at "/a" and more"#),
+        (r#"!+["/a","/b"]"#, r#"conflict at "/a", "/b" and more"#),
+        ("!+[]", "conflict"),
+    ] {
+        let mut patches = Patches::from_kept(kept).unwrap();
+        let error = patches.add(ADA).and(patches.text()).unwrap_err();
+        let wanted = kept.starts_with("!+");
+        assert!(matches!(error, Error::Conflict { more, .. } if more == wanted));
+        assert_eq!(error.to_string(), shown);
+        assert_eq!(patches.kept().as_deref(), Ok(kept));
+    }
+    let unread = Patches::from_kept("![]").err();
+    assert_eq!(unread, Some(Error::NotKept));
 }
 
 fn is_not_json<T>(answer: Result<T, Error>) -> bool {
@@ -148,19 +180,19 @@ fn patches_are_joined_in_groups() {
 fn a_conflict_takes_all_further_patches() {
     let mut patches = Patches::new();
     patches.add(members(1)).unwrap();
-    assert_eq!(patches.add(members(2)), Ok(Added::Conflict));
+    assert_eq!(patches.add(members(2)), Ok(Added::Conflict)); // at 500 places of a weight of 140
     assert_eq!(patches.add(ADA), Ok(Added::Conflict));
     assert!(is_not_json(patches.add("")));
     let places = |answer| match answer {
         Err(Error::Conflict { patches, places, .. }) => (patches, places.len()),
         answer => panic!("{answer:?}"),
     };
-    assert_eq!(places(patches.text()), (None, 500));
+    assert_eq!(places(patches.text()), (None, 468));
 
     let mut other = Patches::new();
     other.add(BOB).unwrap();
     assert_eq!(other.combine(&mut patches), Ok(Added::Conflict));
-    assert_eq!(places(other.text()), (None, 500));
+    assert_eq!(places(other.text()), (None, 468));
     assert_eq!(patches.text(), Err(Error::NoPatches));
 }
 
@@ -239,6 +271,27 @@ fn a_patch_log_shows_what_conflicts_with_no_other() {
 }
 
 #[test]
+fn a_patch_log_counts_its_patches_and_gives_the_first_conflicts() {
+    let mut log = log_of_three();
+    assert_eq!(log.count(), Ok(3));
+    let pair = r#"[{"first":[1,1],"second":[2,1],"places":["/author"]}]"#;
+    let without = r#"[{"first":[1,1],"second":[2,1],"places":[]}]"#;
+    // A pair weighs 64, and its place 143.
+    let cut = [(206, without), (64, without), (63, "[]"), (2, "[]")].map(|(limit, text)| (limit, text, true));
+    for (limit, text, more) in [(207, pair, false)].into_iter().chain(cut) {
+        log.set_limit(limit);
+        assert_eq!(log.first_conflicts(), Ok((text.to_owned(), more)), "{limit}");
+        let all = if more { Err(Error::TooLarge) } else { Ok(pair.to_owned()) };
+        assert_eq!(log.conflicts(), all, "{limit}");
+    }
+    log.set_limit(1);
+    assert_eq!(log.first_conflicts(), Err(Error::TooLarge));
+    assert_eq!(log.count(), Ok(3), "a number is not bounded");
+    log.decide(&[ONE]).unwrap();
+    assert_eq!(log.count(), Ok(0));
+}
+
+#[test]
 fn a_decision_begins_the_next_start() {
     let mut log = log_of_three();
     assert_eq!(log.decide(&[LAST, TWO, LAST]), Ok(()));
@@ -298,7 +351,7 @@ fn texts_of_a_patch_log_are_longer_than_a_first_buffer() {
         answer => panic!("{answer:?}"),
     };
     assert_eq!(places(log.decide(&[ONE, TWO])), (500, 500));
-    log.set_limit(r#"["/000","/001"]"#.len());
+    log.set_limit(2 * 140); // what each of these places weighs
     assert_eq!(places(log.decide(&[ONE, TWO])), (2, 500));
     let shown = log.decide(&[ONE, TWO]).unwrap_err().to_string();
     assert_eq!(shown, r#"conflict: 1:1 and 2:1 at "/000", "/001" and 498 more"#);

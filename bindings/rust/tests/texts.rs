@@ -73,6 +73,7 @@ fn a_conflict_has_all_its_places() {
         patches: Some((0, 2)),
         places: places.map(text).to_vec(),
         total: 6,
+        more: false,
     };
     let given = [with(1), text(r#"{"other":1}"#), with(2)];
     let shown = r#"conflict: patches 0 and 2 at "/\b\f\n\r\t\u0001\u001f", "/\",", "/\\", "/a~1b", "/é", "/😀""#;

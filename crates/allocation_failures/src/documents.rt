@@ -15,6 +15,7 @@ pub const CALLS: &[&str] = &[
     "read_docs",
     "read_too_deep",
     "write_doc",
+    "write_doc_within",
     "write_text",
 ];
 
@@ -26,6 +27,7 @@ pub fn watch(alloc: Global, name: &str) -> Option<Option<Seen>> {
         "read_docs" => watch_read_docs(alloc),
         "read_too_deep" => watch_read_too_deep(alloc),
         "write_doc" => watch_write_doc(alloc),
+        "write_doc_within" => watch_write_doc_within(alloc),
         "write_text" => Some(watch_write_text(alloc)),
         _ => return None,
     })
@@ -76,6 +78,15 @@ fn watch_write_doc(alloc: Global) -> Option<Seen> {
     let docs = two_docs_of(alloc, [DOC, DOC])?;
     let [doc, before] = &docs;
     Some(Seen::of_text(mp_tree::write_doc(alloc, doc), TEXT).with(doc.same(before)))
+}
+
+fn watch_write_doc_within(alloc: Global) -> Option<Seen> {
+    let doc = doc_of(alloc, DOC)?;
+    Some(match mp_tree::write_doc_within(alloc, &doc, TEXT.len()) {
+        Ok(Some(text)) => Seen::answer_if(text.as_str() == TEXT),
+        Ok(None) => Seen::Wrong,
+        Err(_) => Seen::NoMemory,
+    })
 }
 
 fn watch_write_text(alloc: Global) -> Seen {

@@ -1,8 +1,9 @@
 //! The calls of mp_replica. What a refusal left is right after the next call that is not refused, and shown in part at no time.
 use crate::preparing::{doc_of, pointer_of, two_docs_of};
 use crate::seen::{Seen, are_pointers};
+use mp_merge::Conflicts;
 use mp_pointer::Pointer;
-use mp_replica::{Added, LiveFault, Patches, Received, Replica};
+use mp_replica::{Added, FirstPlaces, LiveFault, Patches, Received, Replica};
 use mp_tree::Doc;
 use std::alloc::{AllocError, Global};
 
@@ -35,6 +36,7 @@ pub const CALLS: &[&str] = &[
     "combine_with_clashing",
     "conflicts",
     "conflicts_text",
+    "conflicts_within",
     "first_patch",
     "first_receive",
     "from_text",
@@ -57,6 +59,7 @@ pub fn watch(alloc: Global, name: &str) -> Option<Option<Seen>> {
         "combine_with_clashing" => watch_combine_with_clashing(alloc),
         "conflicts" => watch_conflicts(alloc),
         "conflicts_text" => watch_conflicts_text(alloc),
+        "conflicts_within" => watch_conflicts_within(alloc),
         "first_patch" => watch_first_patch(alloc),
         "first_receive" => watch_first_receive(alloc),
         "from_text" => watch_from_text(alloc),
@@ -152,16 +155,18 @@ fn watch_receive_two(alloc: Global) -> Option<Seen> {
     let second = doc_of(alloc, PATCH)?;
     let mut replica = Replica::new(start);
     let one = replica.receive(alloc, first);
+    let is_taken = matches!(one, Received::Taken);
+    let is_pending = matches!(one, Received::Pending);
     Some(match replica.receive(alloc, second) {
         Received::Refused => {
-            let hidden = replica.shown().is_none() && one == Received::Pending;
+            let hidden = replica.shown().is_none() && is_pending;
             let [shown, joined] = &before;
             let right = !replica.settle(alloc) || shows(&replica, shown, joined);
             Seen::NoMemory.with(hidden && right)
         }
         other => {
             let seen = seen_of_received(alloc, &mut replica, other, &wanted);
-            if one == Received::Taken {
+            if is_taken {
                 seen
             } else {
                 Seen::NoMemory.with(seen != Seen::Wrong)
@@ -217,6 +222,17 @@ fn watch_conflicts(alloc: Global) -> Option<Seen> {
     let patch = doc_of(alloc, CLASHING)?;
     Some(match replica.conflicts(alloc, &patch) {
         Ok(places) => Seen::answer_if(are_pointers(places.as_slice(), PLACES)),
+        Err(AllocError) => Seen::NoMemory,
+    })
+}
+
+fn watch_conflicts_within(alloc: Global) -> Option<Seen> {
+    let replica = replica_of(alloc)?;
+    let patch = doc_of(alloc, CLASHING)?;
+    Some(match replica.conflicts_within(alloc, &patch, usize::MAX) {
+        Ok(Conflicts { places, total }) => {
+            Seen::answer_if(are_pointers(places.as_slice(), PLACES) && total == PLACES.len())
+        }
         Err(AllocError) => Seen::NoMemory,
     })
 }
@@ -283,13 +299,16 @@ fn watch_add_text(alloc: Global) -> Option<Seen> {
     })
 }
 
-/// Of a conflict that was to be found: its places are held, or memory for them was refused and nothing is changed.
-fn seen_of_conflict(patches: &Patches, added: Added, before: &Doc) -> Seen {
+/// Of a conflict that was to be found: its places are held, or memory for them was refused, and it is a conflict still.
+fn seen_of_conflict(patches: &Patches, added: Added) -> Seen {
     match (added, patches.places()) {
-        (Added::Conflict, Some(places)) => {
-            Seen::answer_if(are_pointers(places.as_slice(), PLACES) && patches.joined().is_none())
+        (Added::Conflict, Some(FirstPlaces { places, more })) => {
+            let right = patches.joined().is_none();
+            if *more {
+                return Seen::NoMemory.with(right && places.as_slice().is_empty());
+            }
+            Seen::answer_if(right && are_pointers(places.as_slice(), PLACES))
         }
-        (Added::Refused, None) => Seen::NoMemory.with(joins(patches, before)),
         _ => Seen::Wrong,
     }
 }
@@ -297,9 +316,8 @@ fn seen_of_conflict(patches: &Patches, added: Added, before: &Doc) -> Seen {
 fn watch_add_of_clashing(alloc: Global) -> Option<Seen> {
     let mut patches = patches_of(alloc)?;
     let clashing = doc_of(alloc, CLASHING)?;
-    let before = doc_of(alloc, BEFORE)?;
     let added = patches.add(alloc, clashing);
-    Some(seen_of_conflict(&patches, added, &before))
+    Some(seen_of_conflict(&patches, added))
 }
 
 /// Patches of which one was taken.
@@ -322,15 +340,13 @@ fn watch_combine(alloc: Global) -> Option<Seen> {
     Some(seen_of_added(alloc, &mut patches, added, &wanted).with(moved))
 }
 
-/// If memory for the places was refused, neither has changed.
+/// What the other has is taken, whether there is memory for the places or not.
 fn watch_combine_with_clashing(alloc: Global) -> Option<Seen> {
     let mut patches = patches_of(alloc)?;
     let mut others = others_of(alloc, CLASHING)?;
-    let docs = two_docs_of(alloc, [CLASHING, BEFORE])?;
-    let [clashing, before] = &docs;
     let added = patches.combine(alloc, &mut others);
-    let as_before = added != Added::Refused || joins(&others, clashing);
-    Some(seen_of_conflict(&patches, added, before).with(as_before))
+    let moved = others.joined().is_none() && others.places().is_none();
+    Some(seen_of_conflict(&patches, added).with(moved))
 }
 
 fn watch_text(alloc: Global) -> Option<Seen> {
@@ -347,8 +363,8 @@ pub fn watch_without_memory(alloc: Global) -> Option<Seen> {
     let again = doc_of(alloc, r#"{"a":{"x":1}}"#)?;
     let clashing = doc_of(alloc, CLASHING)?;
     let pointer: Pointer = pointer_of(alloc, "/b")?;
-    let taken = replica.receive(alloc, again) == Received::Taken;
-    let conflicts = replica.receive(alloc, clashing) == Received::Conflict;
+    let taken = matches!(replica.receive(alloc, again), Received::Taken);
+    let conflicts = matches!(replica.receive(alloc, clashing), Received::Conflict(_));
     let settled = replica.settle(alloc) && !replica.is_pending();
     let [shown, joined] = &wanted;
     let found = replica.get(&pointer).is_some();

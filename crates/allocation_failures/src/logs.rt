@@ -1,7 +1,10 @@
 //! The calls of a patch log. A refusal leaves it as it was: it shows what it showed, and has the number that it had.
 use crate::preparing::{doc_of, two_docs_of};
 use crate::seen::{Seen, are_pointers};
-use mp_replica::{Arrival, ConflictingPair, DecideFault, Identity, LiveFault, Message, PatchLog};
+use mp_replica::{
+    Arrival, ConflictingPair, DecideFault, FirstPairs, Identity, LiveFault, Message, PairsText,
+    PatchLog,
+};
 use mp_tree::Doc;
 use std::alloc::{AllocError, Global};
 
@@ -40,6 +43,8 @@ const SECOND: Identity = Identity {
 pub const CALLS: &[&str] = &[
     "conflicts",
     "conflicts_text",
+    "conflicts_text_within",
+    "conflicts_within",
     "decide",
     "decide_over_a_conflict",
     "document",
@@ -57,6 +62,8 @@ pub fn watch(alloc: Global, name: &str) -> Option<Option<Seen>> {
     Some(match name {
         "conflicts" => watch_conflicts(alloc),
         "conflicts_text" => watch_conflicts_text(alloc),
+        "conflicts_text_within" => watch_conflicts_text_within(alloc),
+        "conflicts_within" => watch_conflicts_within(alloc),
         "decide" => watch_decide(alloc),
         "decide_over_a_conflict" => watch_decide_over_a_conflict(alloc),
         "document" => watch_document(alloc),
@@ -213,6 +220,15 @@ fn watch_conflicts_text(alloc: Global) -> Option<Seen> {
     Some(seen_of_text(log.conflicts_text(alloc), PAIRS))
 }
 
+fn watch_conflicts_text_within(alloc: Global) -> Option<Seen> {
+    let log = clashing_log_of(alloc)?;
+    Some(match log.conflicts_text_within(alloc, usize::MAX) {
+        Ok(PairsText { text, more }) => Seen::answer_if(text.as_str() == PAIRS && !more),
+        Err(LiveFault::OutOfMemory) => Seen::NoMemory,
+        Err(_) => Seen::Wrong,
+    })
+}
+
 fn seen_of_text(given: Result<String, LiveFault>, wanted: &str) -> Seen {
     match given {
         Ok(text) => Seen::answer_if(text.as_str() == wanted),
@@ -241,10 +257,20 @@ fn watch_conflicts(alloc: Global) -> Option<Seen> {
     })
 }
 
+fn watch_conflicts_within(alloc: Global) -> Option<Seen> {
+    let log = clashing_log_of(alloc)?;
+    Some(match log.conflicts_within(alloc, usize::MAX) {
+        Ok(FirstPairs { pairs, more }) => {
+            Seen::answer_if(is_the_pair(pairs.as_slice()) && !more)
+        }
+        Err(_) => Seen::NoMemory,
+    })
+}
+
 fn watch_decide(alloc: Global) -> Option<Seen> {
     let mut log = clashing_log_of(alloc)?;
     let wanted = two_docs_of(alloc, [SHOWN_BEFORE, START])?;
-    let decided = log.decide(alloc, &[FIRST]);
+    let decided = log.decide(alloc, &[FIRST], usize::MAX);
     Some(seen_of_decided(alloc, &log, decided, &wanted))
 }
 
@@ -269,7 +295,7 @@ fn seen_of_decided(
 fn watch_decide_over_a_conflict(alloc: Global) -> Option<Seen> {
     let mut log = clashing_log_of(alloc)?;
     let before = doc_of(alloc, START)?;
-    let decided = log.decide(alloc, &[SECOND, FIRST]);
+    let decided = log.decide(alloc, &[SECOND, FIRST], usize::MAX);
     let seen = seen_of_undecided(decided);
     Some(seen.with(log.epoch() == EPOCH && shows(alloc, &log, &before)))
 }
@@ -281,10 +307,10 @@ fn seen_of_undecided(decided: Result<(), DecideFault>) -> Seen {
             DecideFault::Conflict {
                 first,
                 second,
-                places,
+                conflicts,
             },
         ) => Seen::answer_if(
-            first == FIRST && second == SECOND && are_pointers(places.as_slice(), PLACES),
+            first == FIRST && second == SECOND && are_pointers(conflicts.places.as_slice(), PLACES),
         ),
         Err(DecideFault::OutOfMemory) => Seen::NoMemory,
         _ => Seen::Wrong,

@@ -35,6 +35,7 @@ pub const CALLS: &[&str] = &[
     "replay_values",
     "rewrite_value",
     "write_value",
+    "write_value_within",
 ];
 
 /// Watches the call of this name, if there is one.
@@ -55,6 +56,7 @@ pub fn watch(alloc: Global, name: &str) -> Option<Option<Seen>> {
         "replay_values" => watch_replay_values(alloc),
         "rewrite_value" => watch_rewrite_value(alloc),
         "write_value" => watch_write_value(alloc),
+        "write_value_within" => watch_write_value_within(alloc),
         _ => return None,
     })
 }
@@ -117,6 +119,17 @@ fn watch_read_values(alloc: Global) -> Option<Seen> {
 fn watch_write_value(alloc: Global) -> Option<Seen> {
     let value = value_of(alloc, TEXT)?;
     Some(Seen::of_text(mp_tree::write_value(alloc, &value), TEXT))
+}
+
+fn watch_write_value_within(alloc: Global) -> Option<Seen> {
+    let value = value_of(alloc, TEXT)?;
+    Some(
+        match mp_tree::write_value_within(alloc, &value, TEXT.len()) {
+            Ok(Some(text)) => Seen::answer_if(text.as_str() == TEXT),
+            Ok(None) => Seen::Wrong,
+            Err(_) => Seen::NoMemory,
+        },
+    )
 }
 
 /// Of a value, which is as it was, and its copy.

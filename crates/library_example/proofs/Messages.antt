@@ -55,7 +55,7 @@ taken : (answer : Received) (start : Document) (received : List Document) (p : D
     → answer ≢ Refused → AreClashesWith received p [] → Follows start (received ++ p ∷ []) r
 taken Taken start received p r on given nowhere = on.0
 taken Pending start received p r on given nowhere = on.0
-taken Conflict start received p r on given nowhere = let clash = on.2 in absurd (Contains-nil clash.0 ((nowhere.all clash.0).1 clash.1))
+taken (Conflict back) start received p r on given nowhere = let clash = on.3 in absurd (Contains-nil clash.0 ((nowhere.all clash.0).1 clash.1))
 taken Refused start received p r on given nowhere = absurd (given refl)
 
 pub delivered : (delivery : Delivery) (start : Document) (received : List Document) (p : Document) (before now : HeldReplica)

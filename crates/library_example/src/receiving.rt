@@ -3,7 +3,7 @@ ghost use Rattle.std.specs.Prelude.{◌≡◌, ◌≢◌, ◌↔◌, ◌<◌, Li
 ghost use Rattle.mp_tree.specs.Document.{Document};
 ghost use Rattle.mp_tree.specs.View.{document};
 ghost use Rattle.mp_merge.specs.Outcome.{IsOutcome};
-ghost use Rattle.mp_replica.specs.Following.{Follows, FollowsOn};
+ghost use Rattle.mp_replica.specs.Following.{Follows, FollowsOn, IsHandedBack};
 ghost use Rattle.mp_replica.specs.Held.{AreClashesWith};
 ghost use Rattle.library_example.specs.Received.{IfGiven, IsClashAmong, epoch_of, patches_of, replica_of};
 
@@ -66,7 +66,7 @@ impl EpochReplica {
         ensures refused { (replica_of self.old).pending ≡ None
             → result ≢ Delivery.Given Received.Refused }
         ensures unchanged { (replica_of self.old).pending ≡ None
-            → result ≡ Delivery.Given Received.Conflict → self.new ≡ self.old }
+            → IfGiven result IsHandedBack → self.new ≡ self.old }
         ensures late { message.epoch < epoch_of self.old
             → (result ≡ Delivery.Late) × (self.new ≡ self.old) }
         ensures early { epoch_of self.old < message.epoch
@@ -145,7 +145,7 @@ pub fn shown_after(
         if !places.is_empty() {
             return Err(JoinFault::Conflict(places));
         }
-        replica.receive(alloc, message);
+        let _delivery = replica.receive(alloc, message);
     }
     match replica.replica().shown() {
         Some(shown) => Ok(shown.copy(alloc)?),

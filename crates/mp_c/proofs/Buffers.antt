@@ -25,7 +25,7 @@ use Rattle.mp_replica.specs.declared.fault.LiveFault.{LiveFault}
 use Rattle.mp_replica.specs.declared.fault.LiveFault.TheVariants as live
 use Rattle.mp_c.specs.Answered.{ExportAnswer, answer_text, answer_conflict, answer_document, answer_patch, answer_fault, not_utf8, OfCall}
 use Rattle.mp_c.specs.Laws.{HandleFollows, GaveDocument, ReplaysAgreeInTheirBuffers}
-use Rattle.mp_c.specs.OnHandles.{HandleAnswer, handle_text, handle_conflict, handle_unread, handle_fault, handle_not_utf8, handle_not_started, OfStarted, ShowsDocument}
+use Rattle.mp_c.specs.OnHandles.{HandleAnswer, handle_text, handle_conflict, handle_first_pairs, handle_first_places, handle_unread, handle_fault, handle_not_utf8, handle_not_started, OfStarted, ShowsDocument}
 use Rattle.mp_c.specs.Replies.{IsReply, buffer_after}
 use Rattle.mp_c.specs.Report.{Report, status_conflict, status_document, status_patch, status_result, status_too_large, unnumbered, report_of, report_of_fault, report_of_form, report_of_handle, report_of_list, report_of_live_fault, report_of_pointer, report_of_apply, report_of_text, report_of_unread}
 use Rattle.mp_c.specs.declared.replying.Reply.{Reply}
@@ -141,6 +141,8 @@ shown_by : (start : List ℕ) (patches : List (List ℕ)) (limit : ℕ) (reply :
 shown_by start patches limit reply before buffer (handle_text shown) r s follows is replied has_result enough =
     text_held start patches reply before buffer shown (is.3 start patches follows) (subst (λ (r : Report). IsReply r reply before buffer) (fits limit shown (sym replied.status ∙ has_result)) replied) enough
 shown_by start patches limit reply before buffer (handle_conflict total array) r s follows is replied has_result enough = absurd is
+shown_by start patches limit reply before buffer (handle_first_places total array) r s follows is replied has_result enough = absurd is
+shown_by start patches limit reply before buffer (handle_first_pairs array) r s follows is replied has_result enough = absurd is
 shown_by start patches limit reply before buffer (handle_unread total said) r s follows is replied has_result enough = absurd is
 shown_by start patches limit reply before buffer (handle_fault why) r s follows is replied has_result enough =
     absurd (no_unshown_result why s is.1 (sym replied.status ∙ has_result))

@@ -11,3 +11,4 @@ pub mod PatchesSteps
 pub mod ReplicaSteps
 pub mod Shown
 pub mod SomeReply
+pub mod Started

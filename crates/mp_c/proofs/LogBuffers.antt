@@ -1,23 +1,28 @@
 -- What is in a buffer that holds the whole text of what a patch log gives.
-use Rattle.std.proofs.Common.{◌≡◌, ◌≤◌, ◌∙◌, ℕ, List, Option, None, Some, length, take, sym, ap, subst}
+use Rattle.std.proofs.Common.{if◌then◌else◌, ◌≡◌, ◌≤◌, ◌∙◌, ℕ, Bool, true, false, nat_lt, inl, inr, true≢false, string_bytes, refl, List, [], ◌∷◌, ◌++◌, Result, Ok, Err, MatchResult, Option, None, Some, length, take, sym, ap, subst}
+use Rattle.std.proofs.lemmas.List.{append-nil}
 use Rattle.mp_tree.specs.Text.{text as compact}
 use Rattle.mp_replica.specs.Laws.{AlikeReportTheSame, AlikeShowTheSame}
-use Rattle.mp_replica.specs.LogTexts.{pairs_text}
-use Rattle.mp_replica.specs.PatchLog.{AreAlike, HeldLog}
+use Rattle.mp_replica.specs.Faults.{IsOutOfMemory}
+use Rattle.mp_replica.specs.LogTexts.{IsConflictsText, IsConflictsTextWithin, pairs_text}
+use Rattle.mp_replica.specs.PatchLog.{AreAlike, HeldLog, Pair, Stored, stored_of}
+use Rattle.mp_replica.specs.declared.pairs_texts.PairsText.{PairsText}
+use Rattle.mp_c.specs.Private.Stopping.{pairs_answer, pairs_text_answer}
 use Rattle.mp_replica.specs.declared.fault.LiveFault.{LiveFault}
 use Rattle.mp_replica.specs.declared.fault.LiveFault.TheVariants as live
 use Rattle.mp_c.specs.Laws.{HasRead, LogsAgreeInTheirBuffers}
-use Rattle.mp_c.specs.OnHandles.{HandleAnswer, handle_text, handle_conflict, handle_unread, handle_fault, handle_not_utf8, handle_not_started, OfStarted}
+use Rattle.mp_c.specs.OnHandles.{HandleAnswer, handle_text, handle_conflict, handle_first_pairs, handle_first_places, handle_unread, handle_fault, handle_not_utf8, handle_not_started, OfStarted}
 use Rattle.mp_c.specs.OnLogs.{GivesConflicts, GivesLogDocument, OnlyReads}
 use Rattle.mp_c.specs.Replies.{IsReply}
-use Rattle.mp_c.specs.Report.{Report, status_conflict, status_document, status_not_started, status_pointer, status_result, report_of_handle, report_of_live_fault}
+use Rattle.mp_c.specs.Report.{Report, status_conflict, status_document, status_not_started, status_pointer, status_result, status_too_large, report_of_first, report_of_handle, report_of_live_fault, unnumbered, with_more}
 use Rattle.mp_c.specs.declared.replying.Reply.{Reply}
 use Rattle.mp_c.proofs.Buffers.{fits, of_document, of_pointer, whole_text}
 
 -- the text of what a log gives, and that the buffer begins with it
-record HoldsText (Gives : HeldLog → HandleAnswer → Type 0) (log : HeldLog) (reply : Reply) (buffer : List ℕ) : Type 0 where
+record HoldsText (Gives : ℕ → HeldLog → HandleAnswer → Type 0) (log : HeldLog) (reply : Reply) (buffer : List ℕ) : Type 0 where
+  limit : ℕ
   written : List ℕ
-  given : Gives log (handle_text written)
+  given : Gives limit log (handle_text written)
   whole : reply.length ≡ length written
   first_bytes : take reply.length buffer ≡ written
 
@@ -44,12 +49,24 @@ no_pointer e = cc
 no_start : ¬ (status_not_started ≡ status_result)
 no_start e = cc
 
-module _ (Gives : HeldLog → HandleAnswer → Type 0) (limit : ℕ) (reply : Reply) (before buffer : List ℕ) where
-  read_by : (answer : HandleAnswer) (log s : HeldLog) → OnlyReads Gives log answer s → IsReply (report_of_handle limit status_document answer) reply before buffer
-      → reply.status ≡ status_result → reply.length ≤ length before → HoldsText Gives log reply buffer
-  read_by (handle_text written) log s is replied has_result enough =
+abbrev first_of : List ℕ → Bool → Report
+first_of shown b = if b then unnumbered status_too_large [] else with_more (unnumbered status_result shown)
+
+-- of what comes first of a result that has more the flag says so
+never_first : (limit : ℕ) (shown : List ℕ) → (report_of_first limit shown).status ≡ status_result → (report_of_first limit shown).flags ≡ 0 → ⊥
+never_first limit shown = by (nat_lt limit (length shown))
+  where
+    by : (b : Bool) → (first_of shown b).status ≡ status_result → (first_of shown b).flags ≡ 0 → ⊥
+    by true status flags = cc
+    by false status flags = cc
+
+module _ (Gives : ℕ → HeldLog → HandleAnswer → Type 0) (limit : ℕ) (reply : Reply) (before buffer : List ℕ) where
+  read_by : (answer : HandleAnswer) (log s : HeldLog) → OnlyReads (Gives limit) log answer s → IsReply (report_of_handle limit status_document answer) reply before buffer
+      → reply.status ≡ status_result → reply.flags ≡ 0 → reply.length ≤ length before → HoldsText Gives log reply buffer
+  read_by (handle_text written) log s is replied has_result all enough =
       let said = subst (λ (r : Report). IsReply r reply before buffer) (fits limit written (sym replied.status ∙ has_result)) replied in
       record {
+        limit = limit;
         written = written;
         given = is.0;
         whole = said.whole;
@@ -57,42 +74,74 @@ module _ (Gives : HeldLog → HandleAnswer → Type 0) (limit : ℕ) (reply : Re
             ap (λ (n : ℕ). take n buffer) said.whole ∙ ap (take (length written)) said.buffer
             ∙ whole_text before written (subst (λ (n : ℕ). n ≤ length before) said.whole enough);
       }
-  read_by (handle_conflict total array) log s is replied has_result enough = absurd (no_conflict (sym replied.status ∙ has_result))
-  read_by (handle_unread total said) log s is replied has_result enough = absurd (no_unread (sym replied.status ∙ has_result))
-  read_by (handle_fault why) log s is replied has_result enough = absurd (no_result why (sym replied.status ∙ has_result))
-  read_by (handle_not_utf8 offset) log s is replied has_result enough = absurd (no_pointer (sym replied.status ∙ has_result))
-  read_by handle_not_started log s is replied has_result enough = absurd (no_start (sym replied.status ∙ has_result))
+  read_by (handle_conflict total array) log s is replied has_result all enough = absurd (no_conflict (sym replied.status ∙ has_result))
+  read_by (handle_first_places total array) log s is replied has_result all enough = absurd (no_conflict (sym replied.status ∙ has_result))
+  read_by (handle_first_pairs shown) log s is replied has_result all enough = absurd (never_first limit shown (sym replied.status ∙ has_result) (sym replied.flags ∙ all))
+  read_by (handle_unread total said) log s is replied has_result all enough = absurd (no_unread (sym replied.status ∙ has_result))
+  read_by (handle_fault why) log s is replied has_result all enough = absurd (no_result why (sym replied.status ∙ has_result))
+  read_by (handle_not_utf8 offset) log s is replied has_result all enough = absurd (no_pointer (sym replied.status ∙ has_result))
+  read_by handle_not_started log s is replied has_result all enough = absurd (no_start (sym replied.status ∙ has_result))
 
-  read_held : (answer : HandleAnswer) (log : HeldLog) (after : Option HeldLog) → OfStarted (OnlyReads Gives) (Some log) answer after
-      → IsReply (report_of_handle limit status_document answer) reply before buffer → reply.status ≡ status_result → reply.length ≤ length before
+  read_held : (answer : HandleAnswer) (log : HeldLog) (after : Option HeldLog) → OfStarted (OnlyReads (Gives limit)) (Some log) answer after
+      → IsReply (report_of_handle limit status_document answer) reply before buffer → reply.status ≡ status_result → reply.flags ≡ 0 → reply.length ≤ length before
       → HoldsText Gives log reply buffer
-  read_held answer log None is replied has_result enough = absurd is
-  read_held answer log (Some s) is replied has_result enough = read_by answer log s is replied has_result enough
+  read_held answer log None is replied has_result all enough = absurd is
+  read_held answer log (Some s) is replied has_result all enough = read_by answer log s is replied has_result all enough
 
-holds_text : (Gives : HeldLog → HandleAnswer → Type 0) (log : HeldLog) (reply : Reply) (buffer : List ℕ) → HasRead Gives log reply buffer → HoldsText Gives log reply buffer
+holds_text : (Gives : ℕ → HeldLog → HandleAnswer → Type 0) (log : HeldLog) (reply : Reply) (buffer : List ℕ) → HasRead Gives log reply buffer → HoldsText Gives log reply buffer
 holds_text Gives log reply buffer has =
-    read_held Gives has.limit reply has.before buffer has.replied.0 log has.after has.replied.1 has.replied.2 has.has.status has.has.enough
+    read_held Gives has.limit reply has.before buffer has.replied.0 log has.after has.replied.1 has.replied.2 has.has.status has.all has.has.enough
 
 -- two logs that are alike give one text
-GiveOneText : (HeldLog → HandleAnswer → Type 0) → Type 0
-GiveOneText Gives = (log other : HeldLog) (text others : List ℕ) → AreAlike log other → Gives log (handle_text text) → Gives other (handle_text others) → text ≡ others
+GiveOneText : (ℕ → HeldLog → HandleAnswer → Type 0) → Type 0
+GiveOneText Gives = (limit within : ℕ) (log other : HeldLog) (text others : List ℕ) → AreAlike log other → Gives limit log (handle_text text) → Gives within other (handle_text others) → text ≡ others
 
-agree_by : (Gives : HeldLog → HandleAnswer → Type 0) → GiveOneText Gives → LogsAgreeInTheirBuffers Gives
+agree_by : (Gives : ℕ → HeldLog → HandleAnswer → Type 0) → GiveOneText Gives → LogsAgreeInTheirBuffers Gives
 unfolding GiveOneText
 agree_by Gives one_text log other_log reply other buffer other_buffer alike has other_has =
     let this = holds_text Gives log reply buffer has in
     let that = holds_text Gives other_log other other_buffer other_has in
-    let one = one_text log other_log this.written that.written alike this.given that.given in
+    let one = one_text this.limit that.limit log other_log this.written that.written alike this.given that.given in
     (this.whole ∙ ap length one ∙ sym that.whole, this.first_bytes ∙ one ∙ sym that.first_bytes)
 
 pub agree_on_documents : AlikeShowTheSame → LogsAgreeInTheirBuffers GivesLogDocument
 unfolding GiveOneText
 agree_on_documents shown =
-    agree_by GivesLogDocument (λ log other text others alike gives also.
+    agree_by GivesLogDocument (λ limit within log other text others alike gives also.
     gives.3 ∙ ap compact (shown log other gives.0 also.0 alike gives.1 also.1 gives.2 also.2) ∙ sym also.3)
 
 pub agree_on_conflicts : AlikeReportTheSame → LogsAgreeInTheirBuffers GivesConflicts
 unfolding GiveOneText
 agree_on_conflicts reported =
-    agree_by GivesConflicts (λ log other text others alike gives also.
+    agree_by GivesConflicts (λ limit within log other text others alike gives also.
     gives.is ∙ ap pairs_text (reported log other gives.pairs also.pairs alike gives.are_all also.are_all) ∙ sym also.is)
+
+-- ---- conflicts within a limit
+
+-- where nothing is left out, it is the text of all pairs
+all_written : (limit : ℕ) (stored : Stored) (answer : List ℕ) → IsConflictsTextWithin limit stored answer false → IsConflictsText stored answer
+all_written limit stored answer within = record {
+  pairs = within.pairs;
+  are_all = within.first.all (λ cut. true≢false (sym (within.more_is.1 (inl cut))));
+  is = within.text.is ∙ ap pairs_text (by within.text.rest refl);
+}
+  where
+    by : (rest : List Pair) → within.text.rest ≡ rest → within.text.written ≡ within.pairs
+    by [] is = sym (within.text.all ∙ ap (λ t. within.text.written ++ t) is ∙ append-nil within.text.written)
+    by (pair ∷ rest) is = absurd (true≢false (sym (within.more_is.1 (inr (within.text.left_out.1 (λ none. let differ = sym is ∙ none in cc))))))
+
+pub gives_conflicts : (limit : ℕ) (log : HeldLog) (given : Result PairsText LiveFault) → MatchResult given (λ written. IsConflictsTextWithin limit (stored_of log) (string_bytes written.text) written.more) IsOutOfMemory
+    → GivesConflicts limit log (pairs_answer given)
+gives_conflicts limit log (Ok written) is = by written.more is
+  where
+    by : (more : Bool) → IsConflictsTextWithin limit (stored_of log) (string_bytes written.text) more → GivesConflicts limit log (pairs_text_answer more (string_bytes written.text))
+    by true is = is
+    by false is = all_written limit (stored_of log) (string_bytes written.text) is
+gives_conflicts limit log (Err live.OutOfMemory) is = tt
+gives_conflicts limit log (Err (live.Document why)) is = absurd is
+gives_conflicts limit log (Err (live.Pointer why)) is = absurd is
+gives_conflicts limit log (Err live.Missing) is = absurd is
+gives_conflicts limit log (Err live.NoPatches) is = absurd is
+gives_conflicts limit log (Err live.Conflict) is = absurd is
+gives_conflicts limit log (Err live.Pending) is = absurd is
+gives_conflicts limit log (Err live.NotKept) is = absurd is

@@ -1,13 +1,16 @@
 -- What calls on the handle of a replica answer, of what the calls on the replica say.
-use Rattle.std.proofs.Common.{◌≡◌, ℕ, List, Option, Some, Ok, sym, ap, ◌∙◌, subst}
+use Rattle.std.proofs.Common.{◌≡◌, ℕ, Bool, true, false, true≢false, string_bytes, List, Option, Some, Ok, sym, ap, ◌∙◌, subst}
 use Rattle.mp_tree.specs.Document.{Document}
-use Rattle.mp_tree.specs.Look.{Path}
 use Rattle.mp_tree.specs.Text.{document_in}
+use Rattle.mp_tree.specs.View.{document}
+use Rattle.mp_tree.specs.declared.doc.Doc.{Doc}
 use Rattle.mp_replica.specs.Following.{Follows}
-use Rattle.mp_replica.specs.Held.{AreClashesWith, HeldReplica}
+use Rattle.mp_replica.specs.Held.{HeldReplica}
+use Rattle.mp_replica.specs.Texts.{FollowsTexts}
+use Rattle.mp_replica.specs.declared.fault.LiveFault.TheVariants as live
 use Rattle.mp_replica.specs.declared.replica.Received.TheVariants as received
-use Rattle.mp_c.specs.OnHandles.{HandleAnswer, HasReceived, OfStarted, Receives, StillFollows}
-use Rattle.mp_c.specs.Private.Stopping.{IsAllPlacesOf, IsConflictAt, stop_answer}
+use Rattle.mp_c.specs.OnHandles.{AreFirstPlacesOf, ConflictsWith, HandleAnswer, HasReceived, OfStarted, Receives, StillFollows}
+use Rattle.mp_c.specs.Private.Stopping.{IsConflictOf, conflict_answer, stop_answer}
 use Rattle.mp_c.specs.Replies.{HandleReplies, IsReply}
 use Rattle.mp_c.specs.Report.{report_of_handle}
 use Rattle.mp_c.specs.declared.replying.Reply.{Reply}
@@ -28,31 +31,36 @@ still_follows before after keeps start texts has = record {
 
 -- ---- conflicts of a replica
 
-pub all_places : (limit : ℕ) (r : HeldReplica) (patch : List ℕ) (change : Document) (places : List Path) (stop : Stop) → document_in patch ≡ Ok change
-    → ((start : Document) (received : List Document) → Follows start received r → AreClashesWith received change places) → IsConflictAt limit places stop
-    → IsAllPlacesOf limit r patch stop
-all_places limit r patch change places (Conflict total array) read clashes at = λ start texts follows. record {
-  documents = follows.documents;
-  read = follows.read;
-  change = change;
-  patch_read = read;
-  places = places;
-  clashes = clashes follows.from follows.documents follows.follows;
-  counted = at.0;
-  text = at.1;
-}
-all_places limit r patch change places (Unread total said) read clashes at = at
-all_places limit r patch change places (Fault why) read clashes at = at
-all_places limit r patch change places (NotUtf8 offset) read clashes at = at
-all_places limit r patch change places NotStarted read clashes at = at
+by_more : (limit : ℕ) (patch : List ℕ) (before after : HeldReplica) (total : ℕ) (more : Bool) (array : List ℕ) → more ≡ false → ConflictsWith patch before after
+    → ((start : List ℕ) (texts : List (List ℕ)) → FollowsTexts start texts before → AreFirstPlacesOf limit texts patch total array) → HasReceived limit patch before (conflict_answer more total array) after
+by_more limit patch before after total false array none conflicts places = (conflicts, places)
+by_more limit patch before after total true array none conflicts places = absurd (true≢false none)
 
-pub refuses : (limit : ℕ) (patch : List ℕ) (before after : HeldReplica) (stop : Stop) → Receives received.Conflict patch before after → IsAllPlacesOf limit after patch stop
+pub refuses : (limit : ℕ) (patch : List ℕ) (before after : HeldReplica) (back : Doc) (stop : Stop) → Receives (received.Conflict back) patch before after → IsConflictOf limit after (document back) stop
     → HasReceived limit patch before (stop_answer stop) after
-refuses limit patch before after (Conflict total array) receives places = (receives, λ start texts follows. places start texts (receives start texts follows).0)
-refuses limit patch before after (Unread total said) receives places = absurd places
-refuses limit patch before after (Fault why) receives places = absurd places
-refuses limit patch before after (NotUtf8 offset) receives places = absurd places
-refuses limit patch before after NotStarted receives places = absurd places
+refuses limit patch before after back (Conflict total array more) receives found =
+    by_more limit patch before after total more (string_bytes array) found.0 (back, receives) (λ start texts follows.
+    let now = (receives start texts follows).1 in
+    record {
+      documents = now.documents;
+      read = now.read;
+      change = document back;
+      patch_read = (receives start texts follows).0;
+      places = found.1.0;
+      first = found.1.2 now.from now.documents now.follows;
+      text = found.1.1;
+    })
+refuses limit patch before after back (Fault live.Conflict) receives found = (back, receives)
+refuses limit patch before after back (Fault (live.Document why)) receives found = absurd found
+refuses limit patch before after back (Fault (live.Pointer why)) receives found = absurd found
+refuses limit patch before after back (Fault live.Missing) receives found = absurd found
+refuses limit patch before after back (Fault live.NoPatches) receives found = absurd found
+refuses limit patch before after back (Fault live.Pending) receives found = absurd found
+refuses limit patch before after back (Fault live.NotKept) receives found = absurd found
+refuses limit patch before after back (Fault live.OutOfMemory) receives found = absurd found
+refuses limit patch before after back (Unread total said) receives found = absurd found
+refuses limit patch before after back (NotUtf8 offset) receives found = absurd found
+refuses limit patch before after back NotStarted receives found = absurd found
 
 -- ---- a call on what a handle owns
 

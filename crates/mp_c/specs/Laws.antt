@@ -52,17 +52,18 @@ ReplaysAgreeInTheirBuffers = (start other_start : List ℕ) (texts others : List
 
 -- ---- patch logs
 
--- a call read a patch log, and had a result, which its buffer holds
-pub record HasRead (Gives : HeldLog → HandleAnswer → Type 0) (log : HeldLog) (reply : Reply) (buffer : List ℕ) : Type 0 where
+-- a call read a patch log within its limit, and had a result of which nothing was left out, which its buffer holds
+pub record HasRead (Gives : ℕ → HeldLog → HandleAnswer → Type 0) (log : HeldLog) (reply : Reply) (buffer : List ℕ) : Type 0 where
   pub limit : ℕ
   pub before : List ℕ
   pub after : Option HeldLog
-  pub replied : HandleReplies limit status_document (λ answer. OfStarted (OnlyReads Gives) (Some log) answer after) reply before buffer
+  pub replied : HandleReplies limit status_document (λ answer. OfStarted (OnlyReads (Gives limit)) (Some log) answer after) reply before buffer
   pub has : HasResult reply before
+  pub all : reply.flags ≡ 0
 
 -- of two such calls on logs with one start and the same patches, each under its identity, in whatever order they arrived, the
 -- buffers begin with the same bytes
-abbrev pub LogsAgreeInTheirBuffers : (HeldLog → HandleAnswer → Type 0) → Type 0
+abbrev pub LogsAgreeInTheirBuffers : (ℕ → HeldLog → HandleAnswer → Type 0) → Type 0
 LogsAgreeInTheirBuffers Gives = (log other_log : HeldLog) (reply other : Reply) (buffer other_buffer : List ℕ)
     → AreAlike log other_log → HasRead Gives log reply buffer → HasRead Gives other_log other other_buffer
     → (reply.length ≡ other.length) × (take reply.length buffer ≡ take other.length other_buffer)

@@ -1,5 +1,5 @@
 -- What each call on a handle answers, and what it makes of what the handle owns.
-use Rattle.std.specs.Prelude.{◌≡◌, ◌≢◌, ◌⊎◌, ℕ, List, [], Option, None, Some, MatchOption, Ok, Err, length, ⊤}
+use Rattle.std.specs.Prelude.{◌≡◌, ◌≢◌, ◌⊎◌, ℕ, Bool, true, false, List, [], Option, None, Some, MatchOption, Ok, Err, length, ⊤}
 use Rattle.std.specs.Str.{IsUtf8, IsValidUpTo}
 use Rattle.mp_tree.specs.Document.{Document}
 use Rattle.mp_tree.specs.Look.{Path}
@@ -10,12 +10,13 @@ use Rattle.mp_texts.specs.Answers.{IsJoinText, IsReplayText}
 use Rattle.mp_texts.specs.PlacesTexts.{IsPlacesText}
 use Rattle.mp_texts.specs.Texts.{AreCompatible, AreRead}
 use Rattle.mp_replica.specs.Faults.{IsNoPart, IsNotJoined, IsUnshown}
-use Rattle.mp_replica.specs.Held.{AreClashesWith, HeldPatches, HeldReplica}
+use Rattle.mp_tree.specs.declared.doc.Doc.{Doc}
+use Rattle.mp_replica.specs.Held.{AreFirstClashesWith, HeldPatches, HeldReplica}
 use Rattle.mp_replica.specs.Kept.{IsHeldBy, IsKept, IsNoKept, IsNotKeptYet}
 use Rattle.mp_replica.specs.Taking.{TakesAll, TakesOne}
 use Rattle.mp_replica.specs.Texts.{FollowsTexts, FollowsTextsOn, HasTakenTexts, IsPartOf}
 use Rattle.mp_replica.specs.declared.fault.LiveFault.{LiveFault}
-use Rattle.mp_replica.specs.declared.fault.LiveFault.TheVariants.{NoPatches, Pending, OutOfMemory}
+use Rattle.mp_replica.specs.declared.fault.LiveFault.TheVariants.{Conflict, NoPatches, Pending, OutOfMemory}
 use Rattle.mp_replica.specs.declared.patches.Added.{Added}
 use Rattle.mp_replica.specs.declared.patches.Added.TheVariants as added
 use Rattle.mp_replica.specs.declared.replica.Received.{Received}
@@ -26,6 +27,10 @@ pub data HandleAnswer : Type 0 where
   handle_text : List ℕ → HandleAnswer
   -- patches conflict at so many places; the text of the array of those that the limit allows
   handle_conflict : ℕ → List ℕ → HandleAnswer
+  -- the same of the first so many places, where there are more
+  handle_first_places : ℕ → List ℕ → HandleAnswer
+  -- the text of the pairs that come first, where there are more pairs or places
+  handle_first_pairs : List ℕ → HandleAnswer
   -- the text is no document: what is said of it, and before that how many bytes of it are words if a place follows them
   handle_unread : ℕ → List ℕ → HandleAnswer
   handle_fault : LiveFault → HandleAnswer
@@ -63,29 +68,37 @@ abbrev pub Receives : Received → List ℕ → HeldReplica → HeldReplica → 
 Receives what patch before after = (start : List ℕ) (texts : List (List ℕ)) → FollowsTexts start texts before
     → FollowsTextsOn what start texts patch after
 
--- all places at which a patch clashes with the patches of these texts: how many they are, and the text of the array of as many
--- as the limit allows
-pub record AreAllPlaces (limit : ℕ) (texts : List (List ℕ)) (patch : List ℕ) (total : ℕ) (array : List ℕ) : Type 0 where
+-- the text of the array of as many places as the limit allows, or none if there was no memory for it
+abbrev pub IsPlacesTextOrNone : ℕ → List Path → List ℕ → Type 0
+IsPlacesTextOrNone limit places array = IsPlacesText limit places array ⊎ (array ≡ [])
+
+-- of all places at which a patch clashes with the patches of these texts those that come first within the limit: how many there
+-- are in all, and the text of the array of as many as the limit allows
+pub record AreFirstPlacesOf (limit : ℕ) (texts : List (List ℕ)) (patch : List ℕ) (total : ℕ) (array : List ℕ) : Type 0 where
   pub documents : List Document
   pub read : AreRead texts documents
   pub change : Document
   pub patch_read : document_in patch ≡ Ok change
   pub places : List Path
-  pub clashes : AreClashesWith documents change places
-  pub counted : total ≡ length places
-  pub text : IsPlacesText limit places array
+  pub first : AreFirstClashesWith limit documents change places total
+  pub text : IsPlacesTextOrNone limit places array
 
--- a patch is not shown: it is pending, or it is not received
+-- the patch conflicts with what was received, and is not received
+abbrev pub ConflictsWith : List ℕ → HeldReplica → HeldReplica → Type 0
+ConflictsWith patch before after = (back : Doc) × Receives (received.Conflict back) patch before after
+
+-- a patch is not shown: it is pending, or it is not received; it conflicts, and there was no memory for the places
 abbrev pub IsUnshownPatch : LiveFault → List ℕ → HeldReplica → HeldReplica → Type 0
 IsUnshownPatch Pending patch before after = Receives received.Pending patch before after
+IsUnshownPatch Conflict patch before after = ConflictsWith patch before after
 IsUnshownPatch OutOfMemory patch before after = StillFollows before after
 IsUnshownPatch other patch before after = ⊥
 
 abbrev pub HasReceived : ℕ → List ℕ → HeldReplica → HandleAnswer → HeldReplica → Type 0
 HasReceived limit patch before (handle_text said) after = (said ≡ []) × Receives received.Taken patch before after
 HasReceived limit patch before (handle_conflict total array) after =
-    Receives received.Conflict patch before after
-    × ((start : List ℕ) (texts : List (List ℕ)) → FollowsTexts start texts before → AreAllPlaces limit texts patch total array)
+    ConflictsWith patch before after
+    × ((start : List ℕ) (texts : List (List ℕ)) → FollowsTexts start texts before → AreFirstPlacesOf limit texts patch total array)
 HasReceived limit patch before (handle_unread total said) after = SaysUnread patch total said × (after ≡ before)
 HasReceived limit patch before (handle_fault why) after = IsUnshownPatch why patch before after
 HasReceived limit patch before answer after = ⊥
@@ -116,6 +129,8 @@ ShowsPart pointer before (handle_fault why) after =
 ShowsPart pointer before (handle_not_utf8 offset) after = (after ≡ before) × IsValidUpTo pointer offset
 ShowsPart pointer before handle_not_started after = ⊥
 ShowsPart pointer before (handle_conflict total array) after = ⊥
+ShowsPart pointer before (handle_first_places total array) after = ⊥
+ShowsPart pointer before (handle_first_pairs array) after = ⊥
 ShowsPart pointer before (handle_unread total said) after = ⊥
 
 -- ---- patches without a start
@@ -134,10 +149,18 @@ OfPatches Does before answer after = Does (patches_in before) answer (patches_in
 abbrev pub StillTaken : HeldPatches → HeldPatches → Type 0
 StillTaken before after = (texts : List (List ℕ)) → HasTakenTexts before texts → HasTakenTexts after texts
 
--- the places of the conflict that it holds: how many they are, and the text of the array of as many as the limit allows
-abbrev pub HoldsPlaces : ℕ → ℕ → List ℕ → HeldPatches → Type 0
-HoldsPlaces limit total array r =
-    MatchOption r.places ⊥ (λ places. (total ≡ length places) × IsPlacesText limit places array)
+-- the places of the conflict that it holds: how many they are, whether there are more, and the text of the array of as many as
+-- the limit allows
+abbrev pub HoldsPlaces : ℕ → ℕ → Bool → List ℕ → HeldPatches → Type 0
+HoldsPlaces limit total more array r =
+    MatchOption r.places ⊥ (λ held. (total ≡ length held.places) × (more ≡ held.more)
+    × IsPlacesTextOrNone limit held.places array)
+
+-- what is said of a conflict
+abbrev pub SaysConflict : ℕ → HandleAnswer → HeldPatches → Type 0
+SaysConflict limit (handle_conflict total array) r = HoldsPlaces limit total false array r
+SaysConflict limit (handle_first_places total array) r = HoldsPlaces limit total true array r
+SaysConflict limit answer r = ⊥
 
 -- what becomes of a patch, whatever texts were taken
 abbrev pub TakesPatch : Added → List ℕ → HeldPatches → HeldPatches → Type 0
@@ -146,15 +169,16 @@ TakesPatch what patch before after = (texts : List (List ℕ)) → HasTakenTexts
 
 -- a patch is not joined: it is taken and cannot be shown, or it is not taken
 abbrev pub IsNotAdded : LiveFault → List ℕ → HeldPatches → HeldPatches → Type 0
-IsNotAdded Pending patch before after =
-    TakesPatch added.Pending patch before after ⊎ TakesPatch added.Conflict patch before after
+IsNotAdded Pending patch before after = TakesPatch added.Pending patch before after
 IsNotAdded OutOfMemory patch before after = StillTaken before after
 IsNotAdded other patch before after = ⊥
 
 abbrev pub HasAdded : ℕ → List ℕ → HeldPatches → HandleAnswer → HeldPatches → Type 0
 HasAdded limit patch before (handle_text said) after = (said ≡ []) × TakesPatch added.Joined patch before after
 HasAdded limit patch before (handle_conflict total array) after =
-    TakesPatch added.Conflict patch before after × HoldsPlaces limit total array after
+    TakesPatch added.Conflict patch before after × SaysConflict limit (handle_conflict total array) after
+HasAdded limit patch before (handle_first_places total array) after =
+    TakesPatch added.Conflict patch before after × SaysConflict limit (handle_first_places total array) after
 HasAdded limit patch before (handle_unread total said) after = SaysUnread patch total said × (after ≡ before)
 HasAdded limit patch before (handle_fault why) after = IsNotAdded why patch before after
 HasAdded limit patch before answer after = ⊥
@@ -171,8 +195,7 @@ StillBoth before other after left = (texts others : List (List ℕ)) → HasTake
 
 -- two are not joined: all is taken and cannot be shown, or both have what they had
 abbrev pub IsNotCombined : LiveFault → HeldPatches → HeldPatches → HeldPatches → HeldPatches → Type 0
-IsNotCombined Pending before other after left =
-    Combines added.Pending before other after left ⊎ Combines added.Conflict before other after left
+IsNotCombined Pending before other after left = Combines added.Pending before other after left
 IsNotCombined OutOfMemory before other after left = StillBoth before other after left
 IsNotCombined why before other after left = ⊥
 
@@ -180,7 +203,9 @@ abbrev pub HasCombined : ℕ → HeldPatches → HeldPatches → HandleAnswer �
 HasCombined limit before other (handle_text said) after left =
     (said ≡ []) × Combines added.Joined before other after left
 HasCombined limit before other (handle_conflict total array) after left =
-    Combines added.Conflict before other after left × HoldsPlaces limit total array after
+    Combines added.Conflict before other after left × SaysConflict limit (handle_conflict total array) after
+HasCombined limit before other (handle_first_places total array) after left =
+    Combines added.Conflict before other after left × SaysConflict limit (handle_first_places total array) after
 HasCombined limit before other (handle_fault why) after left = IsNotCombined why before other after left
 HasCombined limit before other answer after left = ⊥
 
@@ -198,7 +223,10 @@ GivesJoin limit before (handle_text joined) after =
     × MatchOption after.joined ⊥ (λ j. joined ≡ compact (document j))
     × ((texts : List (List ℕ)) → HasTakenTexts before texts → IsJoinText texts joined)
 GivesJoin limit before (handle_conflict total array) after =
-    StillTaken before after × HoldsPlaces limit total array after
+    StillTaken before after × SaysConflict limit (handle_conflict total array) after
+    × ((texts : List (List ℕ)) → HasTakenTexts before texts → ¬ AreCompatible texts)
+GivesJoin limit before (handle_first_places total array) after =
+    StillTaken before after × SaysConflict limit (handle_first_places total array) after
     × ((texts : List (List ℕ)) → HasTakenTexts before texts → ¬ AreCompatible texts)
 GivesJoin limit before (handle_fault why) after = StillTaken before after × HasNoJoin why before after
 GivesJoin limit before answer after = ⊥
@@ -219,6 +247,9 @@ HoldsKept kept r =
 -- it is made of a kept form, or is as it was
 abbrev pub IsMadeOfKept : ℕ → List ℕ → HeldPatches → HandleAnswer → HeldPatches → Type 0
 IsMadeOfKept limit kept before (handle_text said) after = (said ≡ []) × HoldsKept kept after × (after.places ≡ None)
-IsMadeOfKept limit kept before (handle_conflict total array) after = HoldsKept kept after × HoldsPlaces limit total array after
+IsMadeOfKept limit kept before (handle_conflict total array) after =
+    HoldsKept kept after × SaysConflict limit (handle_conflict total array) after
+IsMadeOfKept limit kept before (handle_first_places total array) after =
+    HoldsKept kept after × SaysConflict limit (handle_first_places total array) after
 IsMadeOfKept limit kept before (handle_fault why) after = IsNoKept why kept × (after ≡ before)
 IsMadeOfKept limit kept before answer after = ⊥

@@ -1,17 +1,17 @@
 -- What each call on the handle of a patch log answers, and what it makes of what the handle owns.
-use Rattle.std.specs.Prelude.{◌≡◌, ◌+◌, ◌^◌, ◌<◌, ◌≤◌, ℕ, List, [], ◌∷◌, ◌++◌, Option, None, Some, Ok, codes, length, slice_get, take, ⊤}
+use Rattle.std.specs.Prelude.{◌≡◌, ◌+◌, ◌^◌, ◌<◌, ◌≤◌, ℕ, pos, true, List, [], ◌∷◌, ◌++◌, Option, None, Some, Ok, codes, length, slice_get, take, ⊤}
 use Rattle.std.specs.List.{Contains}
-use Rattle.mp_tree.specs.Document.{Document, IsDocument}
+use Rattle.mp_tree.specs.Document.{Document, IsDocument, whole}
+use Rattle.mp_tree.specs.Look.{Path}
 use Rattle.mp_tree.specs.Text.{document_in, text as compact}
-use Rattle.mp_texts.specs.PlacesTexts.{IsPlacesText}
-use Rattle.mp_replica.specs.LogTexts.{IsConflictsText}
+use Rattle.mp_replica.specs.LogTexts.{IsConflictsText, IsConflictsTextWithin}
 use Rattle.mp_replica.specs.Messages.{LogFollows, Becomes, Sent}
-use Rattle.mp_replica.specs.PatchLog.{Begins, HaveArrived, HeldLog, IsFirstMissing, IsFirstPair, Pair, Shows, Stored, start_of, stored_of}
+use Rattle.mp_replica.specs.PatchLog.{AreFirstConflictsAt, Begins, HaveArrived, HeldLog, IsFirstMissing, IsFirstPair, Shows, Stored, start_of, stored_of}
 use Rattle.mp_replica.specs.declared.fault.LiveFault.TheVariants.{OutOfMemory}
 use Rattle.mp_replica.specs.declared.message.Arrival.{Arrival}
 use Rattle.mp_replica.specs.declared.message.Arrival.TheVariants as arrival
 use Rattle.mp_replica.specs.declared.message.Identity.{Identity}
-use Rattle.mp_c.specs.OnHandles.{HandleAnswer, SaysUnread, handle_fault, handle_text, handle_unread}
+use Rattle.mp_c.specs.OnHandles.{HandleAnswer, IsPlacesTextOrNone, SaysUnread, handle_fault, handle_first_pairs, handle_text, handle_unread}
 
 -- it is made of the text of a start and has received nothing, or is as it was
 abbrev pub IsStartedLog : ℕ → List ℕ → Option HeldLog → HandleAnswer → Option HeldLog → Type 0
@@ -53,17 +53,24 @@ abbrev pub OnlyReads : (HeldLog → HandleAnswer → Type 0) → HeldLog → Han
 OnlyReads Gives before answer after = Gives before answer × (after ≡ before)
 
 -- the text of the outcome of the start and of the patches that conflict with no other
-abbrev pub GivesLogDocument : HeldLog → HandleAnswer → Type 0
-GivesLogDocument log (handle_text shown) =
+abbrev pub GivesLogDocument : ℕ → HeldLog → HandleAnswer → Type 0
+GivesLogDocument limit log (handle_text shown) =
     (d : Document) × IsDocument d × Shows (start_of log) (stored_of log) d × (shown ≡ compact d)
-GivesLogDocument log (handle_fault OutOfMemory) = ⊤
-GivesLogDocument log answer = ⊥
+GivesLogDocument limit log (handle_fault OutOfMemory) = ⊤
+GivesLogDocument limit log answer = ⊥
 
--- the text of each two patches that conflict
-abbrev pub GivesConflicts : HeldLog → HandleAnswer → Type 0
-GivesConflicts log (handle_text shown) = IsConflictsText (stored_of log) shown
-GivesConflicts log (handle_fault OutOfMemory) = ⊤
-GivesConflicts log answer = ⊥
+-- the text of each two patches that conflict; or of those that come first within the limit, where a pair or a place is left out
+abbrev pub GivesConflicts : ℕ → HeldLog → HandleAnswer → Type 0
+GivesConflicts limit log (handle_text shown) = IsConflictsText (stored_of log) shown
+GivesConflicts limit log (handle_first_pairs shown) = IsConflictsTextWithin limit (stored_of log) shown true
+GivesConflicts limit log (handle_fault OutOfMemory) = ⊤
+GivesConflicts limit log answer = ⊥
+
+-- how many patches are stored, as the text of a whole number
+abbrev pub GivesCount : HeldLog → HandleAnswer → Type 0
+GivesCount log (handle_text said) = said ≡ compact (whole (pos (length log.stored)))
+GivesCount log (handle_fault OutOfMemory) = ⊤
+GivesCount log answer = ⊥
 
 -- ---- decisions
 
@@ -93,12 +100,14 @@ pub record HasNoPatchAt (stored : Stored) (chosen : List Identity) (number : ℕ
 -- array of as many as the limit allows
 pub record IsFirstConflict (limit : ℕ) (stored : Stored) (chosen : List Identity) (first second total : ℕ) (array : List ℕ)
     : Type 0 where
-  pub pair : Pair
-  pub is_first : IsFirstPair stored chosen pair
-  pub at_first : IsLeastNumber chosen pair.first first
-  pub at_second : IsLeastNumber chosen pair.second second
-  pub counted : total ≡ length pair.places
-  pub text : IsPlacesText limit pair.places array
+  pub one : Identity
+  pub other : Identity
+  pub is_first : IsFirstPair stored chosen one other
+  pub at_first : IsLeastNumber chosen one first
+  pub at_second : IsLeastNumber chosen other second
+  pub places : List Path
+  pub conflicts : AreFirstConflictsAt limit stored one other places total
+  pub text : IsPlacesTextOrNone limit places array
 
 -- why no new start is begun: the first of these that holds
 abbrev pub IsUndecided : ℕ → HeldLog → List Identity → DecideAnswer → Type 0

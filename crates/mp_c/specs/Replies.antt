@@ -17,7 +17,7 @@ pub record IsReply (report : Report) (reply : Reply) (before after : List ℕ) :
   pub second : reply.second ≡ report.second
   pub total : reply.total ≡ report.total
   pub spare : reply.spare ≡ 0
-  pub flags : reply.flags ≡ 0
+  pub flags : reply.flags ≡ report.flags
   pub whole : reply.length ≡ length report.text
   pub buffer : after ≡ buffer_after before report.text
 

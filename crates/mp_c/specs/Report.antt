@@ -18,7 +18,7 @@ use Rattle.mp_replica.specs.declared.fault.LiveFault.{LiveFault}
 use Rattle.mp_replica.specs.declared.fault.LiveFault.TheVariants as live
 use Rattle.mp_c.specs.Answered.{ExportAnswer, answer_text, answer_conflict, answer_document, answer_patch, answer_fault}
 use Rattle.mp_c.specs.Answered.{not_utf8, read_text, said_with, words_before}
-use Rattle.mp_c.specs.OnHandles.{HandleAnswer, handle_text, handle_conflict, handle_unread, handle_fault, handle_not_utf8}
+use Rattle.mp_c.specs.OnHandles.{HandleAnswer, handle_text, handle_conflict, handle_first_pairs, handle_first_places, handle_unread, handle_fault, handle_not_utf8}
 use Rattle.mp_c.specs.OnHandles.{handle_not_started}
 use Rattle.mp_c.specs.OnLogs.{DecideAnswer, decide_begun, decide_conflict, decide_last, decide_missing, decide_no_memory, decide_not_started}
 
@@ -83,11 +83,21 @@ pub record Report : Type 0 where
   pub first : ℕ
   pub second : ℕ
   pub total : ℕ
+  pub flags : ℕ
   pub text : List ℕ
+
+-- there is more than what is reported
+abbrev pub flag_more : ℕ
+flag_more = 1
+
+abbrev pub with_more : Report → Report
+with_more r =
+    record { status = r.status; first = r.first; second = r.second; total = r.total; flags = flag_more; text = r.text }
 
 -- a number that says nothing is 0
 abbrev pub numbered : ℕ → ℕ → List ℕ → Report
-numbered status number words = record { status = status; first = number; second = 0; total = 0; text = words }
+numbered status number words =
+    record { status = status; first = number; second = 0; total = 0; flags = 0; text = words }
 
 abbrev pub unnumbered : ℕ → List ℕ → Report
 unnumbered status words = numbered status 0 words
@@ -101,10 +111,15 @@ abbrev pub report_of_text : ℕ → List ℕ → Report
 report_of_text limit result =
     if nat_lt limit (length result) then unnumbered status_too_large [] else unnumbered status_result result
 
+-- the same of what comes first of a result that has more
+abbrev pub report_of_first : ℕ → List ℕ → Report
+report_of_first limit result =
+    if nat_lt limit (length result) then unnumbered status_too_large [] else with_more (unnumbered status_result result)
+
 -- the words, and after them the place of the value if there is one; `total` is then how many bytes the words have
 abbrev pub report_of_words : ℕ → ℕ → List ℕ → Option Tokens → Report
 report_of_words status number words place =
-    record { status = status; first = number; second = 0; total = words_before words place; text = said_with words place }
+    record { status = status; first = number; second = 0; total = words_before words place; flags = 0; text = said_with words place }
 
 abbrev pub report_of_unread : ℕ → ℕ → ReadFault → Option Tokens → Report
 report_of_unread status number read.OutOfMemory place = no_memory
@@ -113,7 +128,7 @@ report_of_unread status number why place = report_of_words status number (read_t
 -- the numbers of two patches that clash, how many places they clash at, and these
 abbrev pub report_of_places : ℕ → ℕ → ℕ → List ℕ → Report
 report_of_places first second total array =
-    record { status = status_conflict; first = first; second = second; total = total; text = array }
+    record { status = status_conflict; first = first; second = second; total = total; flags = 0; text = array }
 
 -- the places have a text of their own
 abbrev pub report_of_list : ListWithinFault → Report
@@ -164,7 +179,7 @@ report_of_live_fault unread (live.Document why) = report_of_unread unread 0 why 
 report_of_live_fault unread (live.Pointer why) = report_of_pointer why
 report_of_live_fault unread live.Missing = unnumbered status_missing (codes "missing")
 report_of_live_fault unread live.NoPatches = unnumbered status_no_patches (codes "no patches")
-report_of_live_fault unread live.Conflict = unnumbered status_conflict []
+report_of_live_fault unread live.Conflict = with_more (unnumbered status_conflict [])
 report_of_live_fault unread live.Pending = unnumbered status_pending (codes "pending")
 report_of_live_fault unread live.NotKept = unnumbered unread (codes "not kept patches")
 report_of_live_fault unread live.OutOfMemory = no_memory
@@ -172,8 +187,10 @@ report_of_live_fault unread live.OutOfMemory = no_memory
 abbrev pub report_of_handle : ℕ → ℕ → HandleAnswer → Report
 report_of_handle limit unread (handle_text result) = report_of_text limit result
 report_of_handle limit unread (handle_conflict total array) = report_of_places 0 0 total array
+report_of_handle limit unread (handle_first_places total array) = with_more (report_of_places 0 0 total array)
+report_of_handle limit unread (handle_first_pairs result) = report_of_first limit result
 report_of_handle limit unread (handle_unread total said) =
-    record { status = unread; first = 0; second = 0; total = total; text = said }
+    record { status = unread; first = 0; second = 0; total = total; flags = 0; text = said }
 report_of_handle limit unread (handle_fault why) = report_of_live_fault unread why
 report_of_handle limit unread (handle_not_utf8 offset) = numbered status_pointer offset (codes "not UTF-8")
 report_of_handle limit unread handle_not_started = unnumbered status_not_started (codes "not started")

@@ -16,7 +16,8 @@ pub fn replays_agree_in_their_buffers()
 }
 
 /// Patch logs agree: two logs of one start that store the same patches under the same identities, in whatever order they
-/// arrived, show the same bytes and report the same bytes, if each call has a result and a buffer as long as it.
+/// arrived, show the same bytes and report the same bytes, if each call has a result of which its limit left nothing out, and
+/// a buffer as long as it.
 pub fn logs_agree_in_their_buffers()
     ensures document { LogsAgreeInTheirBuffers GivesLogDocument }
     ensures conflicts { LogsAgreeInTheirBuffers GivesConflicts }

@@ -1,19 +1,19 @@
 //! Exports on a patch log that stays in memory.
-ghost use Rattle.std.specs.Prelude.{◌≡◌, MatchResult, None, Ok};
+ghost use Rattle.std.specs.Prelude.{◌≡◌, MatchResult, None, Ok, ℕ};
 ghost use Rattle.mp_tree.specs.Text.{document_in};
 ghost use Rattle.mp_tree.specs.View.{document};
 ghost use Rattle.mp_c.specs.OnHandles.{OfStarted};
-ghost use Rattle.mp_c.specs.OnLogs.{Decides, GivesConflicts, GivesLogDocument, HasDecided, IsStartedLog, OnlyReads, SaysArrival, arrival_word};
-ghost use Rattle.mp_c.specs.Private.Stopping.{IsNoPatch, arrival_answer, decide_answer, handle_answer};
+ghost use Rattle.mp_c.specs.OnLogs.{Decides, GivesConflicts, GivesCount, GivesLogDocument, HasDecided, IsStartedLog, OnlyReads, SaysArrival, arrival_word};
+ghost use Rattle.mp_c.specs.Private.Stopping.{IsNoPatch, arrival_answer, decide_answer, handle_answer, pairs_answer};
 ghost use Rattle.mp_c.specs.Replies.{DecideReplies, HandleReplies, IsReply};
 ghost use Rattle.mp_c.specs.Report.{report_of_handle, status_document, status_patch};
 
 use crate::patch_log_handle::PatchLogHandle;
-use crate::replying::{DOCUMENT, PATCH, Reply, write_result};
+use crate::replying::{DOCUMENT, PATCH, Reply, write_first, write_result};
 use crate::stopping::{Stop, report_live, stop_of};
 use crate::undecided::{Undecided, report_decided, undecided_of};
-use mp_replica::{Arrival, Identity, LiveFault, Message, PatchLog};
-use mp_tree::{Doc, ReadFault, read_doc, write_doc};
+use mp_replica::{Arrival, Identity, LiveFault, Message, PairsText, PatchLog};
+use mp_tree::{Doc, ReadFault, Whole, read_doc, write_doc};
 use std::alloc::Global;
 
 /// Starts a patch log from the text of a document and the number of that start, in the place of one that was started before.
@@ -138,7 +138,8 @@ pub extern "C" fn mergejoin_patch_log_document(
     limit: usize,
 ) -> Reply
     ensures { HandleReplies limit status_document
-        (λ answer. OfStarted (OnlyReads GivesLogDocument) log.old.value answer log.new.value)
+        (λ answer. OfStarted (OnlyReads (GivesLogDocument limit)) log.old.value answer
+        log.new.value)
         result out.old out.new }
 {
     let Some(held) = log.take(alloc) else {
@@ -150,13 +151,13 @@ pub extern "C" fn mergejoin_patch_log_document(
 }
 
 fn document(alloc: Global, log: &PatchLog) -> Result<String, Stop>
-    ensures { GivesLogDocument log.now (handle_answer result) }
+    ensures { (limit : ℕ) → GivesLogDocument limit log.now (handle_answer result) }
 {
     let shown = log.document(alloc)?;
     Ok(write_doc(alloc, &shown)?)
 }
 
-/// The text of each two patches of a log that conflict.
+/// The text of each two patches of a log that conflict, as `mp_replica::PatchLog::conflicts_text_within` gives it.
 #[unsafe(no_mangle)]
 pub extern "C" fn mergejoin_patch_log_conflicts(
     alloc: Global,
@@ -165,21 +166,53 @@ pub extern "C" fn mergejoin_patch_log_conflicts(
     limit: usize,
 ) -> Reply
     ensures { HandleReplies limit status_document
-        (λ answer. OfStarted (OnlyReads GivesConflicts) log.old.value answer log.new.value)
+        (λ answer. OfStarted (OnlyReads (GivesConflicts limit)) log.old.value answer log.new.value)
         result out.old out.new }
 {
     let Some(held) = log.take(alloc) else {
         return report_live(Err(Stop::NotStarted), DOCUMENT, out, limit);
     };
-    let answer = conflicts(alloc, &held);
+    let answer = held.conflicts_text_within(alloc, limit);
+    log.put(alloc, held);
+    report_conflicts(answer, out, limit)
+}
+
+fn report_conflicts(answer: Result<PairsText, LiveFault>, out: &mut [u8], limit: usize) -> Reply
+    ensures { IsReply (report_of_handle limit status_document (pairs_answer answer)) result
+        out.old out.new }
+{
+    match answer {
+        Ok(PairsText { text, more: true }) => write_first(text.as_str(), out, limit),
+        Ok(PairsText { text, more: false }) => write_result(text.as_str(), out, limit),
+        Err(fault) => report_live(Err(Stop::Fault(fault)), DOCUMENT, out, limit),
+    }
+}
+
+/// How many patches a log stores, as the text of a whole number.
+#[unsafe(no_mangle)]
+pub extern "C" fn mergejoin_patch_log_count(
+    alloc: Global,
+    log: &mut PatchLogHandle,
+    out: &mut [u8],
+    limit: usize,
+) -> Reply
+    ensures { HandleReplies limit status_document
+        (λ answer. OfStarted (OnlyReads GivesCount) log.old.value answer log.new.value)
+        result out.old out.new }
+{
+    let Some(held) = log.take(alloc) else {
+        return report_live(Err(Stop::NotStarted), DOCUMENT, out, limit);
+    };
+    let answer = count(alloc, &held);
     log.put(alloc, held);
     report_live(answer, DOCUMENT, out, limit)
 }
 
-fn conflicts(alloc: Global, log: &PatchLog) -> Result<String, Stop>
-    ensures { GivesConflicts log.now (handle_answer result) }
+fn count(alloc: Global, log: &PatchLog) -> Result<String, Stop>
+    ensures { GivesCount log.now (handle_answer result) }
 {
-    Ok(log.conflicts_text(alloc)?)
+    let count = Doc::Whole(Whole::from_u64(log.count() as u64));
+    Ok(write_doc(alloc, &count)?)
 }
 
 /// Begins the new start, with which the old one ends by the chosen patches, as `mp_replica::PatchLog::decide` does.
@@ -211,7 +244,7 @@ fn decide(
 ) -> Result<(), Undecided>
     ensures { Decides limit chosen.now log.old (decide_answer result) log.new }
 {
-    match log.decide(alloc, chosen) {
+    match log.decide(alloc, chosen, limit) {
         Ok(()) => Ok(()),
         Err(fault) => Err(undecided_of(alloc, fault, chosen, limit)),
     }

@@ -1,7 +1,7 @@
 //! Exports on patches without a start that stay in memory, for reduces and aggregates.
-ghost use Rattle.std.specs.Prelude.{◌≡◌, IfErr, IfOk, MatchResult, None, OnErr, option_map, Some};
-ghost use Rattle.mp_c.specs.OnHandles.{GivesJoin, GivesKept, HasAdded, HasCombined, HoldsPlaces, IsMadeOfKept, OfPatches, patches_in};
-ghost use Rattle.mp_c.specs.Private.Stopping.{IsConflictOr, IsSaid, IsSaidOfKept, handle_answer, stop_answer};
+ghost use Rattle.std.specs.Prelude.{◌≡◌, ◌≢◌, IfErr, MatchResult, None, OnErr, option_map, Some};
+ghost use Rattle.mp_c.specs.OnHandles.{GivesJoin, GivesKept, HasAdded, HasCombined, IsMadeOfKept, OfPatches, SaysConflict, patches_in};
+ghost use Rattle.mp_c.specs.Private.Stopping.{IsSaid, IsSaidOfKept, handle_answer, stop_answer};
 ghost use Rattle.mp_c.specs.Replies.{HandleReplies};
 ghost use Rattle.mp_c.specs.Report.{status_document, status_patch};
 
@@ -10,7 +10,7 @@ use crate::replying::{DOCUMENT, PATCH, Reply};
 use crate::stopping::{Stop, conflict_at, report_live, stop_of};
 use mp_replica::{Added, LiveFault, Patches, laws as live};
 use mp_tree::laws as tree;
-use std::alloc::{AllocError, AllocFailed, Global};
+use std::alloc::{AllocFailed, Global};
 
 // What is held, or no patches.
 fn held_or_none(
@@ -66,28 +66,27 @@ fn add(alloc: Global, patches: &mut Patches, patch: &[u8], limit: usize) -> Resu
     }
 }
 
-// What is said of patches that were to be taken. If there is no memory to say where they conflict, that is pending.
+// What is said of patches that were to be taken.
 fn said_of(alloc: Global, added: Added, patches: &Patches, limit: usize) -> Result<String, Stop>
+    requires { added ≡ Added.Conflict → patches.now.places ≢ None }
     ensures { IsSaid limit added patches.now (handle_answer result) }
 {
     match added {
         Added::Joined => Ok(String::new(alloc)),
-        Added::Conflict => Err(conflict_or(alloc, LiveFault::Pending, patches, limit)),
+        Added::Conflict => Err(conflict_of(alloc, patches, limit)),
         Added::Pending => Err(Stop::Fault(LiveFault::Pending)),
         Added::Refused => Err(Stop::Fault(LiveFault::OutOfMemory)),
     }
 }
 
-// Where patches conflict; another fault if that cannot be said.
-fn conflict_or(alloc: Global, otherwise: LiveFault, patches: &Patches, limit: usize) -> Stop
-    ensures { IsConflictOr limit otherwise patches.now (stop_answer result) }
+// Where patches conflict.
+fn conflict_of(alloc: Global, patches: &Patches, limit: usize) -> Stop
+    requires { patches.now.places ≢ None }
+    ensures { SaysConflict limit (stop_answer result) patches.now }
 {
-    let Some(places) = patches.places() else {
-        return Stop::Fault(otherwise);
-    };
-    match conflict_at(alloc, places.as_slice(), limit) {
-        Ok(stop) => stop,
-        Err(_) => Stop::Fault(otherwise),
+    match patches.places() {
+        Some(found) => conflict_at(alloc, found, limit),
+        None => Stop::Fault(LiveFault::OutOfMemory),
     }
 }
 
@@ -179,7 +178,7 @@ fn text(alloc: Global, patches: &mut Patches, limit: usize) -> Result<String, St
     let _settled = patches.settle(alloc);
     match patches.text(alloc) {
         Ok(joined) => Ok(joined),
-        Err(LiveFault::Conflict) => Err(conflict_or(alloc, LiveFault::OutOfMemory, patches, limit)),
+        Err(LiveFault::Conflict) => Err(conflict_of(alloc, patches, limit)),
         Err(LiveFault::Pending) => Err(Stop::Fault(LiveFault::Pending)),
         Err(LiveFault::NoPatches) => Err(Stop::Fault(LiveFault::NoPatches)),
         Err(_) => Err(Stop::Fault(LiveFault::OutOfMemory)),
@@ -247,23 +246,19 @@ fn hold_kept(
         patches.new.value }
 {
     let held = Patches::from_kept(alloc, kept)?;
-    let answer = kept_answer(alloc, &held, limit)?;
+    let answer = kept_answer(alloc, &held, limit);
     let held = Box::new(alloc, held)?;
     patches.put(alloc, held);
     answer
 }
 
 // What is said of patches that were kept: nothing, or where two of them conflict.
-fn kept_answer(
-    alloc: Global,
-    patches: &Patches,
-    limit: usize,
-) -> Result<Result<String, Stop>, AllocError>
-    ensures { IfOk result (λ said. IsSaidOfKept limit patches.now (handle_answer said)) }
+fn kept_answer(alloc: Global, patches: &Patches, limit: usize) -> Result<String, Stop>
+    ensures { IsSaidOfKept limit patches.now (handle_answer result) }
 {
     match patches.places() {
-        Some(places) => Ok(Err(conflict_at(alloc, places.as_slice(), limit)?)),
-        None => Ok(Ok(String::new(alloc))),
+        Some(found) => Err(conflict_at(alloc, found, limit)),
+        None => Ok(String::new(alloc)),
     }
 }
 

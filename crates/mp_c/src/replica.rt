@@ -1,18 +1,18 @@
 //! Exports on a replica that stays in memory.
-ghost use Rattle.std.specs.Prelude.{◌≡◌, IfOk, List, None, Ok, ℕ};
-ghost use Rattle.mp_tree.specs.Document.{Document};
-ghost use Rattle.mp_tree.specs.Text.{document_in};
-ghost use Rattle.mp_c.specs.OnHandles.{AreAllPlaces, HasReceived, IsStarted, OfStarted, ShowsDocument, ShowsJoin, ShowsPart};
-ghost use Rattle.mp_c.specs.Private.Stopping.{handle_answer, IsAllPlacesOf};
+ghost use Rattle.std.specs.Prelude.{◌≡◌, None};
+ghost use Rattle.mp_tree.specs.View.{document};
+ghost use Rattle.mp_c.specs.OnHandles.{HasReceived, IsStarted, OfStarted, ShowsDocument, ShowsJoin, ShowsPart};
+ghost use Rattle.mp_c.specs.Private.Stopping.{handle_answer, IsConflictOf};
 ghost use Rattle.mp_c.specs.Replies.{HandleReplies};
 ghost use Rattle.mp_c.specs.Report.{status_document, status_patch};
 
 use crate::replica_handle::ReplicaHandle;
 use crate::replying::{DOCUMENT, PATCH, Reply};
-use crate::stopping::{Stop, conflict_at, report_live, stop_of};
+use crate::stopping::{Stop, report_live, stop_of, text_of_places};
+use mp_merge::Conflicts;
 use mp_replica::{LiveFault, Received, Replica};
-use mp_tree::read_doc;
-use std::alloc::{AllocError, Global};
+use mp_tree::Doc;
+use std::alloc::Global;
 
 /// Starts a replica from the text of a document, in the place of one that was started before.
 #[unsafe(no_mangle)]
@@ -73,26 +73,24 @@ fn receive(alloc: Global, replica: &mut Replica, patch: &[u8], limit: usize) -> 
     };
     match received {
         Received::Taken => Ok(String::new(alloc)),
-        Received::Conflict => Err(conflict_with(alloc, replica, patch, limit)?),
+        Received::Conflict(patch) => Err(conflict_with(alloc, replica, &patch, limit)),
         Received::Pending => Err(Stop::Fault(LiveFault::Pending)),
         Received::Refused => Err(Stop::Fault(LiveFault::OutOfMemory)),
     }
 }
 
-// Where the patch of a text, which was read before, conflicts with what was received.
-fn conflict_with(
-    alloc: Global,
-    replica: &Replica,
-    patch: &[u8],
-    limit: usize,
-) -> Result<Stop, AllocError>
-    ensures { IfOk result (IsAllPlacesOf limit replica.now patch.now) }
+// Where the patch conflicts with what was received. It is a conflict still if there is no memory for the places.
+fn conflict_with(alloc: Global, replica: &Replica, patch: &Doc, limit: usize) -> Stop
+    ensures { IsConflictOf limit replica.now (document patch.now) result }
 {
-    let Ok(patch) = read_doc(alloc, patch) else {
-        return Err(AllocError);
-    };
-    let places = replica.conflicts(alloc, &patch)?;
-    conflict_at(alloc, places.as_slice(), limit)
+    match replica.conflicts_within(alloc, patch, limit) {
+        Ok(Conflicts { places, total }) => Stop::Conflict {
+            total,
+            places: text_of_places(alloc, places.as_slice(), limit),
+            more: false,
+        },
+        Err(_) => Stop::Fault(LiveFault::Conflict),
+    }
 }
 
 /// The text of what a replica shows.

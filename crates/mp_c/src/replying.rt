@@ -1,9 +1,9 @@
 //! What a call leaves: the reply, and the text in the caller's buffer.
-ghost use Rattle.std.specs.Prelude.{◌≡◌, string_bytes, IfOk, Some};
+ghost use Rattle.std.specs.Prelude.{[], ◌≡◌, string_bytes, IfOk, Some};
 ghost use Rattle.mp_c.specs.Answered.{IsPlaceAt, IsPlaceIn, not_utf8, read_text, said_with};
 ghost use Rattle.mp_c.specs.Private.Reporting.{Reports, ReportsCall, ReportsFault, ReportsList, ReportsUnread};
 ghost use Rattle.mp_c.specs.Replies.{IsReply};
-ghost use Rattle.mp_c.specs.Report.{no_memory, numbered, report_of, report_of_apply, report_of_form, report_of_pointer, report_of_text, report_of_unread, report_of_words, status_patch};
+ghost use Rattle.mp_c.specs.Report.{no_memory, numbered, report_of, report_of_apply, report_of_first, report_of_form, report_of_pointer, report_of_text, report_of_unread, report_of_words, status_patch, status_too_large, unnumbered};
 ghost use Rattle.mp_texts.specs.Texts.{given};
 
 use mp_merge::ListWithinFault;
@@ -23,16 +23,19 @@ pub struct Reply {
     pub first: usize,
     /// The number of the second of two patches that conflict; else 0.
     pub second: usize,
-    /// How many places two patches conflict at; of a text that is no document, how many bytes its words have if a place follows
-    /// them; else 0.
+    /// How many places two patches conflict at, as far as they are known; of a text that is no document, how many bytes its words
+    /// have if a place follows them; else 0.
     pub total: usize,
     /// 0.
     pub spare: usize,
     /// 0 if the text is the result, and else why there is none.
     pub status: u32,
-    /// 0.
+    /// 1 (MORE) if there is more than what is reported: more places than `total`, or more pairs than the text has; else 0.
     pub flags: u32,
 }
+
+/// There is more than what is reported.
+pub(crate) const MORE: u32 = 1;
 
 /// There is a result.
 pub(crate) const RESULT: u32 = 0;
@@ -98,10 +101,30 @@ pub(crate) fn write_result(text: &str, out: &mut [u8], limit: usize) -> Reply
     ensures { IsReply (report_of_text limit text.now) result out.old out.new }
 {
     if text.len() > limit {
-        write(TOO_LARGE, 0, "", out)
+        report_too_large(out)
     } else {
         write(RESULT, 0, text, out)
     }
+}
+
+// The same of what comes first of a result that has more.
+pub(crate) fn write_first(text: &str, out: &mut [u8], limit: usize) -> Reply
+    ensures { IsReply (report_of_first limit text.now) result out.old out.new }
+{
+    if limit < text.len() {
+        return report_too_large(out);
+    }
+    Reply {
+        flags: MORE,
+        ..write(RESULT, 0, text, out)
+    }
+}
+
+// Nothing of a text that is longer than the caller allows.
+fn report_too_large(out: &mut [u8]) -> Reply
+    ensures { IsReply (unnumbered status_too_large []) result out.old out.new }
+{
+    write(TOO_LARGE, 0, "", out)
 }
 
 // The bytes of a pointer that are no text from the offset on.

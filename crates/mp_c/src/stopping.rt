@@ -1,16 +1,18 @@
 //! What a call on a handle leaves: its reply, and the text in the caller's buffer.
-ghost use Rattle.std.specs.Prelude.{IfOk, length, map, string_bytes};
+ghost use Rattle.std.specs.Prelude.{IfOk, string_bytes};
+ghost use Rattle.mp_replica.specs.Held.{held_places};
 ghost use Rattle.mp_c.specs.Answered.{IsPlaceIn, SaysWhy, said_with, words_before};
+ghost use Rattle.mp_c.specs.OnHandles.{IsPlacesTextOrNone};
 ghost use Rattle.mp_c.specs.Private.Stopping.{IsConflictAt, IsStopOf, handle_answer, report_of_stop};
 ghost use Rattle.mp_c.specs.Replies.{IsReply};
 ghost use Rattle.mp_c.specs.Report.{report_of_handle, report_of_live_fault};
 
 use crate::replying::{
-    CONFLICT, MISSING, NO_PATCHES, NOT_STARTED, PENDING, Reply, report_no_memory, report_not_utf8,
-    report_pointer_fault, with_place, words_of, write, write_result,
+    CONFLICT, MISSING, MORE, NO_PATCHES, NOT_STARTED, PENDING, Reply, report_no_memory,
+    report_not_utf8, report_pointer_fault, with_place, words_of, write, write_result,
 };
 use mp_pointer::Pointer;
-use mp_replica::LiveFault;
+use mp_replica::{FirstPlaces, LiveFault};
 use mp_texts::{fault_place, write_places_within};
 use mp_tree::ReadFault;
 use std::alloc::{AllocError, AllocFailed, Global};
@@ -18,10 +20,17 @@ use std::alloc::{AllocError, AllocFailed, Global};
 /// Why a call on a handle has no result.
 #[derive(Drop)]
 pub(crate) enum Stop {
-    /// Patches conflict at so many places; the text of the array of those that the limit allows.
-    Conflict { total: usize, places: String },
+    /// Patches conflict at so many places; the text of the array of those that the limit allows, and whether there are more.
+    Conflict {
+        total: usize,
+        places: String,
+        more: bool,
+    },
     /// The text is no document: what is said of it, and how many bytes of that are words if a place follows them.
-    Unread { total: usize, said: String },
+    Unread {
+        total: usize,
+        said: String,
+    },
     /// As the call on what is held says.
     Fault(LiveFault),
     /// The pointer is no text from this offset on.
@@ -66,16 +75,24 @@ impl<T: Drop> From<AllocFailed<T>> for Stop {
 }
 
 // That patches conflict at these places, of which as many are reported as the limit allows.
-pub(crate) fn conflict_at(
-    alloc: Global,
-    places: &[Pointer],
-    limit: usize,
-) -> Result<Stop, AllocError>
-    ensures { IfOk result (IsConflictAt limit places.now) }
+pub(crate) fn conflict_at(alloc: Global, found: &FirstPlaces, limit: usize) -> Stop
+    ensures { IsConflictAt limit (held_places found.now) result }
 {
-    let total = places.len();
-    let places = write_places_within(alloc, places, limit)?;
-    Ok(Stop::Conflict { total, places })
+    Stop::Conflict {
+        total: found.places.len(),
+        places: text_of_places(alloc, found.places.as_slice(), limit),
+        more: found.more,
+    }
+}
+
+// The text of the array of as many places as the limit allows; none if there is no memory for it.
+pub(crate) fn text_of_places(alloc: Global, places: &[Pointer], limit: usize) -> String
+    ensures { IsPlacesTextOrNone limit places.now (string_bytes result) }
+{
+    match write_places_within(alloc, places, limit) {
+        Ok(text) => text,
+        Err(_) => String::new(alloc),
+    }
 }
 
 // Why a call on this text has no result: of a text that is no document, where it has the value for which it is none.
@@ -121,8 +138,13 @@ fn report_stop(stop: Stop, unread: u32, out: &mut [u8]) -> Reply
     ensures { IsReply (report_of_stop unread stop) result out.old out.new }
 {
     match stop {
-        Stop::Conflict { total, places } => Reply {
+        Stop::Conflict {
             total,
+            places,
+            more,
+        } => Reply {
+            total,
+            flags: if more { MORE } else { 0 },
             ..write(CONFLICT, 0, places.as_str(), out)
         },
         Stop::Unread { total, said } => Reply {
@@ -144,7 +166,10 @@ fn report_live_fault(fault: LiveFault, unread: u32, out: &mut [u8]) -> Reply
         LiveFault::Pointer(fault) => report_pointer_fault(fault, out),
         LiveFault::Missing => write(MISSING, 0, "missing", out),
         LiveFault::NoPatches => write(NO_PATCHES, 0, "no patches", out),
-        LiveFault::Conflict => write(CONFLICT, 0, "", out),
+        LiveFault::Conflict => Reply {
+            flags: MORE,
+            ..write(CONFLICT, 0, "", out)
+        },
         LiveFault::Pending => write(PENDING, 0, "pending", out),
         LiveFault::NotKept => write(unread, 0, "not kept patches", out),
         LiveFault::OutOfMemory => report_no_memory(out),

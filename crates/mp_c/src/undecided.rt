@@ -9,8 +9,8 @@ ghost use Rattle.mp_c.specs.Report.{report_of_decide};
 use crate::replying::{
     CONFLICT, MISSING, NOT_STARTED, REFUSED, RESULT, Reply, report_no_memory, write,
 };
+use crate::stopping::text_of_places;
 use mp_replica::{DecideFault, Identity};
-use mp_texts::write_places_within;
 use std::alloc::Global;
 
 /// Why no new start is begun.
@@ -41,7 +41,7 @@ pub(crate) fn undecided_of(
     chosen: &[Identity],
     limit: usize,
 ) -> Undecided
-    ensures { (log : HeldLog) → IsDecideFault fault log chosen.now
+    ensures { (log : HeldLog) → IsDecideFault limit fault log chosen.now
         → IsUndecided limit log chosen.now (undecided_answer result) }
 {
     match fault {
@@ -49,21 +49,13 @@ pub(crate) fn undecided_of(
         DecideFault::Conflict {
             first,
             second,
-            places,
-        } => {
-            let first = number_of(first, chosen);
-            let second = number_of(second, chosen);
-            let total = places.len();
-            match write_places_within(alloc, places.as_slice(), limit) {
-                Ok(places) => Undecided::Conflict {
-                    first,
-                    second,
-                    total,
-                    places,
-                },
-                Err(_) => Undecided::OutOfMemory,
-            }
-        }
+            conflicts,
+        } => Undecided::Conflict {
+            first: number_of(first, chosen),
+            second: number_of(second, chosen),
+            total: conflicts.total,
+            places: text_of_places(alloc, conflicts.places.as_slice(), limit),
+        },
         DecideFault::LastEpoch => Undecided::LastEpoch,
         DecideFault::OutOfMemory => Undecided::OutOfMemory,
     }

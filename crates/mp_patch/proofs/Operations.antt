@@ -8,3 +8,4 @@ pub mod SingleSteps
 pub mod SomeStep
 pub mod Taken
 pub mod Weights
+pub mod Works

@@ -1,5 +1,5 @@
 -- Laws of patches alone. Each is the contract of a function of the module `laws` that runs nothing.
-use Rattle.std.specs.Prelude.{◌≡◌, ◌≢◌, ◌≤◌, ◌+◌, ◌⊎◌, ◌<◌, ℕ, suc, List, [], length, take, Some}
+use Rattle.std.specs.Prelude.{◌≡◌, ◌≢◌, ◌≤◌, ◌+◌, ◌⊎◌, ◌<◌, ℕ, suc, List, [], length, take, Some, ⊤}
 use Rattle.std.specs.List.{All}
 use Rattle.mp_tree.specs.Document.{Document, IsDocument, IsReadable, depth, depth_limit}
 use Rattle.mp_tree.specs.Weight.{weight}
@@ -11,7 +11,8 @@ use Rattle.mp_patch.specs.Operation.{Operation, add, remove, replace, move, copy
 use Rattle.mp_patch.specs.Refusal.{HasNoPlace, LeavesNoPlace}
 use Rattle.mp_patch.specs.Run.{Runs, IsRefused, RefusedAt}
 use Rattle.mp_patch.specs.View.{operations_of}
-use Rattle.mp_patch.specs.Within.{RunsWithin, IsApplyWithinFault}
+use Rattle.mp_patch.specs.Within.{RunsWithin, RunsWorking, IsApplyWithinFault}
+use Rattle.mp_patch.specs.Work.{AllowsWork}
 use Rattle.mp_patch.specs.declared.fault.ApplyWithinFault.{ApplyWithinFault}
 use Rattle.mp_patch.specs.declared.fault.ApplyWithinFault.TheVariants as within_fault
 use Rattle.mp_patch.specs.declared.fault.Cause.{Cause}
@@ -117,9 +118,14 @@ abbrev pub StaysWithin : ℕ → Document → List Operation → Type 0
 StaysWithin limit d operations = (k : ℕ) (m : Document)
     → k < length operations → Runs d (take (suc k) operations) m → weight m ≤ limit
 
--- a limit changes nothing but that a patch ends at the first result over it
+-- a limit allows the work of the operations together
+abbrev pub WorksWithin : ℕ → Document → List Operation → Type 0
+WorksWithin limit d operations = (e : Document) (w : ℕ) → RunsWorking (λ m. ⊤) d operations e w → AllowsWork limit w
+
+-- a limit changes nothing but that a patch ends at the first result over it, or by too much work
 pub record LimitsChangeNothing (limit : ℕ) (d : Document) (operations : List Operation) : Type 0 where
-  pub runs : (e : Document) → Runs d operations e → StaysWithin limit d operations → RunsWithin limit d operations e
+  pub runs : (e : Document) → Runs d operations e → StaysWithin limit d operations → WorksWithin limit d operations
+      → RunsWithin limit d operations e
   pub is_run : (e : Document) → RunsWithin limit d operations e → Runs d operations e
   pub is_refused : (k : ℕ) (cause : Cause)
       → IsApplyWithinFault limit (within_fault.Refused k cause) d operations → RefusedAt d operations k cause

@@ -9,4 +9,5 @@ pub mod Texts
 pub mod View
 pub mod Weight
 pub mod Within
+pub mod Work
 pub mod Writable

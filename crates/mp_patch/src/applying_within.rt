@@ -1,4 +1,4 @@
-//! Applying a patch within a limit on the weight of each result.
+//! Applying a patch within a limit on the weight of each result, and on the work of all operations together.
 ghost use Rattle.std.specs.Prelude.{◌≤◌, map, MatchResult, IfOk};
 ghost use Rattle.mp_tree.specs.Document.{IsDocument, depth, depth_limit};
 ghost use Rattle.mp_tree.specs.Values.{value_document};
@@ -10,20 +10,24 @@ use crate::bound::DepthBound;
 use crate::fault::ApplyWithinFault;
 use crate::op::ValueOp;
 use crate::patch::JsonPatch;
+use crate::scale::Scale;
 use crate::steps::StepOwned;
 use crate::steps_within::step_within;
-use crate::weighing::{Scale, whole_weight};
 use mp_tree::{Doc, Node};
 use serde_json::Value;
 use std::alloc::Global;
 
-/// As `apply`, if the result of each operation weighs no more than `limit`. `Doc::left_of` says what a document weighs.
+/// As `apply`, if the result of each operation weighs no more than `limit`, and the work of all is at most 16 times `limit`.
+/// `Doc::left_of` says what a document weighs. The work is what a `copy` copies, as its weight, and 1 for each element of an array
+/// that an addition, a removal or a move shifts. A limit of `usize::MAX` bounds no work.
 ///
-/// `Refused` as `apply` has it, if no result before it weighs more. `TooLarge` with the first operation, counted from 0, that
-/// is not refused and whose result weighs more; what `doc` itself weighs is no error. `OutOfMemory` may come at any point.
+/// `Refused` as `apply` has it, if nothing before it was too much. `TooLarge` with the first operation, counted from 0, that
+/// is not refused, and whose result weighs more, or by which the work is more; what `doc` itself weighs is no error.
+/// `OutOfMemory` may come at any point.
 ///
 /// The document is walked once, to weigh it, and then what each operation adds, removes or replaces. What `add`, `copy` and
-/// `replace` add is weighed before it is copied, so that no result is made that weighs more than `limit`.
+/// `replace` add is weighed before it is copied, so that no result is made that weighs more than `limit`. So the time is at most in
+/// proportion to `limit`, and to what the document and the patch weigh.
 ///
 /// ```text
 /// apply_within(alloc, &doc, &patch, 1_000)  // Err(TooLarge { op: 0 }), for {} and [{"op":"add","path":"/a","value":1}]
@@ -58,10 +62,10 @@ pub fn apply_owned_within(
 {
     let mut result = doc;
     let mut bound = DepthBound::unknown();
-    let mut weight = whole_weight(&result)?;
+    let mut scale = Scale::of(&result, limit)?;
     for (number, op) in patch.ops().iter().enumerate() {
-        match step_within(op, &mut result, &mut bound, Scale { weight, limit }, alloc) {
-            Ok(Some(next)) => weight = next,
+        match step_within(op, &mut result, &mut bound, scale, alloc) {
+            Ok(Some(next)) => scale = next,
             Ok(None) => return Err(ApplyWithinFault::TooLarge { op: number }),
             Err(refusal) => return Err(refusal.of_operation_within(number)),
         }
@@ -124,11 +128,11 @@ fn run_within<T: Node, O: StepOwned<T>>(
 {
     let mut result = doc;
     let mut bound = DepthBound::unknown();
-    let mut weight = whole_weight(&result)?;
+    let mut scale = Scale::of(&result, limit)?;
     let mut done = 0;
     for op in ops {
-        match step_within(op, &mut result, &mut bound, Scale { weight, limit }, alloc) {
-            Ok(Some(next)) => weight = next,
+        match step_within(op, &mut result, &mut bound, scale, alloc) {
+            Ok(Some(next)) => scale = next,
             Ok(None) => return Err(ApplyWithinFault::TooLarge { op: done }),
             Err(refusal) => return Err(refusal.of_operation_within(done)),
         }

@@ -67,10 +67,10 @@ impl From<AllocError> for ApplyFault {
     }
 }
 
-/// Why a patch has no result within a limit on the weight of each result.
+/// Why a patch has no result within a limit on the weight of each result, and on the work of all operations.
 #[derive(Clone, Copy, Debug, Drop, PartialEq, Eq, Error)]
 pub enum ApplyWithinFault {
-    /// The first operation that is refused, counted from 0. Each result before it is within the limit.
+    /// The first operation that is refused, counted from 0. Each result before it is within the limit, and so is their work.
     #[error("operation {op}: {cause}")]
     Refused {
         /// The number of the operation, from 0.
@@ -78,7 +78,8 @@ pub enum ApplyWithinFault {
         /// Why it is refused.
         cause: Cause,
     },
-    /// The first operation whose result weighs more than the limit, counted from 0. It is not refused, and none before it is.
+    /// The first operation whose result weighs more than the limit, or by which the work is more than 16 times the limit, counted
+    /// from 0. It is not refused, and none before it is.
     #[error("operation {op}: too large")]
     TooLarge {
         /// The number of the operation, from 0.

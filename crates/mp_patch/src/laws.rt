@@ -89,15 +89,15 @@ pub fn runs_are_readable()
     ensures { RunsAreReadable }
 {}
 
-/// A limit on the weight of each result changes no answer below it: if each result on the way weighs at most the limit, a patch that
-/// leads to an end leads there within the limit; what it leads to within the limit it leads to without one; and an operation that is
-/// refused within the limit is refused without one, by the same cause.
+/// A limit changes no answer below it: if each result on the way weighs at most the limit, and it allows the work of all operations, a
+/// patch that leads to an end leads there within the limit; what it leads to within the limit it leads to without one; and an
+/// operation that is refused within the limit is refused without one, by the same cause.
 pub fn limits_change_nothing()
     ensures { LimitsChangeNoAnswer }
 {}
 
-/// Within a limit each patch runs to an end or is stopped, by a refusal or by a result that weighs more, and not both; and it is
-/// stopped at one operation alone, for one reason. So a call within a limit has one answer, unless memory runs out.
+/// Within a limit each patch runs to an end or is stopped, by a refusal or by an operation that is too much, and not both; and it is
+/// stopped at one operation alone, by one error. So a call within a limit has one answer, unless memory runs out.
 pub fn one_answer_within()
     ensures some { RunsWithinOrStops }
     ensures unstopped { RunsAreNotStopped }

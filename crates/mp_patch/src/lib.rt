@@ -13,12 +13,14 @@ mod name;
 mod op;
 mod patch;
 mod reading;
+mod scale;
 mod serializing;
 mod shape;
 mod steps;
 mod steps_within;
 mod view;
 mod weighing;
+mod working;
 mod writing;
 
 pub use applying::{apply, apply_once, apply_owned, apply_to_value};

@@ -10,18 +10,12 @@ ghost use Rattle.mp_patch.specs.Private.Within.{Fits, Judges, changed};
 
 use crate::bound::DepthBound;
 use crate::containers::index_in;
+use crate::scale::Scale;
 use crate::steps::last_token;
 use crate::view::Change;
 use mp_pointer::{Pointer, front_part_in, part_in};
 use mp_tree::{Node, left_of, left_of_name};
 use std::alloc::AllocError;
-
-// What a document weighs, and what a result may weigh.
-#[derive(Clone, Copy, Drop)]
-pub(crate) struct Scale {
-    pub(crate) weight: usize,
-    pub(crate) limit: usize,
-}
 
 // What the document weighs once the change is made, if that is not refused: None if it is not refused, and the weight is more than
 // the limit. If it is refused, the number says nothing. Only a value that weighs too much is asked for its depth.
@@ -229,7 +223,7 @@ pub(crate) fn whole_weight<T: Node>(node: &T) -> Result<usize, AllocError>
 }
 
 // The weight of a node that weighs no more than the limit.
-fn weight_of<T: Node>(node: &T, limit: usize) -> usize
+pub(crate) fn weight_of<T: Node>(node: &T, limit: usize) -> usize
     requires { weight (T.means node.now) ≤ limit }
     ensures { result ≡ weight (T.means node.now) }
 {
@@ -260,7 +254,7 @@ fn sum_within(weight: usize, more: usize, limit: usize) -> Option<usize>
     Some(limit - left)
 }
 
-pub(crate) fn at_most(weight: usize, limit: usize) -> Option<usize>
+fn at_most(weight: usize, limit: usize) -> Option<usize>
     ensures { MatchOption result (limit < weight) (λ n. (n ≡ weight) × (n ≤ limit)) }
 {
     if weight <= limit { Some(weight) } else { None }

@@ -10,5 +10,5 @@ pub use Rattle.mp_pointer.proofs.Parts.Kinds.{equals_by_part}
 pub use Rattle.mp_pointer.proofs.Parts.Borrowed.{no_child}
 pub use Rattle.mp_pointer.proofs.Results.{handed_on}
 pub use Rattle.mp_pointer.proofs.Spellings.ReadBack.{has_one_spelling, spellings_have_no_fault, spells_or_is_faulty}
-pub use Rattle.mp_pointer.proofs.Tokens.Indices.{numeral-decimal, same_numeral, numeral_first, bytes_differ, child-numeral, element_found}
+pub use Rattle.mp_pointer.proofs.Tokens.Indices.{numeral-decimal, same_numeral, numeral_first, bytes_differ, child-numeral, element_found, elsewhere}
 pub use Rattle.mp_pointer.proofs.Tokens.Lists.{are_same_tokens-Decides, back_again, decide_prefix, last_of, not_empty, root_is_prefix, same_last, some_last, to_end, to_last}

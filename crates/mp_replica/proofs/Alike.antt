@@ -1,5 +1,5 @@
 -- Patch logs that received the same messages store the same, and what is alike shows, reports and begins the same.
-use Rattle.std.proofs.Common.{◌≡◌, ◌≢◌, ◌⊎◌, ◌+◌, inl, inr, ℕ, List, [], ◌∷◌, ◌++◌, Option, None, Some, refl, sym, ap, ◌∙◌, subst}
+use Rattle.std.proofs.Common.{◌≡◌, ◌≢◌, ◌⊎◌, ◌+◌, ◌^◌, ◌<◌, ◌≤◌, take, inl, inr, ℕ, List, [], ◌∷◌, ◌++◌, Option, None, Some, refl, sym, ap, ◌∙◌, subst}
 use Rattle.std.proofs.lemmas.List.Elements.{All-contains, Contains-append_left, Contains-push, Contains-push_cases}
 use Rattle.std.specs.List.{Contains}
 use Rattle.mp_tree.specs.Document.{Document, IsDocument}
@@ -7,10 +7,11 @@ use Rattle.mp_tree.specs.Laws.{DocsAreDocuments}
 use Rattle.mp_tree.proofs.Facts.{Contains-nil, some_same}
 use Rattle.mp_merge.specs.Clash.{AreAllClashes}
 use Rattle.mp_merge.specs.Outcome.{IsOutcome}
-use Rattle.mp_replica.specs.Laws.{AlikeBeginTheSame, AlikeReportTheSame, AlikeShowTheSame, LogsAreAlike}
-use Rattle.mp_replica.specs.Messages.{LogFollows, HaveOnePatch, Sent}
-use Rattle.mp_replica.specs.PatchLog.{AreAllPairs, ClashesWithNone, DoClash, HeldLog, IsClashing, Pair, Stored, StoresAlso, identities_of, start_of, stored_of}
+use Rattle.mp_replica.specs.Laws.{AlikeBeginTheSame, AlikeRefuseTheSame, AlikeReportTheSame, AlikeShowTheSame, LogsAreAlike}
+use Rattle.mp_replica.specs.Messages.{LogFollows, HaveOnePatchFor, Sent}
+use Rattle.mp_replica.specs.PatchLog.{AreAllPairs, ClashesWithNone, DoClash, HaveArrived, HeldLog, IsClashing, IsFirstMissing, IsFirstPair, Pair, Stored, StoresAlso, identities_of, start_of, stored_of}
 use Rattle.mp_replica.specs.Private.LawsBelow.{MergeLaws}
+use Rattle.mp_replica.specs.declared.fault.DecideFault.TheVariants as decide
 use Rattle.mp_replica.specs.declared.message.Identity.{Identity}
 use Rattle.mp_replica.proofs.Identities.{decide_identity}
 use Rattle.mp_replica.proofs.PairsFound.{pairs_total, same_risen, unmapped}
@@ -25,14 +26,14 @@ either None = inl refl
 either (Some x) = inr (x, refl)
 
 -- what one of two that received the same stores, the other stores
-stored_there : (epoch : ℕ) (start : Document) (messages others : List Sent) (one other : HeldLog) (i : Identity) (p : Document) → HaveOnePatch messages
-    → ((m : Sent) → Contains messages m → Contains others m) → ((m : Sent) → Contains others m → Contains messages m)
+stored_there : (epoch : ℕ) (start : Document) (messages others : List Sent) (one other : HeldLog) (i : Identity) (p : Document) → HaveOnePatchFor epoch messages
+    → ((i : Identity) (p : Document) → Contains messages (sent_as epoch i p) → Contains others (sent_as epoch i p)) → ((i : Identity) (p : Document) → Contains others (sent_as epoch i p) → Contains messages (sent_as epoch i p))
     → LogFollows epoch start messages one → LogFollows epoch start others other → stored_of one i ≡ Some p → stored_of other i ≡ Some p
 stored_there epoch start messages others one other i p alone there back has have at =
     let here = has.stored i p at in
     elim (either (stored_of other i)) [
-      | inl none ↦ absurd (have.all i p (there (sent_as epoch i p) here) none)
-      | inr some ↦ some.1 ∙ ap Some (alone epoch i some.0 p (back (sent_as epoch i some.0) (have.stored i some.0 some.1)) here)
+      | inl none ↦ absurd (have.all i p (there i p here) none)
+      | inr some ↦ some.1 ∙ ap Some (alone i some.0 p (back i some.0 (have.stored i some.0 some.1)) here)
     ]
 
 same_option : (one other : Option Document) → ((p : Document) → one ≡ Some p → other ≡ Some p) → ((p : Document) → other ≡ Some p → one ≡ Some p) → one ≡ other
@@ -45,9 +46,8 @@ logs_are_alike epoch start messages others one other alone same has have = recor
   epoch = has.epoch_is ∙ sym have.epoch_is;
   start = has.start_is ∙ sym have.start_is;
   stored = λ i. same_option (stored_of one i) (stored_of other i)
-      (λ p. stored_there epoch start messages others one other i p alone (λ m. (same m).0) (λ m. (same m).1) has have)
-      (λ p. stored_there epoch start others messages other one i p
-      (λ e j q r first second. alone e j q r ((same (sent_as e j q)).1 first) ((same (sent_as e j r)).1 second)) (λ m. (same m).1) (λ m. (same m).0) have has);
+      (λ p. stored_there epoch start messages others one other i p alone (λ j q. (same j q).0) (λ j q. (same j q).1) has have)
+      (λ p. stored_there epoch start others messages other one i p (λ j q r first second. alone j q r ((same j q).1 first) ((same j r).1 second)) (λ j q. (same j q).1) (λ j q. (same j q).0) have has);
 }
 
 -- ---- one more message
@@ -161,3 +161,40 @@ module _ (laws : MergeLaws) where
       same_risen _ pairs_total identities_of pairs others are.rising also.rising
       (reported_there (stored_of one) (stored_of other) pairs others alike.stored are also)
       (reported_there (stored_of other) (stored_of one) others pairs (λ i. sym (alike.stored i)) also are)
+
+-- ---- what is refused
+
+arrived_there : (stored there : Stored) (chosen : List Identity) → Same stored there → HaveArrived stored chosen → HaveArrived there chosen
+arrived_there stored there chosen same arrived i at none = arrived i at (same i ∙ none)
+
+missing_there : (stored there : Stored) (chosen : List Identity) (i : Identity) → Same stored there → IsFirstMissing stored chosen i → IsFirstMissing there chosen i
+missing_there stored there chosen i same first = record {
+  k = first.k;
+  at = first.at;
+  missing = sym (same i) ∙ first.missing;
+  before = arrived_there stored there (take first.k chosen) same first.before;
+}
+
+do_clash_there : (stored there : Stored) (i j : Identity) → Same stored there → DoClash stored i j → DoClash there i j
+do_clash_there stored there i j same clash = record { one = clash.one; other = clash.other; at_first = sym (same i) ∙ clash.at_first; at_second = sym (same j) ∙ clash.at_second; clash = clash.clash }
+
+pair_there : (stored there : Stored) (chosen : List Identity) (i j : Identity) → Same stored there → IsFirstPair stored chosen i j → IsFirstPair there chosen i j
+pair_there stored there chosen i j same first = record {
+  chosen_first = first.chosen_first;
+  chosen_second = first.chosen_second;
+  in_order = first.in_order;
+  clash = do_clash_there stored there i j same first.clash;
+  least = λ k l here also less clash. first.least k l here also less (do_clash_there there stored k l (λ m. sym (same m)) clash);
+}
+
+pub alike_refuse_the_same : AlikeRefuseTheSame
+alike_refuse_the_same limit one other chosen decide.LastEpoch alike is = subst (λ n. 2 ^ 64 ≤ n + 1) alike.epoch is
+alike_refuse_the_same limit one other chosen (decide.NotReceived i) alike is =
+    (subst (λ n. n + 1 < 2 ^ 64) alike.epoch is.0, missing_there (stored_of one) (stored_of other) chosen i alike.stored is.1)
+alike_refuse_the_same limit one other chosen (decide.Conflict i j conflicts) alike is = (
+  subst (λ n. n + 1 < 2 ^ 64) alike.epoch is.0,
+  arrived_there (stored_of one) (stored_of other) chosen alike.stored is.1,
+  pair_there (stored_of one) (stored_of other) chosen i j alike.stored is.2,
+  λ p q at_first at_second. is.3 p q (alike.stored i ∙ at_first) (alike.stored j ∙ at_second),
+)
+alike_refuse_the_same limit one other chosen decide.OutOfMemory alike is = tt

@@ -8,7 +8,7 @@ use Rattle.mp_tree.specs.Document.{Document, IsDocument}
 use Rattle.mp_tree.specs.Look.{Path}
 use Rattle.mp_tree.specs.View.{document}
 use Rattle.mp_tree.specs.declared.doc.Doc.{Doc}
-use Rattle.mp_tree.proofs.Facts.{Contains-nil, IsDocument-document, some_same}
+use Rattle.mp_tree.proofs.Facts.{Contains-cases, Contains-head, Contains-nil, Contains-tail, IsDocument-document, some_same}
 use Rattle.mp_tree.proofs.Passed.{Passed, Passed-next}
 use Rattle.mp_merge.specs.Clash.{AreAllClashes, Compatible}
 use Rattle.mp_replica.specs.Held.{HasJoined, IsJoinOf}
@@ -171,6 +171,17 @@ pub others_are_apart : (stored : Stored) (i : Identity) (p : Document) (known fo
 others_are_apart stored i p known found knows now j k q r at_j at_k out_j out_k =
     quiet_clash_with_none stored known j q knows at_j (λ at. out_j ((now j).1 (inl (record { other = q; at = at_j; why = inl at })))) k r at_k
 
+-- an identity is in a list or is not
+in_or_out : (ids : List Identity) (j : Identity) → Contains ids j ⊎ ¬ Contains ids j
+in_or_out [] j = inr (Contains-nil j)
+in_or_out (i ∷ ids) j = elim (in_or_out ids j) [
+  | inl there ↦ inl (Contains-tail i j ids there)
+  | inr out ↦ elim (decide_identity i j) [
+    | inl same ↦ inl (subst (Contains (i ∷ ids)) same (Contains-head i ids))
+    | inr differ ↦ inr (λ at. elim (Contains-cases i j ids at) [ inl same ↦ differ same | inr there ↦ out there ])
+  ]
+]
+
 -- what is compatible with each patch is so with their join
 fits_join : (laws : MergeLaws) (ds : List Document) (m : Option Document) (p : Document) → IsJoinOf ds m → ((q : Document) → Contains ds q → Compatible p q) → IfSome m (Compatible p)
 fits_join laws ds None p is each = tt
@@ -217,7 +228,33 @@ knows_still knows stays = record {
 joined_now : {es : List (Identity × Doc)} {known : List Identity} {before : HeldJoin} → (knows : KnowsConflicts es known before) → before.pending ≡ None → HasJoined (option_map document before.joined) None knows.others
 joined_now {before = before} knows settled = subst (λ o. HasJoined (option_map document before.joined) (option_map document o) knows.others) settled knows.joined
 
+-- what is known of a patch d before it is stored
+module _ (laws : MergeLaws) {es : List (Identity × Doc)} (d : Doc) {known : List Identity} {before : HeldJoin} (knows : KnowsConflicts es known before) (settled : before.pending ≡ None) where
+  -- a patch that does not fit the join clashes with one
+  pub clashes_if_unfit : ¬ IfSome (option_map document before.joined) (Compatible (document d)) → ¬ ClashesWithNone (stored_in es) (document d)
+  clashes_if_unfit unfit none = unfit (fits_if_none laws (stored_in es) known knows.others (option_map document before.joined) (document d) (documents before.joined) knows.conflicting knows.unclashed (joined_now knows settled) none)
+
+  -- one that fits it clashes with none but those that are known to conflict
+  clashes_with_known : IfSome (option_map document before.joined) (Compatible (document d)) → (j : Identity) (q : Document) → stored_in es j ≡ Some q → ¬ Compatible (document d) q → ¬ ¬ Contains known j
+  clashes_with_known fits j q at clash out =
+      clash (fits_each laws knows.others (option_map document before.joined) (document d) (join_of laws knows.others (option_map document before.joined) (documents before.joined) (joined_now knows settled)) fits q
+      ((knows.unclashed q).1 ((j, at), quiet_clash_with_none (stored_in es) known j q knows.conflicting at out)))
+
 -- one more patch d is stored under i
+module _ (laws : MergeLaws) {es fs : List (Identity × Doc)} {i : Identity} (d : Doc) {known : List Identity} {before : HeldJoin} (knows : KnowsConflicts es known before)
+    (absent : stored_in es i ≡ None) (more : StoresAlso (stored_in es) i (document d) (stored_in fs)) (ascending : IsStrictlySortedBy identity_cmp (keys_of fs)) where
+  pub knows_conflict : {found : List Identity} {now : HeldJoin} → ¬ ClashesWithNone (stored_in es) (document d)
+      → AreConflictingWith (stored_in es) i (document d) known found → JoinsOthers (stored_in es) found now → KnowsConflicts fs found now
+  knows_conflict {found} clash found_are others =
+      let p = document d in
+      record {
+        ascending = ascending;
+        conflicting = conflicts_found (stored_in es) (stored_in fs) i p absent more laws (IsDocument-document d) clash known found knows.conflicting found_are;
+        others = others.0;
+        unclashed = unclashed_now (stored_in es) (stored_in fs) i p absent more laws (IsDocument-document d) clash known found knows.conflicting found_are others.0 others.1;
+        joined = others.2;
+      }
+
 module _ (laws : MergeLaws) {es fs : List (Identity × Doc)} {i : Identity} (d : Doc) {known : List Identity} {before : HeldJoin} (knows : KnowsConflicts es known before)
     (absent : stored_in es i ≡ None) (more : StoresAlso (stored_in es) i (document d) (stored_in fs)) (ascending : IsStrictlySortedBy identity_cmp (keys_of fs)) (settled : before.pending ≡ None) where
   pub knows_more : {now : HeldJoin} → IfSome (option_map document before.joined) (Compatible (document d)) → FitsAll (stored_in es) known (document d)
@@ -237,21 +274,43 @@ module _ (laws : MergeLaws) {es fs : List (Identity × Doc)} {i : Identity} (d :
         joined = joined_on laws knows.others held p (IsDocument-document d) (documents before.joined) (joined_now knows settled) fits stays;
       }
 
-  pub knows_conflict : {found : List Identity} {now : HeldJoin} → ¬ (IfSome (option_map document before.joined) (Compatible (document d)) × FitsAll (stored_in es) known (document d))
-      → AreConflictingWith (stored_in es) i (document d) known found → JoinsOthers (stored_in es) found now → KnowsConflicts fs found now
-  knows_conflict {found} some found_are others =
-      let p = document d in
-      let clash : ¬ ClashesWithNone (stored_in es) p = λ none. some (
-        fits_if_none laws (stored_in es) known knows.others (option_map document before.joined) p (documents before.joined) knows.conflicting knows.unclashed (joined_now knows settled) none,
-        fits_all_if_none (stored_in es) known p none,
-      ) in
-      record {
-        ascending = ascending;
-        conflicting = conflicts_found (stored_in es) (stored_in fs) i p absent more laws (IsDocument-document d) clash known found knows.conflicting found_are;
-        others = others.0;
-        unclashed = unclashed_now (stored_in es) (stored_in fs) i p absent more laws (IsDocument-document d) clash known found knows.conflicting found_are others.0 others.1;
-        joined = others.2;
-      }
+  -- so it is listed, and the join stays
+  pub knows_listed : {found : List Identity} → IfSome (option_map document before.joined) (Compatible (document d)) → ¬ FitsAll (stored_in es) known (document d) → found ≡ known ++ i ∷ [] → KnowsConflicts fs found before
+  knows_listed {found} fits some is = subst (λ l. KnowsConflicts fs l before) (sym is) (knows_conflict laws d knows absent more ascending (λ none. some (fits_all_if_none (stored_in es) known (document d) none)) listed (knows.others, others, knows.joined))
+    where
+      listed : AreConflictingWith (stored_in es) i (document d) known (known ++ i ∷ [])
+      listed j = (
+        λ at. elim (Contains-push_cases known i j at) [
+          | inl before ↦ let is = (knows.conflicting j).0 before in inl (record { other = is.0; at = is.1; why = inl before })
+          | inr same ↦ inr (sym same)
+        ],
+        λ now. elim now [
+          | inl here ↦ elim here.why [
+            | inl before ↦ Contains-append_left known (i ∷ []) j before
+            | inr clash ↦ elim (in_or_out known j) [
+              | inl before ↦ Contains-append_left known (i ∷ []) j before
+              | inr out ↦ absurd (clashes_with_known laws d knows settled fits j here.other here.at clash out)
+            ]
+          ]
+          | inr same ↦ subst (Contains (known ++ i ∷ [])) (sym same) (Contains-push known i)
+        ],
+      )
+
+      others : AreOthers (stored_in es) (known ++ i ∷ []) knows.others
+      others p = (
+        λ at.
+            let has = (knows.unclashed p).0 at in (
+              has.0.0,
+              has.0.1,
+              λ there. elim (Contains-push_cases known i has.0.0 there) [
+                | inl before ↦
+                    let is = (knows.conflicting has.0.0).0 before in
+                    is.2 (subst (ClashesWithNone (stored_in es)) (one_patch (stored_in es) has.0.0 has.0.0 p is.0 refl has.0.1 is.1) has.1)
+                | inr same ↦ let never : None ≡ Some p = sym absent ∙ subst (λ j. stored_in es j ≡ Some p) (sym same) has.0.1 in cc
+              ],
+            ),
+        λ has. (knows.unclashed p).1 ((has.0, has.1), quiet_clash_with_none (stored_in es) known has.0 p knows.conflicting has.1 (λ before. has.2 (Contains-append_left known (i ∷ []) has.0 before))),
+      )
 
 -- ---- walks over the entries
 

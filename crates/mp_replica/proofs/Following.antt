@@ -1,5 +1,5 @@
 -- A replica that follows a list of patches follows it on.
-use Rattle.std.proofs.Common.{◌≡◌, List, [], ◌∷◌, ◌++◌, Option, None, Some, IfSome, option_map, refl, sym, ap, ◌∙◌, subst}
+use Rattle.std.proofs.Common.{◌≡◌, ℕ, List, [], ◌∷◌, ◌++◌, Option, None, Some, IfSome, option_map, refl, sym, ap, ◌∙◌, subst}
 use Rattle.std.specs.Result.{OnErr, OnOk}
 use Rattle.std.specs.declared.result.Result.{Result}
 use Rattle.std.specs.declared.result.Result.TheVariants.{Err, Ok}
@@ -14,11 +14,11 @@ use Rattle.mp_merge.specs.Lists.{HaveSameMembers}
 use Rattle.mp_merge.specs.Outcome.{IsOutcome}
 use Rattle.mp_merge.specs.Resumption.{Resumes}
 use Rattle.mp_replica.specs.Following.{ClashesWithOne, Follows, settled}
-use Rattle.mp_replica.specs.Held.{AreClashesWith, HasJoined, HeldReplica, IsJoinOf}
+use Rattle.mp_replica.specs.Held.{AreClashesWith, AreFirstClashesWith, HasJoined, HeldReplica, IsJoinOf}
 use Rattle.mp_replica.specs.Laws.{FollowersAgree, FollowsSame, ShowsOutcome, ShowsReadable}
 use Rattle.mp_replica.specs.Private.LawsBelow.{MergeLaws, TextLaws}
-use Rattle.mp_replica.specs.Private.Steps.{ClashesWithJoin, SameJoins}
-use Rattle.mp_replica.proofs.Growing.{clashes_found, clashes_of_compatible, clashes_with_one, documents, join_of, joined_none, joined_on, joined_same, joined_still, one_join_of}
+use Rattle.mp_replica.specs.Private.Steps.{ClashesWithJoin, FirstClashesWithJoin, SameJoins}
+use Rattle.mp_replica.proofs.Growing.{first_clashes_found, clashes_found, clashes_of_compatible, clashes_with_one, documents, join_of, joined_none, joined_on, joined_same, joined_still, one_join_of}
 
 module _ (laws : MergeLaws) where
   pub settled_is_document : (d : Doc) (o : Option Doc) → IsDocument (settled (document d) (option_map document o))
@@ -86,6 +86,10 @@ module _ (laws : MergeLaws) where
   pub conflicts_found : (start : Document) (received : List Document) (r : HeldReplica) (p : Document) (places : List Path) → r.pending ≡ None → ClashesWithJoin (option_map document r.joined) p places → Follows start received r
       → AreClashesWith received p places
   conflicts_found start received r p places none clash follows = clashes_found laws received (option_map document r.joined) p places (joins_received start received r follows none) clash
+
+  pub first_conflicts_found : (limit : ℕ) (start : Document) (received : List Document) (r : HeldReplica) (p : Document) (places : List Path) (total : ℕ) → r.pending ≡ None
+      → FirstClashesWithJoin limit (option_map document r.joined) p places total → Follows start received r → AreFirstClashesWith limit received p places total
+  first_conflicts_found limit start received r p places total none found follows = first_clashes_found laws limit received (option_map document r.joined) p places total (joins_received start received r follows none) found
 
   pub no_conflicts : (start : Document) (received : List Document) (r : HeldReplica) (p : Document) (places : List Path) → r.pending ≡ None → IfSome (option_map document r.joined) (Compatible p) → places ≡ [] → Follows start received r
       → AreClashesWith received p places

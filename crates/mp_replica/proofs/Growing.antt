@@ -1,5 +1,5 @@
 -- A join in memory that grows by a patch, and what it says of the patches that were received.
-use Rattle.std.proofs.Common.{◌≡◌, ◌≢◌, ◌↔◌, inl, inr, true, false, true≢false, List, [], ◌∷◌, ◌++◌, Option, None, Some, IfSome, MatchOption, option_map, refl, sym, ap, ◌∙◌, subst, rules}
+use Rattle.std.proofs.Common.{◌≡◌, ◌≢◌, ◌↔◌, inl, inr, true, false, true≢false, ℕ, arith, List, [], ◌∷◌, ◌++◌, Option, None, Some, IfSome, MatchOption, option_map, refl, sym, ap, ◌∙◌, subst, rules}
 use Rattle.std.specs.List.{Contains}
 use Rattle.std.specs.List.Sorted.{IsStrictlySortedBy}
 use Rattle.std.specs.Option.{is_some}
@@ -13,9 +13,9 @@ use Rattle.mp_merge.specs.Clash.{AreAllClashes, Clash, Compatible, path_cmp}
 use Rattle.mp_merge.specs.Join.{IsJoin}
 use Rattle.mp_merge.specs.Lists.{HaveSameMembers, PairwiseCompatible}
 use Rattle.mp_replica.specs.Following.{ClashesWithOne}
-use Rattle.mp_replica.specs.Held.{AreClashesWith, HasJoined, IsJoinOf, Joins}
+use Rattle.mp_replica.specs.Held.{AreClashesWith, AreFirstClashesWith, HasJoined, IsJoinOf, Joins}
 use Rattle.mp_replica.specs.Private.LawsBelow.{MergeLaws}
-use Rattle.mp_replica.specs.Private.Steps.{ClashesWithJoin, GrewTo, Regrows, SameJoins}
+use Rattle.mp_replica.specs.Private.Steps.{ClashesWithJoin, FirstClashesWithJoin, GrewTo, Regrows, SameJoins}
 
 pub documents : (o : Option Doc) → IfSome (option_map document o) IsDocument
 documents None = tt
@@ -196,3 +196,12 @@ module _ (laws : MergeLaws) where
   pub clashes_found : (ds : List Document) (m : Option Document) (p : Document) (places : List Path) → IsJoinOf ds m → ClashesWithJoin m p places → AreClashesWith ds p places
   clashes_found ds None p places joined clash = absurd clash
   clashes_found ds (Some k) p places joined clash = clashes_of_join ds k p places joined clash.1
+
+  -- the first clashes with the join of some patches are the first with these
+  pub first_clashes_found : (limit : ℕ) (ds : List Document) (m : Option Document) (p : Document) (places : List Path) (total : ℕ) → IsJoinOf ds m → FirstClashesWithJoin limit m p places total → AreFirstClashesWith limit ds p places total
+  first_clashes_found limit ds None p places total none found = record {
+    all = [];
+    clashes = clashes_of_none ds p none;
+    first = rw (found.0, found.1) (record { rest = []; whole = refl; within = omega arith; longest = λ w more is. let differ = is in absurd (cc); counted = refl });
+  }
+  first_clashes_found limit ds (Some k) p places total joined found = record { all = found.all; clashes = clashes_of_join ds k p found.all joined found.clashes; first = found.first }

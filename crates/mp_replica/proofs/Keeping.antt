@@ -1,5 +1,5 @@
 -- What a kept form holds has taken what was taken where it was made.
-use Rattle.std.proofs.Common.{◌≡◌, ◌≢◌, ◌<◌, ℕ, zero, suc, length, take, drop, ◌-◌, ◌==◌, true≢false, slice_index_or, arith, Bool, true, false, List, [], ◌∷◌, map, Option, None, Some, MatchOption, Ok, option_map, if◌then◌else◌, refl, sym, ap, ◌∙◌, subst}
+use Rattle.std.proofs.Common.{◌≡◌, ◌≢◌, ◌<◌, ◌++◌, inl, inr, ap₂, ℕ, zero, suc, length, take, drop, ◌-◌, ◌==◌, true≢false, slice_index_or, arith, Bool, true, false, List, [], ◌∷◌, map, Option, None, Some, MatchOption, Ok, option_map, if◌then◌else◌, refl, sym, ap, ◌∙◌, subst}
 use Rattle.std.proofs.lemmas.List.{take_all}
 use Rattle.std.specs.Str.{is_utf8}
 use Rattle.serde_json.specs.Read as serde_json
@@ -13,9 +13,9 @@ use Rattle.mp_tree.specs.declared.doc.Doc.{Doc}
 use Rattle.mp_pointer.specs.Laws.{HasOneSpelling}
 use Rattle.mp_pointer.specs.Spelling.{spell}
 use Rattle.mp_texts.specs.Answers.{IsTextOf, place_of, places_list}
-use Rattle.mp_replica.specs.Held.{AreClashesAmong, HasJoined, HeldPatches}
-use Rattle.mp_replica.specs.Kept.{IsHeldBy, IsKept, KeepsPlaces, ReadsPlaces, mark}
-use Rattle.mp_replica.specs.Private.Places.{AreNotPlaces, AreUnread, IsNoPlace}
+use Rattle.mp_replica.specs.Held.{AreFirstPlaces, HasJoined, HeldPatches, HeldPlaces}
+use Rattle.mp_replica.specs.Kept.{AreSomePlaces, IsHeldBy, IsKept, IsNoKept, KeepsPlaces, ReadsPlaces, mark, marks, more_mark}
+use Rattle.mp_replica.specs.Private.Places.{AreMarkedRead, AreMarkedUnread, AreNotPlaces, AreUnread, IsNoPlace, second_mark}
 use Rattle.mp_replica.specs.Taking.{HasTaken}
 use Rattle.mp_replica.specs.declared.fault.LiveFault.{LiveFault}
 use Rattle.mp_replica.specs.declared.fault.LiveFault.TheVariants as live
@@ -38,11 +38,35 @@ unread_mark : (rest : List ℕ) → serde_json.read (mark ∷ rest) ≡ None
 unfolding json_on_literals
 unread_mark rest = refl
 
+unread_more : (rest : List ℕ) → serde_json.read (more_mark ∷ rest) ≡ None
+unfolding json_on_literals
+unread_more rest = refl
+
+none_more : (rest : List ℕ) (d : Document) → document_in (more_mark ∷ rest) ≡ Ok d → ⊥
+none_more rest d is = let never = sym (ap json_document (unread (more_mark ∷ rest) (unread_more rest))) ∙ is in cc
+
 none_empty : (d : Document) → document_in [] ≡ Ok d → ⊥
 none_empty d is = let never = sym (ap json_document (unread [] unread_nothing)) ∙ is in cc
 
 none_marked : (rest : List ℕ) (d : Document) → document_in (mark ∷ rest) ≡ Ok d → ⊥
 none_marked rest d is = let never = sym (ap json_document (unread (mark ∷ rest) (unread_mark rest))) ∙ is in cc
+
+-- ---- the marks
+
+first_mark : (more : Bool) (rest : List ℕ) → (s : List ℕ) × (marks more ++ rest ≡ mark ∷ s)
+first_mark false rest = (rest, refl)
+first_mark true rest = (more_mark ∷ rest, refl)
+
+pub marks_of : (more : Bool) (rest : List ℕ) → marks more ++ rest ≡ mark ∷ (second_mark more ++ rest)
+marks_of false rest = refl
+marks_of true rest = refl
+
+-- the marks and what follows them are known from the text, if that is a document
+same_marks : (m n : Bool) (r s : List ℕ) (d e : Document) → document_in r ≡ Ok d → document_in s ≡ Ok e → marks m ++ r ≡ marks n ++ s → (m ≡ n) × (r ≡ s)
+same_marks false false r s d e one other same = (refl, let both = same in cc)
+same_marks true true r s d e one other same = (refl, let both = same in cc)
+same_marks false true r s d e one other same = let is : r ≡ more_mark ∷ s = (let both = same in cc) in absurd (none_more s d (subst (λ t. document_in t ≡ Ok d) is one))
+same_marks true false r s d e one other same = let is : s ≡ more_mark ∷ r = (let both = sym same in cc) in absurd (none_more r e (subst (λ t. document_in t ≡ Ok e) is other))
 
 -- ---- one list of places
 
@@ -82,29 +106,32 @@ not_places live.Conflict ds k d below none = absurd none
 not_places live.Pending ds k d below none = absurd none
 
 -- so what is read as an array of these is read as no places
-pub unread_places : (fault : LiveFault) (text : List ℕ) (ds : List Doc) → document_in text ≡ Ok (list (items_of (map document ds))) → AreNotPlaces fault (map document ds) → AreUnread fault text
-unread_places live.NotKept text ds read none = (list (items_of (map document ds)), read, λ places some same. none places (items_same (map document ds) (map place_of places) (let both = same in cc)))
-unread_places live.OutOfMemory text ds read none = tt
-unread_places (live.Document f) text ds read none = absurd none
-unread_places (live.Pointer f) text ds read none = absurd none
-unread_places live.Missing text ds read none = absurd none
-unread_places live.NoPatches text ds read none = absurd none
-unread_places live.Conflict text ds read none = absurd none
-unread_places live.Pending text ds read none = absurd none
+pub unread_places : (fault : LiveFault) (more : Bool) (text : List ℕ) (ds : List Doc) → document_in text ≡ Ok (list (items_of (map document ds))) → AreNotPlaces fault (map document ds) → AreUnread fault more text
+unread_places live.NotKept more text ds read none = (list (items_of (map document ds)), read, λ places some same. none places (items_same (map document ds) (map place_of places) (let both = same in cc)))
+unread_places live.OutOfMemory more text ds read none = tt
+unread_places (live.Document f) more text ds read none = absurd none
+unread_places (live.Pointer f) more text ds read none = absurd none
+unread_places live.Missing more text ds read none = absurd none
+unread_places live.NoPatches more text ds read none = absurd none
+unread_places live.Conflict more text ds read none = absurd none
+unread_places live.Pending more text ds read none = absurd none
 
 no_paths : (ws : List Path) → [] ≡ map place_of ws → ws ≡ []
 no_paths [] same = refl
 no_paths (w ∷ ws) same = cc
 
 -- nor is an empty array
-pub unread_if_none : (text : List ℕ) (ds : List Doc) (ws : List Path) → document_in text ≡ Ok (list (items_of (map document ds))) → map document ds ≡ map place_of ws → ws ≡ [] → AreUnread live.NotKept text
+pub unread_if_none : (text : List ℕ) (ds : List Doc) (ws : List Path) → document_in text ≡ Ok (list (items_of (map document ds))) → map document ds ≡ map place_of ws → ws ≡ [] → AreUnread live.NotKept false text
 unread_if_none text ds ws read are none = (
   list (items_of (map document ds)),
   read,
   λ places some same.
       let empty : map document ds ≡ [] = are ∙ ap (map place_of) none in
-      some (no_paths places (sym empty ∙ items_same (map document ds) (map place_of places) (let both = same in cc))),
+      never places some (no_paths places (sym empty ∙ items_same (map document ds) (map place_of places) (let both = same in cc))),
 )
+  where
+    never : (places : List Path) → AreSomePlaces (record { places = places; more = false }) → places ≡ [] → ⊥
+    never places some empty = elim some [ inl more ↦ true≢false (sym more) | inr there ↦ there empty ]
 
 pub places_same : HasOneSpelling → (ws us : List Path) → places_list ws ≡ places_list us → ws ≡ us
 places_same one ws us same = paths_same one ws us (items_same (map place_of ws) (map place_of us) (let both = same in cc))
@@ -117,10 +144,13 @@ same_document d e text written read = let both = sym written.read_back ∙ read 
 moved : {a b c d : Option Document} (taken : List Document) → a ≡ c → b ≡ d → HasJoined a b taken → HasJoined c d taken
 moved {b = b} {c = c} taken one other has = subst (λ p. HasJoined c p taken) other (subst (λ j. HasJoined j b taken) one has)
 
+abbrev one_held : List Path → Bool → HeldPlaces
+one_held places more = record { places = places; more = more }
+
 module _ (one : HasOneSpelling) (text : List ℕ) (before r : HeldPatches) (taken : List Document) where
-  again : (bp rp : Option (List Path)) (bj rj : Option Doc) → before.places ≡ bp → r.places ≡ rp → before.joined ≡ bj → r.joined ≡ rj → r.pending ≡ None
-      → MatchOption bp ((before.pending ≡ None) × MatchOption bj (text ≡ []) (λ j. IsTextOf (document j) text)) (λ places. KeepsPlaces places text)
-      → MatchOption rp (MatchOption rj (text ≡ []) (λ j. document_in text ≡ Ok (document j))) (λ places. ReadsPlaces text places × (r.joined ≡ None)) → HasTaken before taken → HasTaken r taken
+  again : (bp rp : Option HeldPlaces) (bj rj : Option Doc) → before.places ≡ bp → r.places ≡ rp → before.joined ≡ bj → r.joined ≡ rj → r.pending ≡ None
+      → MatchOption bp ((before.pending ≡ None) × MatchOption bj (text ≡ []) (λ j. IsTextOf (document j) text)) (λ held. KeepsPlaces held text)
+      → MatchOption rp (MatchOption rj (text ≡ []) (λ j. document_in text ≡ Ok (document j))) (λ held. ReadsPlaces text held × (r.joined ≡ None)) → HasTaken before taken → HasTaken r taken
   again None None None None free also empty none settled kept held has =
       free_taken r taken also (moved taken (ap (option_map document) (empty ∙ sym none)) (ap (option_map document) (kept.0 ∙ sym settled)) (if_free before taken free has))
   again None None None (Some k) free also empty some settled kept held has = absurd (none_empty (document k) (subst (λ t. document_in t ≡ Ok (document k)) kept.1 held))
@@ -128,14 +158,18 @@ module _ (one : HasOneSpelling) (text : List ℕ) (before r : HeldPatches) (take
   again None None (Some j) (Some k) free also some other settled kept held has =
       let same : Some (document j) ≡ Some (document k) = ap Some (same_document (document j) (document k) text kept.1 held) in
       free_taken r taken also (moved taken (ap (option_map document) some ∙ same ∙ sym (ap (option_map document) other)) (ap (option_map document) (kept.0 ∙ sym settled)) (if_free before taken free has))
-  again None (Some us) None rj free also empty some settled kept held has = absurd (let never : [] ≡ mark ∷ held.0.0 = sym kept.1 ∙ held.0.1 in cc)
-  again None (Some us) (Some j) rj free also some other settled kept held has = absurd (none_marked held.0.0 (document j) (subst (λ t. document_in t ≡ Ok (document j)) held.0.1 kept.1.read_back))
-  again (Some ws) None bj None conflict also some none settled kept held has = absurd (let never : [] ≡ mark ∷ kept.0 = sym held ∙ kept.1 in cc)
-  again (Some ws) None bj (Some k) conflict also some other settled kept held has = absurd (none_marked kept.0 (document k) (subst (λ t. document_in t ≡ Ok (document k)) kept.1 held))
+  again None (Some us) None rj free also empty some settled kept held has = let at = first_mark us.more held.0.0 in absurd (let never : [] ≡ mark ∷ at.0 = sym kept.1 ∙ held.0.1 ∙ at.1 in cc)
+  again None (Some us) (Some j) rj free also some other settled kept held has =
+      let at = first_mark us.more held.0.0 in absurd (none_marked at.0 (document j) (subst (λ t. document_in t ≡ Ok (document j)) (held.0.1 ∙ at.1) kept.1.read_back))
+  again (Some ws) None bj None conflict also some none settled kept held has = let at = first_mark ws.more kept.0 in absurd (let never : [] ≡ mark ∷ at.0 = sym held ∙ kept.1 ∙ at.1 in cc)
+  again (Some ws) None bj (Some k) conflict also some other settled kept held has =
+      let at = first_mark ws.more kept.0 in absurd (none_marked at.0 (document k) (subst (λ t. document_in t ≡ Ok (document k)) (kept.1 ∙ at.1) held))
   again (Some ws) (Some us) bj rj conflict also some other settled kept held has =
-      let rest : kept.0 ≡ held.0.0 = (let both = sym kept.1 ∙ held.0.1 in cc) in
-      let same : ws ≡ us = places_same one ws us (same_document (places_list ws) (places_list us) kept.0 kept.2 (subst (λ t. document_in t ≡ Ok (places_list us)) (sym rest) held.0.2)) in
-      conflict_taken r taken us also held.1 settled has.are_documents (subst (AreClashesAmong taken) same (if_conflict before taken ws conflict has).clashes)
+      let both = same_marks ws.more us.more kept.0 held.0.0 (places_list ws.places) (places_list us.places) kept.2.read_back held.0.2 (sym kept.1 ∙ held.0.1) in
+      let places : ws.places ≡ us.places = places_same one ws.places us.places (same_document (places_list ws.places) (places_list us.places) kept.0 kept.2 (subst (λ t. document_in t ≡ Ok (places_list us.places)) (sym both.1) held.0.2)) in
+      let same : ws ≡ us = ap₂ one_held places both.0 in
+      let was = if_conflict before taken ws conflict has in
+      conflict_taken r taken us was.all also held.1 settled has.are_documents was.clashes (subst (AreFirstPlaces was.all) same was.first)
 
   pub kept_again : IsKept before text → IsHeldBy text r → HasTaken before taken → HasTaken r taken
   kept_again kept held has = again before.places r.places before.joined r.joined refl refl refl refl held.0 kept held.1 has
@@ -145,12 +179,24 @@ module _ (one : HasOneSpelling) (text : List ℕ) (before r : HeldPatches) (take
 pub held_nothing : (text : List ℕ) (r : HeldPatches) → text ≡ [] → r.joined ≡ None → r.pending ≡ None → r.places ≡ None → IsHeldBy text r
 held_nothing text r empty no_join settled free = rw (free, no_join) (settled, empty)
 
-pub held_conflict : (text rest : List ℕ) (r : HeldPatches) (ws : List Path) → text ≡ mark ∷ rest → document_in rest ≡ Ok (places_list ws) → ws ≢ [] → r.joined ≡ None → r.pending ≡ None → r.places ≡ Some ws → IsHeldBy text r
-held_conflict text rest r ws marked read some no_join settled there = rw there (settled, ((rest, marked, read, some), no_join))
+pub held_conflict : (text tail : List ℕ) (r : HeldPatches) (held : HeldPlaces) → text ≡ mark ∷ tail → AreMarkedRead tail held → r.joined ≡ None → r.pending ≡ None → r.places ≡ Some held → IsHeldBy text r
+held_conflict text tail r held marked read no_join settled there =
+    rw there (settled, ((read.0, marked ∙ ap (λ t. mark ∷ t) read.1 ∙ sym (marks_of held.more read.0), read.2.0, read.2.1), no_join))
 
 pub held_join : (text : List ℕ) (r : HeldPatches) (j : Doc) → document_in text ≡ Ok (document j) → r.joined ≡ Some j → r.pending ≡ None → r.places ≡ None → IsHeldBy text r
 held_join text r j read some settled free = rw (free, some) (settled, read)
 
-pub marked_text : (text : List ℕ) (d : ℕ) → false ≡ (length text == 0) → slice_index_or text 0 d ≡ mark → text ≡ mark ∷ take (length text - 1) (drop 1 text)
-marked_text [] d some first = absurd (true≢false (sym some))
-marked_text (b ∷ rest) d some first = ap (λ x. x ∷ rest) first ∙ ap (λ t. mark ∷ t) (sym (take_all (length (b ∷ rest) - 1) rest (omega arith)))
+-- what is not read as places is not read as a kept form
+pub no_kept : (fault : LiveFault) (text tail : List ℕ) → text ≡ mark ∷ tail → AreMarkedUnread fault tail → IsNoKept fault text
+no_kept (live.Document f) text tail marked (more, rest, parts, unread) = (rest, inr (more, marked ∙ ap (λ t. mark ∷ t) parts ∙ sym (marks_of more rest)), unread)
+no_kept live.NotKept text tail marked (more, rest, parts, unread) = (rest, unread.0, more, marked ∙ ap (λ t. mark ∷ t) parts ∙ sym (marks_of more rest), unread.1, unread.2)
+no_kept live.OutOfMemory text tail marked unread = tt
+no_kept (live.Pointer f) text tail marked (more, rest, parts, unread) = absurd unread
+no_kept live.Missing text tail marked (more, rest, parts, unread) = absurd unread
+no_kept live.NoPatches text tail marked (more, rest, parts, unread) = absurd unread
+no_kept live.Conflict text tail marked (more, rest, parts, unread) = absurd unread
+no_kept live.Pending text tail marked (more, rest, parts, unread) = absurd unread
+
+pub marked_text : (text : List ℕ) (d m : ℕ) → false ≡ (length text == 0) → slice_index_or text 0 d ≡ m → text ≡ m ∷ take (length text - 1) (drop 1 text)
+marked_text [] d m some first = absurd (true≢false (sym some))
+marked_text (b ∷ rest) d m some first = ap (λ x. x ∷ rest) first ∙ ap (λ t. m ∷ t) (sym (take_all (length (b ∷ rest) - 1) rest (omega arith)))

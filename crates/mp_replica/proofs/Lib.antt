@@ -1,9 +1,11 @@
 pub mod Alike
+pub mod Bounded
 pub mod Conflicting
 pub mod Following
 pub mod Growing
 pub mod Identities
 pub mod Keeping
+pub mod Listing
 pub mod PairTexts
 pub mod PairsFound
 pub mod Reporting

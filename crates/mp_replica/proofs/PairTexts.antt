@@ -1,7 +1,10 @@
 -- The text of pairs that conflict, one more pair at a time.
-use Rattle.std.proofs.Common.{◌≡◌, ◌≢◌, ℕ, List, [], ◌∷◌, ◌++◌, codes, refl, sym, ap, ◌∙◌, append_assoc, append-nil}
-use Rattle.mp_replica.specs.LogTexts.{more_pairs_text, pair_text, pairs_text}
-use Rattle.mp_replica.specs.PatchLog.{Pair}
+use Rattle.std.proofs.Common.{◌≡◌, ◌≢◌, ◌<◌, ◌≤◌, ◌+◌, ◌-◌, ◌⊎◌, ◌↔◌, inl, inr, ℕ, Bool, false, true≢false, IsTrue, List, [], ◌∷◌, ◌++◌, codes, drop, get_or, length, map, take, refl, sym, ap, ◌∙◌, subst, arith, append_assoc, append-nil, length-append}
+use Rattle.std.proofs.lemmas.Bool.{cases_lt}
+use Rattle.std.proofs.lemmas.List.{drop_all, drop_more, length-map, length-take, map-append, take-append-drop, take_more}
+use Rattle.mp_replica.specs.LogTexts.{IsTextOfFirstPairs, more_pairs_text, pair_text, pairs_text}
+use Rattle.mp_replica.specs.PatchLog.{Pair, seen}
+use Rattle.mp_replica.specs.declared.pairs.ConflictingPair.{ConflictingPair}
 
 -- what stands before the next pair
 abbrev pub comma_before : List Pair → List ℕ
@@ -33,3 +36,83 @@ comma-push (p ∷ pairs) pair = refl
 pub closed : (pairs : List Pair) → pairs ≢ [] → opened pairs ++ codes "]" ≡ pairs_text pairs
 closed [] some = absurd (some refl)
 closed (pair ∷ pairs) some = refl
+
+-- ---- how long it is, and that of as many as fit
+
+-- of each pair, with one byte more for what stands before it
+abbrev pub spelled : List Pair → ℕ
+spelled [] = 0
+spelled (pair ∷ pairs) = 1 + length (pair_text pair) + spelled pairs
+
+more_long : (pairs : List Pair) → length (more_pairs_text pairs) ≡ spelled pairs
+more_long [] = refl
+more_long (pair ∷ pairs) = omega (arith, length-append (codes "," ++ pair_text pair) (more_pairs_text pairs), length-append (codes ",") (pair_text pair), more_long pairs)
+
+pub pairs_long : (pair : Pair) (pairs : List Pair) → length (pairs_text (pair ∷ pairs)) ≡ 1 + spelled (pair ∷ pairs)
+pairs_long pair pairs =
+    omega (arith, length-append (codes "[" ++ pair_text pair ++ more_pairs_text pairs) (codes "]"), length-append (codes "[" ++ pair_text pair) (more_pairs_text pairs), length-append (codes "[") (pair_text pair), more_long pairs)
+
+pub spelled-append : (pairs others : List Pair) → spelled (pairs ++ others) ≡ spelled pairs + spelled others
+spelled-append [] others = omega arith
+spelled-append (pair ∷ pairs) others = omega (arith, spelled-append pairs others)
+
+pub fit_or_none : (pairs : List Pair) (limit left : ℕ) → left + spelled pairs ≡ limit - 1 → (pairs ≡ []) ⊎ (length (pairs_text pairs) ≤ limit)
+fit_or_none [] limit left is = inl refl
+fit_or_none (pair ∷ pairs) limit left is = inr (omega (arith, is, pairs_long pair pairs))
+
+pub long-push : (pairs : List Pair) (pair : Pair) → length (pairs_text (pairs ++ pair ∷ [])) ≡ 1 + (spelled pairs + (1 + length (pair_text pair)))
+long-push [] pair = omega (arith, pairs_long pair [])
+long-push (p ∷ pairs) pair = omega (arith, pairs_long p (pairs ++ pair ∷ []), spelled-append pairs (pair ∷ []))
+
+-- one pair more
+pub seen_more : (pairs : List ConflictingPair) (k : ℕ) (pair : ConflictingPair) → k < length pairs → pair ≡ get_or pairs k pair → map seen (take (k + 1) pairs) ≡ map seen (take k pairs) ++ seen pair ∷ []
+seen_more pairs k pair within is = ap (map seen) (take_more pairs k pair within ∙ ap (λ x. take k pairs ++ x ∷ []) (sym is)) ∙ map-append seen (take k pairs) (pair ∷ [])
+
+module _ (limit n : ℕ) (pairs : List ConflictingPair) (longest : n < length pairs → limit < length (pairs_text (map seen (take (n + 1) pairs)))) where
+  abbrev pub written : List Pair
+  written = map seen (take n pairs)
+
+  abbrev left : List ConflictingPair
+  left = drop n pairs
+
+  some_left : map seen left ≢ [] → n < length pairs
+  some_left some = elim (cases_lt n (length pairs)) [ inl below ↦ below | inr past ↦ absurd (some (ap (map seen) (drop_all n pairs (omega arith)))) ]
+
+  none_short : n < length pairs → map seen left ≢ []
+  none_short below none = omega (arith, below, ap length none, length-map left seen, ap length (take-append-drop n pairs), length-append (take n pairs) left, length-take n pairs)
+
+  next_of : (next : Pair) (others : List Pair) → map seen left ≡ next ∷ others → limit < length (pairs_text (written ++ next ∷ []))
+  next_of next others is =
+      let below = some_left (λ none. let differ = sym none ∙ is in cc) in
+      by left refl below
+    where
+      by : (rest : List ConflictingPair) → left ≡ rest → n < length pairs → limit < length (pairs_text (written ++ next ∷ []))
+      by [] none below = absurd (let differ : [] ≡ next ∷ others = sym (ap (map seen) none) ∙ is in cc)
+      by (d ∷ rest) parts below =
+          let here : get_or pairs n d ∷ drop (n + 1) pairs ≡ d ∷ rest = sym (drop_more pairs n d below) ∙ parts in
+          let first : seen (get_or pairs n d) ≡ next = (let same : get_or pairs n d ≡ d = cc in let both : seen d ∷ map seen rest ≡ next ∷ others = sym (ap (map seen) parts) ∙ is in let head : seen d ≡ next = cc in ap seen same ∙ head) in
+          let more : map seen (take (n + 1) pairs) ≡ written ++ next ∷ [] = ap (map seen) (take_more pairs n d below) ∙ map-append seen (take n pairs) (get_or pairs n d ∷ []) ∙ ap (λ p. written ++ p ∷ []) first in
+          subst (λ ps. limit < length (pairs_text ps)) more (longest below)
+
+  pub first_text : (answer : List ℕ) (more : Bool) → (written ≡ []) ⊎ (length (pairs_text written) ≤ limit) → answer ≡ pairs_text written → IsTrue more ↔ (n < length pairs) → IsTextOfFirstPairs limit (map seen pairs) answer more
+  first_text answer more within is says = record {
+    written = written;
+    rest = map seen left;
+    all = ap (map seen) (sym (take-append-drop n pairs)) ∙ map-append seen (take n pairs) left;
+    is = is;
+    within = elim within [ inl none ↦ inl none | inr fits ↦ inr (omega (arith, fits, ap length is)) ];
+    longest = next_of;
+    left_out = (λ yes. none_short (says.0 yes), λ some. says.1 (some_left some));
+  }
+
+-- all are written if they fit
+pub whole_text : (limit : ℕ) (pairs : List Pair) (answer : List ℕ) → answer ≡ pairs_text pairs → length answer ≤ limit → IsTextOfFirstPairs limit pairs answer false
+whole_text limit pairs answer is within = record {
+  written = pairs;
+  rest = [];
+  all = sym (append-nil pairs);
+  is = is;
+  within = inr within;
+  longest = λ next others none. let differ = none in absurd (cc);
+  left_out = (λ more. absurd (true≢false (sym more)), λ some. absurd (some refl));
+}

@@ -1,5 +1,5 @@
 -- The pairs of patches that conflict, one more pair at a time.
-use Rattle.std.proofs.Common.{◌≡◌, ◌≢◌, ◌↔◌, ◌⊎◌, ◌<◌, ◌≤◌, ◌+◌, inl, inr, ℕ, List, [], ◌∷◌, ◌++◌, length, get_or, map, true, false, true≢false, Option, None, Some, MatchOption, slice_get, refl, sym, ap, ◌∙◌, subst, arith, rules}
+use Rattle.std.proofs.Common.{◌≡◌, ◌≢◌, ◌↔◌, ◌⊎◌, ◌<◌, ◌≤◌, ◌+◌, inl, inr, ℕ, List, [], ◌∷◌, ◌++◌, length, get_or, map, Bool, not, true, false, true≢false, Option, None, Some, MatchOption, slice_get, refl, sym, ap, ◌∙◌, subst, arith, rules}
 use Rattle.std.proofs.lemmas.Bool.{cases_lt}
 use Rattle.std.proofs.lemmas.Cmp.{on_total, then_total, tied_itself}
 use Rattle.std.proofs.lemmas.List.{get_or-map, length-map, map-append}
@@ -12,12 +12,13 @@ use Rattle.std.specs.List.Sorted.{IsStrictlySortedBy}
 use Rattle.std.specs.Ordering.{ordering_then}
 use Rattle.std.specs.declared.cmp.Ordering.{Ordering}
 use Rattle.std.specs.declared.cmp.Ordering.TheVariants.{Less, Equal}
+use Rattle.mp_tree.specs.Document.{Document}
+use Rattle.mp_merge.specs.Clash.{Compatible}
 use Rattle.mp_tree.proofs.Facts.{Contains-nil, Contains-head, Contains-tail, Contains-cases, some_same}
 use Rattle.mp_replica.specs.PatchLog.{DoClash, IsClashing, Pair, Stored, identities_of, identity_cmp, pair_cmp, seen}
 use Rattle.mp_replica.specs.Private.Pairs.{ArePairsBefore, IsBefore, IsFirstFrom, IsPlaced}
 use Rattle.mp_replica.specs.declared.message.Identity.{Identity}
 use Rattle.mp_replica.specs.declared.pairs.ConflictingPair.{ConflictingPair}
-use Rattle.std.specs.Option.{is_some}
 use Rattle.mp_replica.proofs.Identities.{identities_total}
 
 -- ---- lists that rise
@@ -179,7 +180,7 @@ module _ (ids : List Identity) (rising : IsStrictlySortedBy identity_cmp ids) wh
   one_at m n i j same at_m at_n = some_same i j (sym at_m ∙ ap (slice_get ids) same ∙ at_n)
 
   -- and the lower identity the lower number
-  number_below : (m n : ℕ) (i j : Identity) → slice_get ids m ≡ Some i → slice_get ids n ≡ Some j → identity_cmp i j ≡ Less → m < n
+  pub number_below : (m n : ℕ) (i j : Identity) → slice_get ids m ≡ Some i → slice_get ids n ≡ Some j → identity_cmp i j ≡ Less → m < n
   number_below m n i j at_m at_n less = elim (cases_lt m n) [
     | inl below ↦ below
     | inr past ↦ elim (cases_lt n m) [
@@ -189,7 +190,7 @@ module _ (ids : List Identity) (rising : IsStrictlySortedBy identity_cmp ids) wh
   ]
 
   -- a pair with numbers before those of another comes before it
-  pair_below : (m n a b : ℕ) (i j k l : Identity) → slice_get ids m ≡ Some i → slice_get ids n ≡ Some j → slice_get ids a ≡ Some k → slice_get ids b ≡ Some l
+  pub pair_below : (m n a b : ℕ) (i j k l : Identity) → slice_get ids m ≡ Some i → slice_get ids n ≡ Some j → slice_get ids a ≡ Some k → slice_get ids b ≡ Some l
       → IsBefore m n a b → pair_cmp (i, j) (k, l) ≡ Less
   pair_below m n a b i j k l at_m at_n at_a at_b before = elim before [
     | inl less ↦ ap (λ o. ordering_then o (identity_cmp j l)) (less_at m a i k at_m at_a less)
@@ -199,7 +200,7 @@ module _ (ids : List Identity) (rising : IsStrictlySortedBy identity_cmp ids) wh
   ]
 
   -- and the other way round
-  numbers_before : (m n a b : ℕ) (i j k l : Identity) → slice_get ids m ≡ Some i → slice_get ids n ≡ Some j → slice_get ids a ≡ Some k → slice_get ids b ≡ Some l
+  pub numbers_before : (m n a b : ℕ) (i j k l : Identity) → slice_get ids m ≡ Some i → slice_get ids n ≡ Some j → slice_get ids a ≡ Some k → slice_get ids b ≡ Some l
       → pair_cmp (i, j) (k, l) ≡ Less → IsBefore m n a b
   numbers_before m n a b i j k l at_m at_n at_a at_b less = elim (cases_lt m a) [
     | inl below ↦ inl below
@@ -341,17 +342,32 @@ module _ (ids : List Identity) (rising : IsStrictlySortedBy identity_cmp ids) wh
         are.all here.0 there.0 i j at_i at_j (number_below here.0 there.0 i j at_i at_j less) (inl (let inside = here.1 in omega arith)) clash
 
     -- nothing that clashes comes before the first pair
-    pub first_is_least : (pair : Pair) (i j : Identity) → IsFirstFrom stored ids pair → Contains ids i → Contains ids j → identity_cmp i j ≡ Less → DoClash stored i j → pair_cmp (i, j) (identities_of pair) ≢ Less
-    first_is_least pair i j first here there less clash before =
+    pub first_is_least : (k l i j : Identity) → IsFirstFrom stored ids k l → Contains ids i → Contains ids j → identity_cmp i j ≡ Less → DoClash stored i j → pair_cmp (i, j) (k, l) ≢ Less
+    first_is_least k l i j first here there less clash before =
         let at_i = slice_get_read ids (length ids) here.0 i refl here.1 (sym here.2) in
         let at_j = slice_get_read ids (length ids) there.0 j refl there.1 (sym there.2) in
         Contains-nil (i, j) (first.none_before.all here.0 there.0 i j at_i at_j (number_below here.0 there.0 i j at_i at_j less)
-        (numbers_before here.0 there.0 first.a first.b i j pair.first pair.second at_i at_j first.at_first first.at_second before) clash)
+        (numbers_before here.0 there.0 first.a first.b i j k l at_i at_j first.at_first first.at_second before) clash)
 
 pub placed_at : {X : Type 0} (xs : List X) (k : ℕ) (x : X) → slice_get xs k ≡ Some x → Contains xs x
 placed_at xs k x is = (k, slice_get_within xs k x is, get_or_from_slice_get xs k x x is)
 
 -- ---- what is found of two
+
+not_if : (b : Bool) → ¬ (b ≡ true) → not b ≡ true
+not_if true never = absurd (never refl)
+not_if false never = refl
+
+never_both_true : (b : Bool) → not b ≡ true → ¬ (b ≡ true)
+never_both_true true one is = true≢false (sym one)
+never_both_true false one is = true≢false (sym is)
+
+-- whether the patches that are stored under two clash
+pub tells_clash : (stored : Stored) (i j : Identity) (p q : Document) (agree : Bool) → stored i ≡ Some p → stored j ≡ Some q → (agree ≡ true) ↔ Compatible p q → (not agree ≡ true) ↔ DoClash stored i j
+tells_clash stored i j p q agree at_i at_j says = (
+  λ yes. record { one = p; other = q; at_first = at_i; at_second = at_j; clash = λ free. never_both_true agree yes (says.1 free) },
+  λ clash. not_if agree (λ yes. clash.clash (subst (λ d. Compatible d clash.other) (some_same p clash.one (sym at_i ∙ clash.at_first)) (subst (Compatible p) (some_same q clash.other (sym at_j ∙ clash.at_second)) (says.0 yes)))),
+)
 
 abbrev pub no_identity : Identity
 no_identity = record { sender = 0; number = 0 }
@@ -359,25 +375,9 @@ no_identity = record { sender = 0; number = 0 }
 abbrev pub IsFound : Stored → Identity → Identity → ConflictingPair → Type 0
 IsFound stored k l pair = (identities_of (seen pair) ≡ (k, l)) × IsClashing stored (seen pair)
 
-pub found_first : (stored : Stored) (ids : List Identity) (a b : ℕ) (k l : Identity) (found : Option ConflictingPair) (Other : Type 0) → slice_get ids a ≡ Some k → slice_get ids b ≡ Some l → true ≡ is_some found
-    → MatchOption found (¬ DoClash stored k l) (IsFound stored k l) → ArePairsBefore stored ids a b [] → MatchOption found Other (λ pair. IsFirstFrom stored ids (seen pair))
-found_first stored ids a b k l (Some pair) Other at_a at_b some is are = record {
-  a = a;
-  b = b;
-  at_first = at_a ∙ ap Some (sym (ap (λ x. x.0) is.0));
-  at_second = at_b ∙ ap Some (sym (ap (λ x. x.1) is.0));
-  clashing = is.1;
-  none_before = are;
-}
-found_first stored ids a b k l None Other at_a at_b some is are = absurd (true≢false some)
-
 pub some_there : (stored : Stored) (k l : Identity) (found : Option ConflictingPair) (pair : ConflictingPair) → found ≡ Some pair → MatchOption found (¬ DoClash stored k l) (IsFound stored k l) → IsFound stored k l pair
 some_there stored k l found pair some is = subst (λ o. MatchOption o (¬ DoClash stored k l) (IsFound stored k l)) some is
 
 pub none_unless_there : (stored : Stored) (k l : Identity) (found : Option ConflictingPair) → ((pair : ConflictingPair) → found ≡ Some pair → ⊥) → MatchOption found (¬ DoClash stored k l) (IsFound stored k l) → ¬ DoClash stored k l
 none_unless_there stored k l None never is = is
 none_unless_there stored k l (Some pair) never is = absurd (never pair refl)
-
-pub none_there : (stored : Stored) (k l : Identity) (found : Option ConflictingPair) → false ≡ is_some found → MatchOption found (¬ DoClash stored k l) (IsFound stored k l) → ¬ DoClash stored k l
-none_there stored k l None none is = is
-none_there stored k l (Some pair) none is = absurd (true≢false (sym none))

@@ -8,11 +8,10 @@ use Rattle.mp_tree.specs.Document.{Document}
 use Rattle.mp_tree.specs.declared.doc.Doc.{Doc}
 use Rattle.mp_tree.proofs.Facts.{Contains-nil}
 use Rattle.mp_merge.specs.Clash.{Compatible}
-use Rattle.mp_replica.specs.PatchLog.{AreAllPairs, DoClash, IsFirstPair, Pair, Stored, identity_cmp, seen, stored_in}
+use Rattle.mp_replica.specs.PatchLog.{AreAllPairs, DoClash, IsFirstPair, Pair, Stored, identity_cmp, stored_in}
 use Rattle.mp_replica.specs.Private.Pairs.{ArePairsBefore, IsFirstFrom}
 use Rattle.mp_replica.specs.Private.StoredPatches.{AreApart, Conflicts}
 use Rattle.mp_replica.specs.declared.message.Identity.{Identity}
-use Rattle.mp_replica.specs.declared.pairs.ConflictingPair.{ConflictingPair}
 use Rattle.mp_replica.proofs.Conflicting.{one_patch}
 use Rattle.mp_replica.proofs.Growing.{itself, symmetric}
 use Rattle.mp_replica.proofs.Identities.{exact_identities, identities_total}
@@ -40,10 +39,10 @@ second_conflicts : (stored : Stored) (i j : Identity) → DoClash stored i j →
 second_conflicts stored i j clash = (clash.other, clash.at_second, λ all. clash.clash (symmetric clash.other clash.one (all i clash.one clash.at_first)))
 
 module _ (es : List (Identity × Doc)) (known : List Identity) (knows : (i : Identity) → Contains known i ↔ Conflicts (stored_in es) i) where
-  first_known : (i j : Identity) → DoClash (stored_in es) i j → (stored_in es i ≢ None) × Contains known i
+  pub first_known : (i j : Identity) → DoClash (stored_in es) i j → (stored_in es i ≢ None) × Contains known i
   first_known i j clash = (is_some_stored (stored_in es) i clash.one clash.at_first, (knows i).1 (first_conflicts (stored_in es) i j clash))
 
-  second_known : (i j : Identity) → DoClash (stored_in es) i j → (stored_in es j ≢ None) × Contains known j
+  pub second_known : (i j : Identity) → DoClash (stored_in es) i j → (stored_in es j ≢ None) × Contains known j
   second_known i j clash = (is_some_stored (stored_in es) j clash.other clash.at_second, (knows j).1 (second_conflicts (stored_in es) i j clash))
 
 pub all_pairs_found : (es : List (Identity × Doc)) (known ids : List Identity) (pairs : List Pair) → ((i : Identity) → Contains known i ↔ Conflicts (stored_in es) i) → IsStrictlySortedBy identity_cmp ids
@@ -60,15 +59,16 @@ all_pairs_found es known ids pairs knows rising both are = record {
 module _ (es : List (Identity × Doc)) (known chosen ids : List Identity) (knows : (i : Identity) → Contains known i ↔ Conflicts (stored_in es) i) (rising : IsStrictlySortedBy identity_cmp ids)
     (both : AreBoth (stored_in es) known chosen ids) where
   -- the first two of them are the first that were chosen
-  pub first_of_chosen : (pair : Pair) → IsFirstFrom (stored_in es) ids pair → IsFirstPair (stored_in es) chosen pair
-  first_of_chosen pair first = record {
-    chosen_first = ((both pair.first).0 (placed_at ids first.a pair.first first.at_first)).2;
-    chosen_second = ((both pair.second).0 (placed_at ids first.b pair.second first.at_second)).2;
-    clashing = first.clashing;
+  pub first_of_chosen : (k l : Identity) → IsFirstFrom (stored_in es) ids k l → IsFirstPair (stored_in es) chosen k l
+  first_of_chosen k l first = record {
+    chosen_first = ((both k).0 (placed_at ids first.a k first.at_first)).2;
+    chosen_second = ((both l).0 (placed_at ids first.b l first.at_second)).2;
+    in_order = first.in_order;
+    clash = first.clash;
     least = λ i j here there less clash.
         let one = first_known es known knows i j clash in
         let other = second_known es known knows i j clash in
-        first_is_least ids rising (stored_in es) pair i j first ((both i).1 (one.0, one.1, here)) ((both j).1 (other.0, other.1, there)) less clash;
+        first_is_least ids rising (stored_in es) k l i j first ((both i).1 (one.0, one.1, here)) ((both j).1 (other.0, other.1, there)) less clash;
   }
 
   less_apart : ArePairsBefore (stored_in es) ids (length ids) 0 [] → (i j : Identity) (p q : Document) → Contains chosen i → Contains chosen j → stored_in es i ≡ Some p → stored_in es j ≡ Some q → identity_cmp i j ≡ Less → Compatible p q
@@ -87,7 +87,7 @@ module _ (es : List (Identity × Doc)) (known chosen ids : List Identity) (knows
       by Equal is = subst (Compatible p) (one_patch (stored_in es) i j p q (exact_identities i j is) at_i at_j) (itself p)
       by Greater is = symmetric q p (less_apart are j i q p there here at_j at_i (identities_total.antisymm j i ∙ ap ordering_reverse is))
 
-  pub found_of_chosen : (found : Option ConflictingPair) → MatchOption found (ArePairsBefore (stored_in es) ids (length ids) 0 []) (λ pair. IsFirstFrom (stored_in es) ids (seen pair))
-      → MatchOption found (AreApart (stored_in es) chosen) (λ pair. IsFirstPair (stored_in es) chosen (seen pair))
+  pub found_of_chosen : (found : Option (Identity × Identity)) → MatchOption found (ArePairsBefore (stored_in es) ids (length ids) 0 []) (λ pair. IsFirstFrom (stored_in es) ids pair.0 pair.1)
+      → MatchOption found (AreApart (stored_in es) chosen) (λ pair. IsFirstPair (stored_in es) chosen pair.0 pair.1)
   found_of_chosen None are = none_of_chosen are
-  found_of_chosen (Some pair) first = first_of_chosen (seen pair) first
+  found_of_chosen (Some pair) first = first_of_chosen pair.0 pair.1 first

@@ -11,10 +11,10 @@ use Rattle.mp_tree.proofs.Facts.{Contains-head, Contains-nil, IsDocument-documen
 use Rattle.mp_merge.specs.Clash.{AreAllClashes, Clash, Compatible}
 use Rattle.mp_merge.specs.Join.{IsJoin}
 use Rattle.mp_merge.specs.Lists.{HaveSameMembers, PairwiseCompatible}
-use Rattle.mp_replica.specs.Held.{AreClashesAmong, AreClashesBetween, AreClashesWith, HasJoined, HeldPatches, IsJoinOf}
+use Rattle.mp_replica.specs.Held.{AreClashesAmong, AreClashesBetween, AreClashesWith, AreFirstPlaces, HasJoined, HeldPatches, HeldPlaces, HoldsClashesBetween, HoldsClashesWith, IsJoinOf}
 use Rattle.mp_replica.specs.Laws.{HoldsJoin, TakenSame, TakersAgree}
 use Rattle.mp_replica.specs.Private.LawsBelow.{MergeLaws}
-use Rattle.mp_replica.specs.Private.Steps.{ClashesWithAll, ClashesWithJoin, SameJoins}
+use Rattle.mp_replica.specs.Private.Steps.{ClashesWithAll, ClashesWithJoin, HoldsClashesWithAll, HoldsClashesWithJoin, SameJoins}
 use Rattle.mp_replica.specs.Taking.{HasTaken, HoldsConflict, TakesAll, TakesOne}
 use Rattle.mp_replica.specs.declared.patches.Added.{Added}
 use Rattle.mp_replica.specs.declared.patches.Added.TheVariants.{Joined, Conflict, Pending, Refused}
@@ -31,15 +31,16 @@ pub if_free : (r : HeldPatches) (taken : List Document) → r.places ≡ None �
 if_free r taken none has = subst (λ o. MatchOption o (HasJoined (option_map document r.joined) (option_map document r.pending) taken) (HoldsConflict r taken)) none has.held
 
 -- what is held if two conflict
-pub conflict_taken : (r : HeldPatches) (taken : List Document) (places : List Path) → r.places ≡ Some places → r.joined ≡ None → r.pending ≡ None → All IsDocument taken → AreClashesAmong taken places → HasTaken r taken
-conflict_taken r taken places some no_join none_pending all clashes = record {
+pub conflict_taken : (r : HeldPatches) (taken : List Document) (held : HeldPlaces) (places : List Path) → r.places ≡ Some held → r.joined ≡ None → r.pending ≡ None → All IsDocument taken → AreClashesAmong taken places → AreFirstPlaces places held
+    → HasTaken r taken
+conflict_taken r taken held places some no_join none_pending all clashes first = record {
   are_documents = all;
   held = subst (λ o. MatchOption o (HasJoined (option_map document r.joined) (option_map document r.pending) taken) (HoldsConflict r taken)) (sym some)
-      (record { clashes = clashes; no_join = no_join; none_pending = none_pending });
+      (record { all = places; clashes = clashes; first = first; no_join = no_join; none_pending = none_pending });
 }
 
-pub if_conflict : (r : HeldPatches) (taken : List Document) (places : List Path) → r.places ≡ Some places → HasTaken r taken → HoldsConflict r taken places
-if_conflict r taken places some has = subst (λ o. MatchOption o (HasJoined (option_map document r.joined) (option_map document r.pending) taken) (HoldsConflict r taken)) some has.held
+pub if_conflict : (r : HeldPatches) (taken : List Document) (held : HeldPlaces) → r.places ≡ Some held → HasTaken r taken → HoldsConflict r taken held
+if_conflict r taken held some has = subst (λ o. MatchOption o (HasJoined (option_map document r.joined) (option_map document r.pending) taken) (HoldsConflict r taken)) some has.held
 
 -- ---- a conflict stays one
 
@@ -54,16 +55,16 @@ never_compatible : (taken : List Document) (places : List Path) → AreClashesAm
 never_compatible taken [] clashes free = clashes.some refl
 never_compatible taken (w ∷ places) clashes free = let pair = clashes.each w (Contains-head w places) in free pair.0 pair.1 pair.2 pair.3 w pair.4
 
-either : (o : Option (List Path)) → (o ≡ None) ⊎ ((places : List Path) × (o ≡ Some places))
+either : (o : Option HeldPlaces) → (o ≡ None) ⊎ ((held : HeldPlaces) × (o ≡ Some held))
 either None = inl refl
-either (Some places) = inr (places, refl)
+either (Some held) = inr (held, refl)
 
 -- what holds a conflict of some patches holds one of these and more, and so does what takes it over
 pub conflict_moved : (o s : HeldPatches) (taken more : List Document) → o.places ≢ None → s.places ≡ o.places → s.joined ≡ None → s.pending ≡ None → All IsDocument more → ((p : Document) → Contains taken p → Contains more p)
     → HasTaken o taken → HasTaken s more
 conflict_moved o s taken more some same no_join none_pending all within has = elim (either o.places) [
   | inl none ↦ absurd (some none)
-  | inr there ↦ conflict_taken s more there.0 (same ∙ there.1) no_join none_pending all (more_clashes taken more there.0 within (if_conflict o taken there.0 there.1 has).clashes)
+  | inr there ↦ let held = if_conflict o taken there.0 there.1 has in conflict_taken s more there.0 held.all (same ∙ there.1) no_join none_pending all (more_clashes taken more held.all within held.clashes) held.first
 ]
 
 pub conflict_stays : (r : HeldPatches) (taken more : List Document) → r.places ≢ None → All IsDocument more → ((p : Document) → Contains taken p → Contains more p) → HasTaken r taken → HasTaken r more
@@ -102,11 +103,11 @@ between_turned taken others places clashes = record {
   );
 }
 
-pub seen_turned : (places : Option (List Path)) (taken others : List Document) → IfSome places (AreClashesBetween others taken) → IfSome places (AreClashesBetween taken others)
+pub seen_turned : (places : Option HeldPlaces) (taken others : List Document) → IfSome places (HoldsClashesBetween others taken) → IfSome places (HoldsClashesBetween taken others)
 seen_turned None taken others seen = seen
-seen_turned (Some places) taken others seen = between_turned taken others places seen
+seen_turned (Some held) taken others seen = record { all = seen.all; clashes = between_turned taken others seen.all seen.clashes; first = seen.first }
 
-some_places : (p k : Document) (places : List Path) → (¬ Compatible p k) → AreAllClashes p k places → places ≢ []
+pub some_places : (p k : Document) (places : List Path) → (¬ Compatible p k) → AreAllClashes p k places → places ≢ []
 some_places p k [] clash all none = clash (λ w at. Contains-nil w ((all.all w).1 at))
 some_places p k (w ∷ places) clash all none = let differ = none in cc
 
@@ -134,18 +135,18 @@ module _ (laws : MergeLaws) where
   clashes_with_each ds None p places joined clash = absurd clash
   clashes_with_each ds (Some k) p places joined clash = (some_places p k places clash.0 clash.1, clashes_of_join laws ds k p places joined clash.1)
 
-  pub takes_conflict : (taken : List Document) (r s : HeldPatches) (p : Doc) (places : List Path) → r.places ≡ None → r.pending ≡ None → ClashesWithJoin (option_map document r.joined) (document p) places
-      → s.places ≡ Some places → s.joined ≡ None → s.pending ≡ None → HasTaken r taken → HasTaken s (taken ++ document p ∷ []) × AreClashesWith taken (document p) places
-  takes_conflict taken r s p places none settled clash some no_join none_pending has =
-      let all = clashes_with_each taken (option_map document r.joined) (document p) places (join_taken r taken none settled has) clash in (
-        conflict_taken s (taken ++ document p ∷ []) places some no_join none_pending (All-push IsDocument taken (document p) has.are_documents (IsDocument-document p)) (record {
+  pub takes_conflict : (taken : List Document) (r s : HeldPatches) (p : Doc) (held : HeldPlaces) → r.places ≡ None → r.pending ≡ None → HoldsClashesWithJoin (option_map document r.joined) (document p) held
+      → s.places ≡ Some held → s.joined ≡ None → s.pending ≡ None → HasTaken r taken → HasTaken s (taken ++ document p ∷ []) × HoldsClashesWith taken (document p) held
+  takes_conflict taken r s p held none settled found some no_join none_pending has =
+      let all = clashes_with_each taken (option_map document r.joined) (document p) found.0 (join_taken r taken none settled has) found.1 in (
+        conflict_taken s (taken ++ document p ∷ []) held found.0 some no_join none_pending (All-push IsDocument taken (document p) has.are_documents (IsDocument-document p)) (record {
           some = all.0;
           rising = all.1.rising;
           each = λ w at.
               let pair = (all.1.all w).0 at in
               (document p, pair.0, Contains-push taken (document p), Contains-append_left taken (document p ∷ []) pair.0 pair.1, pair.2);
-        }),
-        all.1,
+        }) found.2,
+        record { all = found.0; clashes = all.1; first = found.2 },
       )
 
   -- ---- all that another took
@@ -187,28 +188,31 @@ module _ (laws : MergeLaws) where
         );
       }
 
-  pub seen_between : (taken others : List Document) (r o : HeldPatches) (places : List Path) → r.places ≡ None → r.pending ≡ None → o.places ≡ None → o.pending ≡ None
-      → ClashesWithAll (option_map document r.joined) (option_map document o.joined) places → HasTaken r taken → HasTaken o others → AreClashesBetween taken others places
-  seen_between taken others r o places none settled none_there settled_there clash has have =
-      clashes_between taken others (option_map document r.joined) (option_map document o.joined) places (join_taken r taken none settled has) (join_taken o others none_there settled_there have) clash
+  pub seen_between : (taken others : List Document) (r o : HeldPatches) (held : HeldPlaces) → r.places ≡ None → r.pending ≡ None → o.places ≡ None → o.pending ≡ None
+      → HoldsClashesWithAll (option_map document r.joined) (option_map document o.joined) held → HasTaken r taken → HasTaken o others → HoldsClashesBetween taken others held
+  seen_between taken others r o held none settled none_there settled_there found has have = record {
+    all = found.0;
+    clashes = clashes_between taken others (option_map document r.joined) (option_map document o.joined) found.0 (join_taken r taken none settled has) (join_taken o others none_there settled_there have) found.1;
+    first = found.2;
+  }
 
-  pub takes_others_conflict : (taken others : List Document) (r o s : HeldPatches) (places : List Path) → r.places ≡ None → r.pending ≡ None → o.places ≡ None → o.pending ≡ None
-      → ClashesWithAll (option_map document r.joined) (option_map document o.joined) places → s.places ≡ Some places → s.joined ≡ None → s.pending ≡ None → HasTaken r taken → HasTaken o others → HasTaken s (taken ++ others)
-  takes_others_conflict taken others r o s places none settled none_there settled_there clash some no_join none_pending has have =
-      by (option_map document o.joined) (join_taken o others none_there settled_there have) clash
+  pub takes_others_conflict : (taken others : List Document) (r o s : HeldPatches) (held : HeldPlaces) → r.places ≡ None → r.pending ≡ None → o.places ≡ None → o.pending ≡ None
+      → HoldsClashesWithAll (option_map document r.joined) (option_map document o.joined) held → s.places ≡ Some held → s.joined ≡ None → s.pending ≡ None → HasTaken r taken → HasTaken o others → HasTaken s (taken ++ others)
+  takes_others_conflict taken others r o s held none settled none_there settled_there found some no_join none_pending has have =
+      by (option_map document o.joined) (join_taken o others none_there settled_there have) found.1
     where
-      by : (m : Option Document) → IsJoinOf others m → ClashesWithAll (option_map document r.joined) m places → HasTaken s (taken ++ others)
+      by : (m : Option Document) → IsJoinOf others m → ClashesWithAll (option_map document r.joined) m found.0 → HasTaken s (taken ++ others)
       by None joined clash = absurd clash
       by (Some k) joined clash =
-          let all = clashes_with_each taken (option_map document r.joined) k places (join_taken r taken none settled has) clash in
-          conflict_taken s (taken ++ others) places some no_join none_pending (All-append IsDocument taken others has.are_documents have.are_documents) (record {
+          let all = clashes_with_each taken (option_map document r.joined) k found.0 (join_taken r taken none settled has) clash in
+          conflict_taken s (taken ++ others) held found.0 some no_join none_pending (All-append IsDocument taken others has.are_documents have.are_documents) (record {
             some = all.0;
             rising = all.1.rising;
             each = λ w at.
                 let one = (all.1.all w).0 at in
                 let two = (laws.clash_with_a_join others k one.0 w joined).0 (turned one.2) in
                 (one.0, two.0, Contains-append_left taken others one.0 one.1, Contains-append_right taken others two.0 two.1, two.2);
-          })
+          }) found.2
 
   -- what was taken by one patch, the join of what another took, was taken of that other
   pub takes_all_of_one : (what : Added) (taken others : List Document) (o s t : HeldPatches) (p : Document) → (what ≡ Joined) ⊎ (what ≡ Pending) → o.places ≡ None → o.pending ≡ None → option_map document o.joined ≡ Some p → s.places ≡ None
@@ -225,7 +229,7 @@ module _ (laws : MergeLaws) where
     λ none. (if_free r taken none has).compatible,
     λ free. elim (either r.places) [
       | inl none ↦ none
-      | inr some ↦ absurd (never_compatible taken some.0 (if_conflict r taken some.0 some.1 has).clashes free)
+      | inr some ↦ let held = if_conflict r taken some.0 some.1 has in absurd (never_compatible taken held.all held.clashes free)
     ],
   )
 
@@ -240,7 +244,7 @@ module _ (laws : MergeLaws) where
     | inl none ↦ free_taken r others none (joined_same laws taken others same (if_free r taken none has))
     | inr some ↦
         let held = if_conflict r taken some.0 some.1 has in
-        conflict_taken r others some.0 some.1 held.no_join held.none_pending (all_same taken others same has.are_documents) (more_clashes taken others some.0 (λ p. (same p).0) held.clashes)
+        conflict_taken r others some.0 held.all some.1 held.no_join held.none_pending (all_same taken others same has.are_documents) (more_clashes taken others held.all (λ p. (same p).0) held.clashes) held.first
   ]
 
   pub takers_agree : TakersAgree

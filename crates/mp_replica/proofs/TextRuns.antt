@@ -71,10 +71,11 @@ follows_texts_on Pending start texts t p r s read old new = (
   record { from = old.from; start_read = old.start_read; documents = old.documents ++ p ∷ []; read = read_more texts old.documents t p old.read read; follows = new.0 },
   new.1,
 )
-follows_texts_on Conflict start texts t p r s read old new = (
-  record { from = old.from; start_read = old.start_read; documents = old.documents; read = old.read; follows = new.0 },
-  new.1,
-  incompatible (texts ++ t ∷ []) (old.documents ++ p ∷ []) (read_more texts old.documents t p old.read read) (clash_of_one old.documents p new.2),
+follows_texts_on (Conflict back) start texts t p r s read old new = (
+  read ∙ ap Ok (sym new.0),
+  record { from = old.from; start_read = old.start_read; documents = old.documents; read = old.read; follows = new.1 },
+  new.2,
+  incompatible (texts ++ t ∷ []) (old.documents ++ p ∷ []) (read_more texts old.documents t p old.read read) (clash_of_one old.documents p new.3),
 )
 follows_texts_on Refused start texts t p r s read old new = (record { from = old.from; start_read = old.start_read; documents = old.documents; read = old.read; follows = new.0 }, new.1)
 

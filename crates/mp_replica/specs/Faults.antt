@@ -1,6 +1,7 @@
 -- Why a call over texts of what stays in memory gives no answer. Out of memory says nothing; an error that a call can't have
 -- is ⊥ there.
-use Rattle.std.specs.Prelude.{◌≡◌, ◌≢◌, ℕ, List, [], None, Err, ⊤}
+use Rattle.std.specs.Prelude.{◌≡◌, ◌≢◌, ℕ, List, [], None, Ok, Err, ⊤}
+use Rattle.mp_tree.specs.Document.{Document}
 use Rattle.mp_tree.specs.Text.{document_in}
 use Rattle.mp_tree.specs.View.{document}
 use Rattle.mp_pointer.specs.Part.{part}
@@ -51,18 +52,18 @@ pub record LacksPart (r : HeldReplica) (text : List ℕ) : Type 0 where
   pub spelled : text ≡ spell tokens
   pub no_part : part (document r.shown) tokens ≡ None
 
--- there is no part
+-- there is no part; whether the text spells a pointer is looked at first
 abbrev pub IsNoPart : LiveFault → HeldReplica → List ℕ → Type 0
 IsNoPart (Pointer fault) r text = (fault ≢ pointer.OutOfMemory) × IsPointerFault fault text
-IsNoPart Pending r text = r.pending ≢ None
+IsNoPart Pending r text = (r.pending ≢ None) × ((tokens : Tokens) × (text ≡ spell tokens))
 IsNoPart Missing r text = LacksPart r text
 IsNoPart OutOfMemory r text = ⊤
 IsNoPart other r text = ⊥
 
--- the places of a conflict are not known
+-- the places of a conflict are not known; whether the text is a document is looked at first
 abbrev pub AreNoPlaces : LiveFault → HeldReplica → List ℕ → Type 0
 AreNoPlaces (NoDocument fault) r text = document_in text ≡ Err fault
-AreNoPlaces Pending r text = r.pending ≢ None
+AreNoPlaces Pending r text = (r.pending ≢ None) × ((d : Document) × (document_in text ≡ Ok d))
 AreNoPlaces OutOfMemory r text = ⊤
 AreNoPlaces other r text = ⊥
 

@@ -1,6 +1,6 @@
 -- Runs of a replica: the patches that it received, as a relation between their list and the replica. The history is not
 -- stored. Only membership in the list counts.
-use Rattle.std.specs.Prelude.{◌≡◌, ◌≢◌, List, [], ◌∷◌, ◌++◌, Option, None, Some, option_map}
+use Rattle.std.specs.Prelude.{◌≡◌, ◌≢◌, List, [], ◌∷◌, ◌++◌, Option, None, Some, option_map, ⊤}
 use Rattle.mp_tree.specs.Document.{Document, IsDocument}
 use Rattle.mp_tree.specs.Look.{Path}
 use Rattle.mp_tree.specs.View.{document}
@@ -23,6 +23,11 @@ pub record Follows (start : Document) (received : List Document) (r : HeldReplic
   pub joined : HasJoined (option_map document r.joined) (option_map document r.pending) received
   pub outcome : IsOutcome start received (settled (document r.shown) (option_map document r.pending))
 
+-- the patch was handed back
+abbrev pub IsHandedBack : Received → Type 0
+IsHandedBack (Conflict back) = ⊤
+IsHandedBack other = ⊥
+
 -- the patch clashes with one that was received
 abbrev pub ClashesWithOne : List Document → Document → Type 0
 ClashesWithOne received p = (w : Path) × ClashesWithAMember received p w
@@ -31,5 +36,6 @@ ClashesWithOne received p = (w : Path) × ClashesWithAMember received p w
 abbrev pub FollowsOn : Received → Document → List Document → Document → HeldReplica → Type 0
 FollowsOn Taken start received p r = Follows start (received ++ p ∷ []) r × (r.pending ≡ None)
 FollowsOn Pending start received p r = Follows start (received ++ p ∷ []) r × (r.pending ≢ None)
-FollowsOn Conflict start received p r = Follows start received r × (r.pending ≡ None) × ClashesWithOne received p
+FollowsOn (Conflict back) start received p r =
+    (document back ≡ p) × Follows start received r × (r.pending ≡ None) × ClashesWithOne received p
 FollowsOn Refused start received p r = Follows start received r × (r.pending ≢ None)

@@ -7,9 +7,10 @@ use Rattle.mp_merge.specs.Lists.{HaveSameMembers, PairwiseCompatible}
 use Rattle.mp_merge.specs.Outcome.{IsOutcome}
 use Rattle.mp_replica.specs.Following.{Follows}
 use Rattle.mp_replica.specs.Held.{HeldPatches, HeldReplica, IsJoinOf}
-use Rattle.mp_replica.specs.Messages.{LogFollows, HaveOnePatch, HaveSameMessages, Sent}
-use Rattle.mp_replica.specs.PatchLog.{AreAlike, AreAllPairs, Begins, HeldLog, Pair, Shows, start_of, stored_of}
+use Rattle.mp_replica.specs.Messages.{LogFollows, HaveOnePatchFor, HaveSameMessagesFor, Sent}
+use Rattle.mp_replica.specs.PatchLog.{AreAlike, AreAllPairs, Begins, HeldLog, IsDecideFault, Pair, Shows, start_of, stored_of}
 use Rattle.mp_replica.specs.Taking.{HasTaken}
+use Rattle.mp_replica.specs.declared.fault.DecideFault.{DecideFault}
 use Rattle.mp_replica.specs.declared.message.Identity.{Identity}
 
 -- ---- replicas
@@ -60,10 +61,11 @@ TakersAgree = (taken others : List Document) (r s : HeldPatches) → HaveSameMem
 
 -- ---- patch logs
 
--- two patch logs of one start that received the same messages are alike, if an identity has one patch
+-- two patch logs of one start that received the same messages of that start are alike, if an identity has one patch there;
+-- those of other starts do not count
 abbrev pub LogsAreAlike : Type 0
-LogsAreAlike = (epoch : ℕ) (start : Document) (messages others : List Sent) (one other : HeldLog) → HaveOnePatch messages
-    → HaveSameMessages messages others → LogFollows epoch start messages one → LogFollows epoch start others other
+LogsAreAlike = (epoch : ℕ) (start : Document) (messages others : List Sent) (one other : HeldLog)
+    → HaveOnePatchFor epoch messages → HaveSameMessagesFor epoch messages others → LogFollows epoch start messages one → LogFollows epoch start others other
     → AreAlike one other
 
 -- two that are alike show the same document
@@ -81,3 +83,8 @@ abbrev pub AlikeBeginTheSame : Type 0
 AlikeBeginTheSame = (one other one_now other_now : HeldLog) (chosen others : List Identity) → AreAlike one other
     → ((i : Identity) → Contains chosen i ↔ Contains others i) → Begins one chosen one_now
     → Begins other others other_now → AreAlike one_now other_now
+
+-- and what is a reason for one to begin no new start, whatever the limit on the places that are reported, is one for the other
+abbrev pub AlikeRefuseTheSame : Type 0
+AlikeRefuseTheSame = (limit : ℕ) (one other : HeldLog) (chosen : List Identity) (fault : DecideFault) → AreAlike one other
+    → IsDecideFault limit fault one chosen → IsDecideFault limit fault other chosen

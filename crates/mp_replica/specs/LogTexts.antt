@@ -1,9 +1,9 @@
 -- Texts of a patch log: the pairs that conflict.
-use Rattle.std.specs.Prelude.{◌≡◌, ◌++◌, ℕ, pos, List, [], ◌∷◌, codes}
+use Rattle.std.specs.Prelude.{◌≡◌, ◌≢◌, ◌<◌, ◌≤◌, ◌↔◌, ◌⊎◌, ◌++◌, ℕ, Bool, pos, List, [], ◌∷◌, IsTrue, codes, length}
 use Rattle.mp_tree.specs.Document.{Document, list, item, no_items, whole}
 use Rattle.mp_tree.specs.Text.{text as compact}
 use Rattle.mp_texts.specs.Answers.{places_list}
-use Rattle.mp_replica.specs.PatchLog.{AreAllPairs, Pair, Stored}
+use Rattle.mp_replica.specs.PatchLog.{AreAllPairs, AreFirstPairs, Pair, Stored}
 use Rattle.mp_replica.specs.declared.message.Identity.{Identity}
 
 -- an array of the sender and the number
@@ -31,3 +31,24 @@ pub record IsConflictsText (stored : Stored) (answer : List ℕ) : Type 0 where
   pub pairs : List Pair
   pub are_all : AreAllPairs stored pairs
   pub is : answer ≡ pairs_text pairs
+
+-- the text of the pairs that come first: of as many as there are, or as it can have with at most so many bytes; that of no
+-- pair has two. `more` says whether a pair is left out
+pub record IsTextOfFirstPairs (limit : ℕ) (pairs : List Pair) (answer : List ℕ) (more : Bool) : Type 0 where
+  pub written : List Pair
+  pub rest : List Pair
+  pub all : pairs ≡ written ++ rest
+  pub is : answer ≡ pairs_text written
+  pub within : (written ≡ []) ⊎ (length answer ≤ limit)
+  pub longest : (next : Pair) (others : List Pair) → rest ≡ next ∷ others
+      → limit < length (pairs_text (written ++ next ∷ []))
+  pub left_out : IsTrue more ↔ (rest ≢ [])
+
+-- of the pairs that come first within the limit; `more` says whether a pair or a place of all is left out
+pub record IsConflictsTextWithin (limit : ℕ) (stored : Stored) (answer : List ℕ) (more : Bool) : Type 0 where
+  pub pairs : List Pair
+  pub cut : Bool
+  pub first : AreFirstPairs limit stored pairs cut
+  pub left_out : Bool
+  pub text : IsTextOfFirstPairs limit pairs answer left_out
+  pub more_is : IsTrue more ↔ (IsTrue cut ⊎ IsTrue left_out)

@@ -39,12 +39,14 @@ pub record LogFollows (epoch : ℕ) (start : Document) (messages : List Sent) (l
   pub all : (i : Identity) (p : Document) → Contains messages (record { epoch = epoch; identity = i; patch = p })
       → stored_of log i ≢ None
 
--- no two patches were sent under one identity for one start
-abbrev pub HaveOnePatch : List Sent → Type 0
-HaveOnePatch messages =
-    (epoch : ℕ) (i : Identity) (p q : Document) → Contains messages (record { epoch = epoch; identity = i; patch = p })
+-- no two patches were sent under one identity for the start of this number
+abbrev pub HaveOnePatchFor : ℕ → List Sent → Type 0
+HaveOnePatchFor epoch messages =
+    (i : Identity) (p q : Document) → Contains messages (record { epoch = epoch; identity = i; patch = p })
     → Contains messages (record { epoch = epoch; identity = i; patch = q }) → p ≡ q
 
--- the lists have the same messages, in any order and with any repeats
-abbrev pub HaveSameMessages : List Sent → List Sent → Type 0
-HaveSameMessages messages others = (m : Sent) → Contains messages m ↔ Contains others m
+-- the lists have the same messages of the start of this number, in any order and with any repeats
+abbrev pub HaveSameMessagesFor : ℕ → List Sent → List Sent → Type 0
+HaveSameMessagesFor epoch messages others =
+    (i : Identity) (p : Document) → Contains messages (record { epoch = epoch; identity = i; patch = p })
+    ↔ Contains others (record { epoch = epoch; identity = i; patch = p })

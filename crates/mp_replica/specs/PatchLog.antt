@@ -1,6 +1,6 @@
 -- What a patch log stores, which of that conflicts, what it shows, and what it begins once it is decided.
-use Rattle.std.specs.Prelude.{◌≡◌, ◌≢◌, ◌+◌, ◌^◌, ◌<◌, ◌≤◌, ◌↔◌, ℕ, List, Option, None, Some, map, take, slice_get, option_map, ⊤}
-use Rattle.std.specs.List.{All, Contains}
+use Rattle.std.specs.Prelude.{◌≡◌, ◌≢◌, ◌+◌, ◌^◌, ◌<◌, ◌≤◌, ◌↔◌, ◌⊎◌, ◌++◌, ◌∷◌, ℕ, Bool, List, [], Option, None, Some, IsTrue, map, take, slice_get, option_map, ⊤}
+use Rattle.std.specs.List.{All, Contains, sum_by}
 use Rattle.std.specs.List.Sorted.{IsStrictlySortedBy}
 use Rattle.std.specs.Ordering.{nat_cmp, ordering_then}
 use Rattle.std.specs.declared.cmp.Ordering.{Ordering}
@@ -13,6 +13,8 @@ use Rattle.mp_tree.specs.View.{document}
 use Rattle.mp_tree.specs.declared.doc.Doc.{Doc}
 use Rattle.mp_merge.specs.Clash.{Compatible, AreConflictsOfPair}
 use Rattle.mp_merge.specs.Outcome.{IsOutcome}
+use Rattle.mp_merge.specs.Within.{AreFirstConflicts, places_weight}
+use Rattle.mp_pointer.specs.Weight.{place_weight}
 use Rattle.mp_replica.specs.declared.fault.DecideFault.{DecideFault}
 use Rattle.mp_replica.specs.declared.fault.DecideFault.TheVariants.{NotReceived, Conflict, LastEpoch, OutOfMemory}
 use Rattle.mp_replica.specs.declared.message.Identity.{Identity}
@@ -100,6 +102,53 @@ pub record AreAllPairs (stored : Stored) (pairs : List Pair) : Type 0 where
   pub each : All (IsClashing stored) pairs
   pub all : (i j : Identity) → identity_cmp i j ≡ Less → DoClash stored i j → Contains (map identities_of pairs) (i, j)
 
+-- ---- what conflicts, within a limit in bytes
+
+-- what a pair weighs beside its places
+abbrev pub pair_base : ℕ
+pair_base = 64
+
+abbrev pub pair_weight : Pair → ℕ
+pair_weight pair = pair_base + places_weight pair.places
+
+abbrev pub pairs_weight : List Pair → ℕ
+pairs_weight pairs = sum_by pair_weight pairs
+
+-- each two stored patches that clash and come before `next` in the order of pairs, once
+pub record ArePairsBelow (stored : Stored) (next : Pair) (pairs : List Pair) : Type 0 where
+  pub rising : IsStrictlySortedBy pair_cmp (map identities_of pairs)
+  pub each : All (IsClashing stored) pairs
+  pub below : (pair : Pair) → Contains pairs pair → pair_cmp (identities_of pair) (identities_of next) ≡ Less
+  pub all : (i j : Identity) → identity_cmp i j ≡ Less → DoClash stored i j
+      → pair_cmp (i, j) (identities_of next) ≡ Less → Contains (map identities_of pairs) (i, j)
+
+-- with the next pair they weigh more, without any of its places
+pub record StopsBeforeAPair (limit : ℕ) (stored : Stored) (pairs : List Pair) : Type 0 where
+  pub next : Pair
+  pub clashing : IsClashing stored next
+  pub below : ArePairsBelow stored next pairs
+  pub over : limit < pairs_weight pairs + pair_base
+
+-- the last pair has the first of its places, and with its next place they weigh more
+pub record StopsBeforeAPlace (limit : ℕ) (stored : Stored) (pairs : List Pair) : Type 0 where
+  pub before : List Pair
+  pub next : Pair
+  pub clashing : IsClashing stored next
+  pub below : ArePairsBelow stored next before
+  pub shown : List Path
+  pub place : Path
+  pub rest : List Path
+  pub parts : next.places ≡ shown ++ place ∷ rest
+  pub last : pairs ≡ before ++ record { first = next.first; second = next.second; places = shown } ∷ []
+  pub over : limit < pairs_weight pairs + place_weight place
+
+-- the pairs that come first, each with those of its places that come first, as many as weigh at most the limit together;
+-- `more` says whether a pair or a place is left out
+pub record AreFirstPairs (limit : ℕ) (stored : Stored) (pairs : List Pair) (more : Bool) : Type 0 where
+  pub within : pairs_weight pairs ≤ limit
+  pub all : ¬ IsTrue more → AreAllPairs stored pairs
+  pub stops : IsTrue more → StopsBeforeAPair limit stored pairs ⊎ StopsBeforeAPlace limit stored pairs
+
 -- ---- what is shown
 
 -- the patch is compatible with each that is stored
@@ -140,19 +189,28 @@ pub record IsFirstMissing (stored : Stored) (chosen : List Identity) (i : Identi
   pub missing : stored i ≡ None
   pub before : HaveArrived stored (take k chosen)
 
--- both were chosen and clash, and no two that were chosen and clash come before them in the order of pairs
-pub record IsFirstPair (stored : Stored) (chosen : List Identity) (pair : Pair) : Type 0 where
-  pub chosen_first : Contains chosen pair.first
-  pub chosen_second : Contains chosen pair.second
-  pub clashing : IsClashing stored pair
+-- both were chosen and clash, the first is below the second, and no two that were chosen and clash come before them in the
+-- order of pairs
+pub record IsFirstPair (stored : Stored) (chosen : List Identity) (first second : Identity) : Type 0 where
+  pub chosen_first : Contains chosen first
+  pub chosen_second : Contains chosen second
+  pub in_order : identity_cmp first second ≡ Less
+  pub clash : DoClash stored first second
   pub least : (i j : Identity) → Contains chosen i → Contains chosen j → identity_cmp i j ≡ Less → DoClash stored i j
-      → pair_cmp (i, j) (identities_of pair) ≢ Less
+      → pair_cmp (i, j) (first, second) ≢ Less
+
+-- of all conflicts of the patches that are stored under the two those that come first, as many as weigh at most the limit
+-- together, and how many there are in all
+abbrev pub AreFirstConflictsAt : ℕ → Stored → Identity → Identity → List Path → ℕ → Type 0
+AreFirstConflictsAt limit stored first second places total =
+    (one other : Document) → stored first ≡ Some one → stored second ≡ Some other
+    → AreFirstConflicts limit one other places total
 
 -- why no new start is begun: the first of these that holds; out of memory says nothing of it
-abbrev pub IsDecideFault : DecideFault → HeldLog → List Identity → Type 0
-IsDecideFault LastEpoch log chosen = 2 ^ 64 ≤ log.epoch + 1
-IsDecideFault (NotReceived i) log chosen = (log.epoch + 1 < 2 ^ 64) × IsFirstMissing (stored_of log) chosen i
-IsDecideFault (Conflict first second places) log chosen =
-    (log.epoch + 1 < 2 ^ 64) × HaveArrived (stored_of log) chosen
-    × IsFirstPair (stored_of log) chosen (record { first = first; second = second; places = places.items })
-IsDecideFault OutOfMemory log chosen = ⊤
+abbrev pub IsDecideFault : ℕ → DecideFault → HeldLog → List Identity → Type 0
+IsDecideFault limit LastEpoch log chosen = 2 ^ 64 ≤ log.epoch + 1
+IsDecideFault limit (NotReceived i) log chosen = (log.epoch + 1 < 2 ^ 64) × IsFirstMissing (stored_of log) chosen i
+IsDecideFault limit (Conflict first second conflicts) log chosen =
+    (log.epoch + 1 < 2 ^ 64) × HaveArrived (stored_of log) chosen × IsFirstPair (stored_of log) chosen first second
+    × AreFirstConflictsAt limit (stored_of log) first second conflicts.places.items conflicts.total
+IsDecideFault limit OutOfMemory log chosen = ⊤

@@ -5,13 +5,15 @@ use Rattle.std.specs.List.{All}
 use Rattle.mp_tree.specs.Document.{Document, IsDocument}
 use Rattle.mp_tree.specs.Look.{Path}
 use Rattle.mp_tree.specs.View.{document}
-use Rattle.mp_replica.specs.Held.{AreClashesAmong, HasJoined, HeldPatches}
+use Rattle.mp_replica.specs.Held.{AreClashesAmong, AreFirstPlaces, HasJoined, HeldPatches, HeldPlaces}
 use Rattle.mp_replica.specs.declared.patches.Added.{Added}
 use Rattle.mp_replica.specs.declared.patches.Added.TheVariants.{Joined, Conflict, Pending, Refused}
 
--- two of these patches clash at each of the places, and nothing else is held
-pub record HoldsConflict (r : HeldPatches) (taken : List Document) (places : List Path) : Type 0 where
-  pub clashes : AreClashesAmong taken places
+-- two of these patches clash at each of some places, of which the first are held, and nothing else is
+pub record HoldsConflict (r : HeldPatches) (taken : List Document) (held : HeldPlaces) : Type 0 where
+  pub all : List Path
+  pub clashes : AreClashesAmong taken all
+  pub first : AreFirstPlaces all held
   pub no_join : r.joined ≡ None
   pub none_pending : r.pending ≡ None
 

@@ -3,6 +3,7 @@ use Rattle.std.specs.Prelude.{◌≡◌, ◌≢◌, ℕ, List, [], ◌∷◌, �
 use Rattle.mp_tree.specs.Document.{Document, IsReadable}
 use Rattle.mp_tree.specs.Look.{Path}
 use Rattle.mp_tree.specs.Text.{document_in, text as compact}
+use Rattle.mp_tree.specs.View.{document}
 use Rattle.mp_pointer.specs.Part.{part}
 use Rattle.mp_pointer.specs.Spelling.{Tokens, spell}
 use Rattle.mp_texts.specs.Answers.{IsTextOf, places_list}
@@ -27,8 +28,9 @@ pub record FollowsTexts (start : List ℕ) (texts : List (List ℕ)) (r : HeldRe
 abbrev pub FollowsTextsOn : Received → List ℕ → List (List ℕ) → List ℕ → HeldReplica → Type 0
 FollowsTextsOn Taken start texts t r = FollowsTexts start (texts ++ t ∷ []) r × (r.pending ≡ None)
 FollowsTextsOn Pending start texts t r = FollowsTexts start (texts ++ t ∷ []) r × (r.pending ≢ None)
-FollowsTextsOn Conflict start texts t r =
-    FollowsTexts start texts r × (r.pending ≡ None) × (¬ AreCompatible (texts ++ t ∷ []))
+FollowsTextsOn (Conflict back) start texts t r =
+    (document_in t ≡ Ok (document back)) × FollowsTexts start texts r × (r.pending ≡ None)
+    × (¬ AreCompatible (texts ++ t ∷ []))
 FollowsTextsOn Refused start texts t r = FollowsTexts start texts r × (r.pending ≢ None)
 
 -- the text of the part of a document that the pointer names

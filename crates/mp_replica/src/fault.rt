@@ -2,7 +2,8 @@
 ghost use Rattle.std.specs.Prelude.{◌≡◌};
 
 use crate::message::Identity;
-use mp_pointer::{Pointer, PointerFault};
+use mp_merge::Conflicts;
+use mp_pointer::PointerFault;
 use mp_tree::ReadFault;
 use std::alloc::{AllocError, AllocFailed};
 use thiserror::Error;
@@ -83,8 +84,8 @@ pub enum DecideFault {
         first: Identity,
         /// The other.
         second: Identity,
-        /// The places at which the two patches disagree, in the order of paths.
-        places: Vec<Pointer>,
+        /// The places at which the two patches disagree: those that come first within the limit, and how many there are.
+        conflicts: Conflicts,
     },
     /// There is no number after that of this start.
     #[error("no number is left for a start")]

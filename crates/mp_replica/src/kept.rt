@@ -1,15 +1,16 @@
 //! The kept form of patches that are gathered without a start: one text, for a state that is stored or sent.
-ghost use Rattle.std.specs.Prelude.{◌≡◌, ◌∷◌, List, map, Ok, IfOk, IfErr, MatchResult, string_bytes};
+ghost use Rattle.std.specs.Prelude.{◌≡◌, ◌++◌, List, map, Ok, IfOk, IfErr, MatchResult, string_bytes};
 ghost use Rattle.std.specs.List.{All};
 ghost use Rattle.mp_tree.specs.Document.{Document, IsReadable};
 ghost use Rattle.mp_tree.specs.View.{document};
 ghost use Rattle.mp_texts.specs.Answers.{place_of};
-ghost use Rattle.mp_replica.specs.Held.{HeldPatches};
-ghost use Rattle.mp_replica.specs.Kept.{IsHeldBy, IsKept, IsNoKept, IsNotKeptYet, mark};
-ghost use Rattle.mp_replica.specs.Private.Places.{AreNotPlaces, AreRead, AreUnread, IsNoPlace};
+ghost use Rattle.mp_replica.specs.Held.{HeldPatches, held_places};
+ghost use Rattle.mp_replica.specs.Kept.{IsHeldBy, IsKept, IsNoKept, IsNotKeptYet, marks};
+ghost use Rattle.mp_replica.specs.Private.Places.{AreMarkedRead, AreMarkedUnread, AreNotPlaces, AreRead, AreUnread, IsNoPlace};
 ghost use Rattle.mp_replica.specs.Taking.{HasTaken};
 
 use crate::fault::LiveFault;
+use crate::first_places::FirstPlaces;
 use crate::laws::text_laws;
 use crate::patches::Patches;
 use crate::reading::document_of;
@@ -19,8 +20,8 @@ use mp_tree::{Doc, write_doc};
 use std::alloc::{AllocError, Global};
 
 impl Patches {
-    /// The kept form of what was taken: the empty text if nothing was, the text of the join, or `!` and the places of a
-    /// conflict as a JSON array of pointers. [`Patches::from_kept`] takes it.
+    /// The kept form of what was taken: the empty text if nothing was, the text of the join, or the places of a conflict as a
+    /// JSON array of pointers: behind `!` if these are all, and behind `!+` if there are more. [`Patches::from_kept`] takes it.
     ///
     /// `Pending` exactly while a patch is pending; `OutOfMemory` may come at any point.
     ///
@@ -34,8 +35,8 @@ impl Patches {
     {
         text_laws();
         if let Some(places) = self.places() {
-            let written = write_places(alloc, places.as_slice())?;
-            return Ok(marked(alloc, written.as_str())?);
+            let written = write_places(alloc, places.places.as_slice())?;
+            return Ok(marked(alloc, places.more, written.as_str())?);
         }
         if self.is_pending() {
             return Err(LiveFault::Pending);
@@ -49,8 +50,8 @@ impl Patches {
     /// The patches that a kept form holds: it has taken what was taken where that form was made. A document holds itself, as
     /// one patch.
     ///
-    /// `Document` if the text, or what stands after its `!`, is not a document; `NotKept` if that is no array of one pointer
-    /// and more; `OutOfMemory` may come at any point.
+    /// `Document` if the text, or what stands after its `!` or `!+`, is not a document; `NotKept` if that is no array of pointers,
+    /// or an empty one behind `!`; `OutOfMemory` may come at any point.
     ///
     /// ```text
     /// Patches::from_kept(alloc, b"{\"a\":1}")  // one patch
@@ -75,28 +76,40 @@ impl Patches {
     }
 }
 
-fn marked(alloc: Global, written: &str) -> Result<String, AllocError>
-    ensures { IfOk result (λ text. string_bytes text ≡ mark ∷ written.now) }
+fn marked(alloc: Global, more: bool, written: &str) -> Result<String, AllocError>
+    ensures { IfOk result (λ text. string_bytes text ≡ marks more ++ written.now) }
 {
-    let mut text = String::with_capacity(alloc, written.len().saturating_add(1))?;
-    text.push('!')?;
+    let mut text = String::with_capacity(alloc, written.len().saturating_add(2))?;
+    text.push_str(if more { "!+" } else { "!" })?;
     text.push_str(written)?;
     Ok(text)
 }
 
-// The places that the text is an array of.
-fn conflict_of(alloc: Global, text: &[u8]) -> Result<Vec<Pointer>, LiveFault>
-    ensures { MatchResult result (λ places. AreRead text.now places.items)
-        (λ fault. AreUnread fault text.now) }
+// The places that stand after the first mark.
+fn conflict_of(alloc: Global, text: &[u8]) -> Result<FirstPlaces, LiveFault>
+    ensures { MatchResult result (λ found. AreMarkedRead text.now (held_places found))
+        (λ fault. AreMarkedUnread fault text.now) }
+{
+    if !text.is_empty() && text[0] == b'+' {
+        return array_of(alloc, true, &text[1..]);
+    }
+    array_of(alloc, false, text)
+}
+
+// The places that the text is an array of; some, unless there are more.
+fn array_of(alloc: Global, more: bool, text: &[u8]) -> Result<FirstPlaces, LiveFault>
+    ensures read { MatchResult result (λ found. AreRead text.now (held_places found))
+        (λ fault. AreUnread fault more text.now) }
+    ensures more { IfOk result (λ found. found.more ≡ more) }
 {
     let Doc::Items(spellings) = document_of(alloc, text)? else {
         return Err(LiveFault::NotKept);
     };
     let places = places_of(alloc, spellings.as_slice())?;
-    if places.as_slice().is_empty() {
+    if places.as_slice().is_empty() && !more {
         return Err(LiveFault::NotKept);
     }
-    Ok(places)
+    Ok(FirstPlaces { places, more })
 }
 
 fn places_of(alloc: Global, spellings: &[Doc]) -> Result<Vec<Pointer>, LiveFault>

@@ -1,5 +1,5 @@
 //! Laws over runs of calls: each function runs nothing, and its contract is the law.
-ghost use Rattle.mp_replica.specs.Laws.{AlikeBeginTheSame, AlikeReportTheSame, AlikeShowTheSame, FollowersAgree, FollowsSame, HoldsJoin, LogsAreAlike, ShowsOutcome, ShowsReadable, TakenSame, TakersAgree};
+ghost use Rattle.mp_replica.specs.Laws.{AlikeBeginTheSame, AlikeRefuseTheSame, AlikeReportTheSame, AlikeShowTheSame, FollowersAgree, FollowsSame, HoldsJoin, LogsAreAlike, ShowsOutcome, ShowsReadable, TakenSame, TakersAgree};
 ghost use Rattle.mp_replica.specs.Private.LawsBelow.{MergeLaws, TextLaws};
 
 use mp_merge::laws as merge;
@@ -53,19 +53,20 @@ pub fn takers_agree()
     merge_laws();
 }
 
-/// Two patch logs of one start that received the same messages, in any orders and with any repeats, are alike: they store the
-/// same patches. The premise is that an identity has one patch: of two patches under one identity each log stores the one that
-/// it received first.
+/// Two patch logs of one start that received the same messages of that start, in any orders and with any repeats, are alike: they
+/// store the same patches. Messages of other starts do not count. The premise is that an identity has one patch for this start: of
+/// two patches under one identity each log stores the one that it received first.
 pub fn logs_are_alike()
     ensures { LogsAreAlike }
 {}
 
-/// Two patch logs that are alike show the same document and report the same conflicts, and after one decision they are alike
-/// again.
+/// Two patch logs that are alike show the same document and report the same conflicts. After one decision they are alike again;
+/// and a decision that one refuses, for another reason than memory, the other refuses for that reason.
 pub fn alike_logs_agree()
     ensures shown { AlikeShowTheSame }
     ensures reported { AlikeReportTheSame }
     ensures begun { AlikeBeginTheSame }
+    ensures refused { AlikeRefuseTheSame }
 {
     merge_laws();
     tree::docs_are_documents();

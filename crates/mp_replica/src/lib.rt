@@ -3,6 +3,8 @@
 #![tactic(auto)]
 
 mod fault;
+mod first_pairs;
+mod first_places;
 mod identity_set;
 mod kept;
 pub mod laws;
@@ -20,8 +22,11 @@ mod replica_texts;
 mod stored_patches;
 
 pub use fault::{DecideFault, LiveFault};
+pub use first_pairs::FirstPairs;
+pub use first_places::FirstPlaces;
 pub use message::{Arrival, Identity, Message};
 pub use pairs::ConflictingPair;
+pub use pairs_texts::PairsText;
 pub use patch_log::PatchLog;
 pub use patches::{Added, Patches};
 pub use replica::{Received, Replica};

@@ -3,10 +3,12 @@ ghost use Rattle.std.specs.Prelude.{◌≡◌, ◌↔◌, None, Some, IsTrue, If
 ghost use Rattle.std.specs.Coded.{codes};
 ghost use Rattle.mp_tree.specs.View.{document};
 ghost use Rattle.mp_merge.specs.Clash.{AreAllClashes, Compatible};
-ghost use Rattle.mp_replica.specs.Private.Steps.{ClashesWithJoin, Fits, GrewTo, JoinsStay, Regrows};
+ghost use Rattle.mp_replica.specs.Held.{held_places};
+ghost use Rattle.mp_replica.specs.Private.Steps.{ClashesWithJoin, FirstClashesWithJoin, Fits, GrewTo, HoldsClashesWithJoin, JoinsStay, Regrows};
 
+use crate::first_places::{FirstPlaces, first_places};
 use crate::laws::merge_laws;
-use mp_merge::{compatible, conflict, join_into};
+use mp_merge::{Conflicts, compatible, conflict, conflict_within, join_into};
 use mp_pointer::Pointer;
 use mp_tree::Doc;
 use std::alloc::{AllocError, Global};
@@ -109,6 +111,41 @@ impl LiveJoin {
             Some(joined) => Ok(Some(conflict(alloc, patch, joined)?)),
             None => Ok(None),
         }
+    }
+
+    // The conflicts of the patch with what is joined that come first within the limit, and how many there are.
+    pub(crate) fn conflicts_within(
+        &self,
+        alloc: Global,
+        patch: &Doc,
+        limit: usize,
+    ) -> Result<Conflicts, AllocError>
+        ensures { IfOk result (λ c. FirstClashesWithJoin limit
+            (option_map document self.now.joined) (document patch.now) c.places.items c.total) }
+    {
+        match &self.joined {
+            Some(joined) => conflict_within(alloc, patch, joined, limit),
+            None => Ok(Conflicts {
+                places: Vec::new(alloc),
+                total: 0,
+            }),
+        }
+    }
+
+    // The first conflicts of the patch with what is joined; None if there are none.
+    pub(crate) fn first_conflicts(&self, alloc: Global, patch: &Doc) -> Option<FirstPlaces>
+        ensures { MatchOption result
+            (IfSome (option_map document self.now.joined) (Compatible (document patch.now)))
+            (λ found. HoldsClashesWithJoin (option_map document self.now.joined)
+            (document patch.now) (held_places found)) }
+    {
+        let Some(joined) = &self.joined else {
+            return None;
+        };
+        if compatible(patch, joined) {
+            return None;
+        }
+        Some(first_places(alloc, patch, joined))
     }
 
     // Whether what is joined weighs less than what the other has joined. Both are read as far as the lighter one goes: each

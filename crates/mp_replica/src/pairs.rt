@@ -1,5 +1,5 @@
 //! The pairs of stored patches that conflict.
-ghost use Rattle.std.specs.Prelude.{◌≡◌, ◌≢◌, ◌+◌, ◌<◌, ◌↔◌, List, [], None, length, map, IfOk, MatchOption, OnOk};
+ghost use Rattle.std.specs.Prelude.{◌≡◌, ◌≢◌, ◌+◌, ◌<◌, ◌↔◌, List, [], None, length, map, IfOk, IsTrue, MatchOption, OnOk};
 ghost use Rattle.std.specs.List.{Contains};
 ghost use Rattle.std.specs.List.Sorted.{IsStrictlySortedBy};
 ghost use Rattle.std.specs.declared.cmp.Ordering.TheVariants.{Less};
@@ -92,45 +92,52 @@ fn push_pairs(
 
 // The first two of these that conflict.
 pub(crate) fn first_pair(
-    alloc: Global,
     identities: &[Identity],
     patches: &BTreeMap<Identity, Doc>,
-) -> Result<Option<ConflictingPair>, AllocError>
+) -> Option<(Identity, Identity)>
     requires rising { IsStrictlySortedBy identity_cmp identities.now }
-    ensures { IfOk result (λ found. MatchOption found
+    ensures { MatchOption result
         (ArePairsBefore (stored_in patches.now.entries) identities.now (length identities.now) 0 [])
-        (λ pair. IsFirstFrom (stored_in patches.now.entries) identities.now (seen pair))) }
+        (λ pair. IsFirstFrom (stored_in patches.now.entries) identities.now pair.0 pair.1) }
 {
     for first in 0..identities.len() {
-        let found = first_pair_from(alloc, identities, first, patches)?;
+        let found = first_pair_from(identities, first, patches);
         if found.is_some() {
-            return Ok(found);
+            return found;
         }
     }
-    Ok(None)
+    None
 }
 
 // The same of the patch with this number and of a later one.
 fn first_pair_from(
-    alloc: Global,
     identities: &[Identity],
     first: usize,
     patches: &BTreeMap<Identity, Doc>,
-) -> Result<Option<ConflictingPair>, AllocError>
+) -> Option<(Identity, Identity)>
     requires rising { IsStrictlySortedBy identity_cmp identities.now }
     requires within { first < length identities.now }
     requires before { ArePairsBefore (stored_in patches.now.entries) identities.now first 0 [] }
-    ensures { IfOk result (λ found. MatchOption found
+    ensures { MatchOption result
         (ArePairsBefore (stored_in patches.now.entries) identities.now (first + 1) 0 [])
-        (λ pair. IsFirstFrom (stored_in patches.now.entries) identities.now (seen pair))) }
+        (λ pair. IsFirstFrom (stored_in patches.now.entries) identities.now pair.0 pair.1) }
 {
     for second in first + 1..identities.len() {
-        let found = pair_of(alloc, identities[first], identities[second], patches)?;
-        if found.is_some() {
-            return Ok(found);
+        if do_clash(identities[first], identities[second], patches) {
+            return Some((identities[first], identities[second]));
         }
     }
-    Ok(None)
+    None
+}
+
+// Whether both are stored, and conflict.
+fn do_clash(first: Identity, second: Identity, patches: &BTreeMap<Identity, Doc>) -> bool
+    ensures { IsTrue result ↔ DoClash (stored_in patches.now.entries) first second }
+{
+    match (patches.get(&first), patches.get(&second)) {
+        (Some(one), Some(other)) => !compatible(one, other),
+        _ => false,
+    }
 }
 
 // How the two that are stored there conflict; None if they do not, or not both are stored.

@@ -1,11 +1,12 @@
 //! A replica that keeps the patches themselves, each with its identity: it can follow a decision where patches conflict.
-ghost use Rattle.std.specs.Prelude.{◌≡◌, ◌≢◌, ◌∷◌, ◌++◌, ◌<◌, ℕ, List, [], None, map, Ok, IfOk, IfErr, OnOk, OnErr};
+ghost use Rattle.std.specs.Prelude.{◌≡◌, ◌≢◌, ◌∷◌, ◌++◌, ◌<◌, ℕ, List, [], None, length, map, Ok, IfOk, IfErr, OnOk, OnErr};
 ghost use Rattle.mp_tree.specs.Document.{Document};
 ghost use Rattle.mp_tree.specs.View.{document};
 ghost use Rattle.mp_replica.specs.Messages.{LogFollows, Sent, sent};
-ghost use Rattle.mp_replica.specs.PatchLog.{AreAllPairs, Begins, IsDecideFault, Shows, StoresAlso, seen, start_of, stored_of};
+ghost use Rattle.mp_replica.specs.PatchLog.{AreAllPairs, AreFirstPairs, Begins, IsDecideFault, Shows, StoresAlso, seen, start_of, stored_of};
 
 use crate::fault::DecideFault;
+use crate::first_pairs::FirstPairs;
 use crate::message::{Arrival, Identity, Message};
 use crate::pairs::ConflictingPair;
 use crate::stored_patches::StoredPatches;
@@ -16,10 +17,10 @@ use std::marker::Model;
 /// A start and its number, and the patches that arrived for it, each under its identity. It shows the outcome of the start and
 /// of the patches that conflict with no other, reports the others, and follows a decision, which begins a new start.
 ///
-/// Receiving a patch that conflicts with nothing costs what the patch costs, times the logarithm of the number of patches that
-/// are stored and of the number of names around each of its values; it is compared with each patch that conflicts with
-/// another, too. One that conflicts may cost what is stored. What is held is the start, the patches, and the join of those
-/// that conflict with no other.
+/// Receiving a patch costs what the patch costs, times the logarithm of the number of patches that are stored and of the number
+/// of names around each of its values; it is compared with each patch that conflicts with another, too. One that conflicts with
+/// a patch that conflicted with none before costs what is stored, since the join of the others is made again. What is held is
+/// the start, the patches, and the join of those that conflict with no other.
 #[derive(Drop)]
 pub struct PatchLog {
     /// The number of the start.
@@ -66,6 +67,17 @@ impl PatchLog {
         ensures { result ≡ self.now.epoch }
     {
         self.epoch
+    }
+
+    /// How many patches are stored. A caller that bounds this bounds what the log takes, and what each call costs.
+    ///
+    /// ```text
+    /// log.count()  // 2 after two patches of this start
+    /// ```
+    pub fn count(&self) -> usize
+        ensures { result ≡ length self.now.stored }
+    {
+        self.stored.count()
     }
 
     /// Receives a message. A patch of this start is stored, once, whether it conflicts with others or not.
@@ -134,19 +146,42 @@ impl PatchLog {
         self.stored.conflicts(alloc)
     }
 
+    /// The pairs that [`PatchLog::conflicts`] has, of which those that come first are handed out, as many as weigh at most
+    /// `limit` bytes together, and whether there are more. A pair weighs 64 bytes and its places, and a place 128 bytes, 8 for
+    /// each token, and the bytes of its spelling. If not all places of the last pair fit, it has the first of them.
+    ///
+    /// It takes the memory of these pairs, of the identities of the patches that conflict, and of one path. `AllocError` if
+    /// memory ran out.
+    ///
+    /// ```text
+    /// log.conflicts_within(alloc, 1000)  // as `conflicts` if they weigh at most 1,000 bytes
+    /// ```
+    pub fn conflicts_within(&self, alloc: Global, limit: usize) -> Result<FirstPairs, AllocError>
+        ensures { IfOk result (λ found.
+            AreFirstPairs limit (stored_of self.now) (map seen found.pairs.items) found.more) }
+    {
+        self.stored.conflicts_within(alloc, limit)
+    }
+
     /// Begins the new start, with which the old one ends by these patches; all others are forgotten, and one that is still
     /// wanted is made anew by its sender. The order in which they are named does not count, nor do repeats.
     ///
     /// In this order: `LastEpoch` if no number is left for a start; `NotReceived` with the first of the identities under which
-    /// no patch is stored; `Conflict` with the first pair of [`PatchLog::conflicts`] that was chosen. `OutOfMemory` may come
-    /// at any point. Then nothing is changed.
+    /// no patch is stored; `Conflict` with the first pair of [`PatchLog::conflicts`] that was chosen, and those of its places
+    /// that come first, as many as weigh at most `limit` bytes together. `OutOfMemory` may come at any point. Then nothing is
+    /// changed.
     ///
     /// ```text
-    /// log.decide(alloc, &[Identity { sender: 1, number: 1 }])  // the start with that patch, and epoch 8
+    /// log.decide(alloc, &[Identity { sender: 1, number: 1 }], 1000)  // the start with that patch, and epoch 8
     /// ```
-    pub fn decide(&mut self, alloc: Global, chosen: &[Identity]) -> Result<(), DecideFault>
+    pub fn decide(
+        &mut self,
+        alloc: Global,
+        chosen: &[Identity],
+        limit: usize,
+    ) -> Result<(), DecideFault>
         ensures begins { OnOk result (Begins self.old chosen.now self.new) }
-        ensures refused { IfErr result (λ fault. IsDecideFault fault self.old chosen.now) }
+        ensures refused { IfErr result (λ fault. IsDecideFault limit fault self.old chosen.now) }
         ensures unchanged { OnErr result (self.new ≡ self.old) }
     {
         let Some(epoch) = self.epoch.checked_add(1) else {
@@ -155,11 +190,12 @@ impl PatchLog {
         if let Some(identity) = self.stored.first_missing(chosen) {
             return Err(DecideFault::NotReceived(identity));
         }
-        if let Some(pair) = self.stored.first_conflict(alloc, chosen)? {
+        if let Some((first, second)) = self.stored.first_conflict(alloc, chosen)? {
+            let conflicts = self.stored.conflicts_of(alloc, first, second, limit)?;
             return Err(DecideFault::Conflict {
-                first: pair.first,
-                second: pair.second,
-                places: pair.places,
+                first,
+                second,
+                conflicts,
             });
         }
         let start = self.stored.after(alloc, &self.start, chosen)?;

@@ -3,13 +3,13 @@ ghost use Rattle.std.specs.Prelude.{◌≡◌, ◌≢◌, ◌∷◌, ◌++◌, �
 ghost use Rattle.mp_tree.specs.Document.{Document, IsDocument};
 ghost use Rattle.mp_tree.specs.Text.{document_in, text as compact};
 ghost use Rattle.mp_replica.specs.Faults.{IsOutOfMemory, IsUnread};
-ghost use Rattle.mp_replica.specs.LogTexts.{IsConflictsText};
+ghost use Rattle.mp_replica.specs.LogTexts.{IsConflictsText, IsConflictsTextWithin};
 ghost use Rattle.mp_replica.specs.Messages.{LogFollows, Becomes, Sent};
 ghost use Rattle.mp_replica.specs.PatchLog.{Shows, start_of, stored_of};
 
 use crate::fault::LiveFault;
 use crate::message::{Arrival, Identity, Message};
-use crate::pairs_texts::write_pairs;
+use crate::pairs_texts::{PairsText, write_pairs, write_pairs_within};
 use crate::patch_log::PatchLog;
 use crate::reading::document_of;
 use mp_tree::write_doc;
@@ -95,5 +95,24 @@ impl PatchLog {
     {
         let pairs = self.conflicts(alloc)?;
         Ok(write_pairs(alloc, pairs.as_slice())?)
+    }
+
+    /// The text of the pairs that [`PatchLog::conflicts_within`] gives, in the form of [`PatchLog::conflicts_text`]: as many of
+    /// those that come first as make a text of at most `limit` bytes, and whether a pair or a place is left out. If not even
+    /// one fits, the text is `[]`. `OutOfMemory` if memory ran out.
+    ///
+    /// ```text
+    /// log.conflicts_text_within(alloc, 1000)  // as `conflicts_text`, and false, if all of it fits
+    /// ```
+    pub fn conflicts_text_within(&self, alloc: Global, limit: usize) -> Result<PairsText, LiveFault>
+        ensures { MatchResult result (λ written. IsConflictsTextWithin limit (stored_of self.now)
+            (string_bytes written.text) written.more) IsOutOfMemory }
+    {
+        let found = self.conflicts_within(alloc, limit)?;
+        let PairsText { text, more } = write_pairs_within(alloc, found.pairs.as_slice(), limit)?;
+        Ok(PairsText {
+            text,
+            more: found.more || more,
+        })
     }
 }

@@ -3,21 +3,21 @@ ghost use Rattle.std.specs.Prelude.{◌≡◌, ◌≢◌, ◌↔◌, ◌⊎◌, 
 ghost use Rattle.mp_tree.specs.Document.{Document};
 ghost use Rattle.mp_tree.specs.View.{document};
 ghost use Rattle.mp_merge.specs.Clash.{Compatible};
-ghost use Rattle.mp_replica.specs.Held.{AreClashesBetween, AreClashesWith};
-ghost use Rattle.mp_replica.specs.Private.Steps.{ClashesWithAll};
+ghost use Rattle.mp_replica.specs.Held.{HoldsClashesBetween, HoldsClashesWith, held_places};
+ghost use Rattle.mp_replica.specs.Private.Steps.{HoldsClashesWithAll};
 ghost use Rattle.mp_replica.specs.Taking.{HasTaken, TakesAll, TakesOne};
 ghost use Rattle.mp_replica.specs.Texts.{HasTakenTexts};
 
+use crate::first_places::FirstPlaces;
 use crate::laws::merge_laws;
 use crate::live_join::LiveJoin;
-use mp_pointer::Pointer;
 use mp_tree::Doc;
-use std::alloc::{AllocError, Global};
+use std::alloc::Global;
 use std::marker::Model;
 use std::mem;
 
 /// Merge patches that are gathered without a start, for a reduce, a combiner or a stored aggregate: nothing yet, their join,
-/// or that two of them conflict, with the places of the first conflict that was seen.
+/// or that two of them conflict, with the first places of the first conflict that was seen.
 ///
 /// Adding a patch costs what the patch costs, times the logarithm of the number of names around each of its values, however
 /// many were taken. The patches are not kept.
@@ -25,22 +25,22 @@ use std::mem;
 pub struct Patches {
     /// The join of what was taken, and what is pending; empty once two conflict.
     join: LiveJoin,
-    /// The places of the first conflict that was seen.
-    places: Option<Vec<Pointer>>,
+    /// The first places of the first conflict that was seen.
+    places: Option<FirstPlaces>,
 }
 
 impl Model for Patches {
     ghost use Rattle.std.specs.Prelude.{option_map};
     ghost use Rattle.std.specs.Coded.{codes};
     ghost use Rattle.mp_tree.specs.contracts.doc.Doc.{the_row};
-    ghost use Rattle.mp_replica.specs.Held.{HeldPatches};
+    ghost use Rattle.mp_replica.specs.Held.{HeldPatches, held_places};
 
     ghost Value = { HeldPatches };
 
     ghost view = { λ r. record {
       joined = r.join.joined;
       pending = r.join.pending;
-      places = option_map (λ v. v.items) r.places;
+      places = option_map held_places r.places;
     } };
 
     ghost coded = { Prim.hlevel (codes, the_row.coded) };
@@ -87,10 +87,10 @@ impl Patches {
     }
 
     // With these places of a conflict alone.
-    pub(crate) fn of_conflict(places: Vec<Pointer>) -> Patches
+    pub(crate) fn of_conflict(places: FirstPlaces) -> Patches
         ensures joined { result.joined ≡ None }
         ensures pending { result.pending ≡ None }
-        ensures places { result.places ≡ Some places.items }
+        ensures places { result.places ≡ Some (held_places places) }
     {
         Patches {
             join: LiveJoin::new(),
@@ -100,8 +100,9 @@ impl Patches {
 
     /// Takes one more patch. If an earlier one is pending, that is made good first.
     ///
-    /// `Conflict` exactly if two of what was taken conflict, this patch counted; `Refused` and `Pending` only if memory ran
-    /// out.
+    /// `Conflict` exactly if two of what was taken conflict, this patch counted. Where it conflicts takes at most the memory of
+    /// 65,536 bytes of places and of one path, and if that runs out, it is a conflict still. `Refused` and `Pending` only if
+    /// memory ran out before that.
     ///
     /// ```text
     /// patches.add(alloc, read_doc(alloc, b"{\"a\":1}")?)  // Added::Joined
@@ -111,7 +112,8 @@ impl Patches {
         ensures taken { (taken : List Document) → HasTaken self.old taken
             → TakesOne HasTaken result taken (document patch) self.new }
         ensures seen { self.old.places ≡ None → (taken : List Document) → HasTaken self.old taken
-            → IfSome self.new.places (AreClashesWith taken (document patch)) }
+            → IfSome self.new.places (HoldsClashesWith taken (document patch)) }
+        ensures conflict { (result ≡ Added.Conflict) ↔ (self.new.places ≢ None) }
         ensures unchanged { self.old.places ≢ None
             → (result ≡ Added.Conflict) × (self.new ≡ self.old) }
     {
@@ -128,19 +130,19 @@ impl Patches {
         ensures taken { (taken : List Document) → HasTaken self.old taken
             → TakesOne HasTaken result taken (document patch) self.new }
         ensures seen { (taken : List Document) → HasTaken self.old taken
-            → IfSome self.new.places (AreClashesWith taken (document patch)) }
+            → IfSome self.new.places (HoldsClashesWith taken (document patch)) }
+        ensures conflict { (result ≡ Added.Conflict) ↔ (self.new.places ≢ None) }
     {
         merge_laws();
         if !self.settle(alloc) {
             return Added::Refused;
         }
-        match self.join.conflicts(alloc, &patch) {
-            Err(_) => Added::Refused,
-            Ok(Some(places)) => {
+        match self.join.first_conflicts(alloc, &patch) {
+            Some(places) => {
                 self.keep(places);
                 Added::Conflict
             }
-            Ok(None) => self.join_one(alloc, patch),
+            None => self.join_one(alloc, patch),
         }
     }
 
@@ -177,8 +179,8 @@ impl Patches {
     }
 
     // From now on two conflict, at these places; the join is not needed any more.
-    fn keep(&mut self, places: Vec<Pointer>)
-        ensures places { self.new.places ≡ Some places.items }
+    fn keep(&mut self, places: FirstPlaces)
+        ensures places { self.new.places ≡ Some (held_places places) }
         ensures joined { self.new.joined ≡ None }
         ensures pending { self.new.pending ≡ None }
     {
@@ -223,7 +225,8 @@ impl Patches {
         ensures seen { self.old.places ≡ None → other.old.places ≡ None
             → (taken others : List Document) → HasTaken self.old taken
             → HasTaken other.old others
-            → IfSome self.new.places (AreClashesBetween taken others) }
+            → IfSome self.new.places (HoldsClashesBetween taken others) }
+        ensures conflict { (result ≡ Added.Conflict) ↔ (self.new.places ≢ None) }
     {
         merge_laws();
         if self.places.is_some() {
@@ -251,19 +254,16 @@ impl Patches {
             → HasTaken other.old others → TakesAll HasTaken result taken others self.new other.new }
         ensures seen { (taken others : List Document) → HasTaken self.old taken
             → HasTaken other.old others
-            → IfSome self.new.places (AreClashesBetween taken others) }
+            → IfSome self.new.places (HoldsClashesBetween taken others) }
+        ensures conflict { (result ≡ Added.Conflict) ↔ (self.new.places ≢ None) }
     {
         merge_laws();
         if !self.join.is_lighter(&other.join) {
             return self.join_all(alloc, other);
         }
-        match other.join_all(alloc, self) {
-            Added::Refused => Added::Refused,
-            added => {
-                mem::swap(self, other);
-                added
-            }
-        }
+        let added = other.join_all(alloc, self);
+        mem::swap(self, other);
+        added
     }
 
     // The same: what the other has joined is joined into what is joined here.
@@ -274,38 +274,33 @@ impl Patches {
             → HasTaken other.old others → TakesAll HasTaken result taken others self.new other.new }
         ensures seen { (taken others : List Document) → HasTaken self.old taken
             → HasTaken other.old others
-            → IfSome self.new.places (AreClashesBetween taken others) }
+            → IfSome self.new.places (HoldsClashesBetween taken others) }
+        ensures conflict { (result ≡ Added.Conflict) ↔ (self.new.places ≢ None) }
+        ensures taken_all { result ≢ Added.Refused }
     {
         merge_laws();
-        match self.conflicts_of(alloc, other) {
-            Err(_) => Added::Refused,
-            Ok(Some(clashes)) => {
-                self.keep(clashes);
-                *other = Patches::new();
-                Added::Conflict
-            }
-            Ok(None) => match other.give() {
-                Some(patch) => self.join_one(alloc, patch),
-                None => Added::Joined,
-            },
+        if let Some(clashes) = self.conflicts_of(alloc, other) {
+            self.keep(clashes);
+            *other = Patches::new();
+            return Added::Conflict;
+        }
+        match other.give() {
+            Some(patch) => self.join_one(alloc, patch),
+            None => Added::Joined,
         }
     }
 
-    // All conflicts of what the other has joined with what is joined here; None if there are none.
-    fn conflicts_of(
-        &self,
-        alloc: Global,
-        other: &Patches,
-    ) -> Result<Option<Vec<Pointer>>, AllocError>
-        ensures { IfOk result (λ found. MatchOption found
+    // The first conflicts of what the other has joined with what is joined here; None if there are none.
+    fn conflicts_of(&self, alloc: Global, other: &Patches) -> Option<FirstPlaces>
+        ensures { MatchOption result
             (IfSome (option_map document other.now.joined) (λ p.
             IfSome (option_map document self.now.joined) (Compatible p)))
-            (λ places. ClashesWithAll (option_map document self.now.joined)
-            (option_map document other.now.joined) places.items)) }
+            (λ found. HoldsClashesWithAll (option_map document self.now.joined)
+            (option_map document other.now.joined) (held_places found)) }
     {
         match other.join.joined() {
-            Some(patch) => self.join.conflicts(alloc, patch),
-            None => Ok(None),
+            Some(patch) => self.join.first_conflicts(alloc, patch),
+            None => None,
         }
     }
 
@@ -359,10 +354,10 @@ impl Patches {
         }
     }
 
-    /// The places of the first conflict that was seen, in the order of paths. Which one that is, and so which places, depends
-    /// on the order in which patches were taken. None exactly if no two conflict.
-    pub fn places(&self) -> Option<&Vec<Pointer>>
-        ensures { option_map (λ places. places.now.items) result ≡ self.now.places }
+    /// The first places of the first conflict that was seen, in the order of paths. Which conflict that is, and so which places,
+    /// depends on the order in which patches were taken. None exactly if no two conflict.
+    pub fn places(&self) -> Option<&FirstPlaces>
+        ensures { option_map (λ found. held_places found.now) result ≡ self.now.places }
     {
         self.places.as_ref()
     }

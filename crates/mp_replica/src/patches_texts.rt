@@ -1,5 +1,5 @@
 //! Patches that are gathered without a start, over texts.
-ghost use Rattle.std.specs.Prelude.{◌≡◌, ◌≢◌, ℕ, List, None, Some, Ok, IfOk, IfErr, OnErr, MatchOption, MatchResult, string_bytes};
+ghost use Rattle.std.specs.Prelude.{◌≡◌, ◌≢◌, ◌↔◌, ℕ, List, None, Some, Ok, IfOk, IfErr, OnErr, MatchOption, MatchResult, string_bytes};
 ghost use Rattle.mp_tree.specs.Document.{Document};
 ghost use Rattle.mp_tree.specs.Text.{document_in, text as compact};
 ghost use Rattle.mp_tree.specs.View.{document};
@@ -32,6 +32,9 @@ impl Patches {
         ensures texts { IfOk result (λ what. (texts : List (List ℕ))
             → HasTakenTexts self.old texts
             → TakesOne HasTakenTexts what texts patch.now self.new) }
+        ensures read { IfOk result (λ _. (p : Document) × (document_in patch.now ≡ Ok p)) }
+        ensures conflict { IfOk result (λ what.
+            (what ≡ Added.Conflict) ↔ (self.new.places ≢ None)) }
         ensures fault { IfErr result (λ fault. IsUnread fault patch.now) }
         ensures unchanged { OnErr result (self.new ≡ self.old) }
     {

@@ -4,12 +4,12 @@ ghost use Rattle.mp_tree.specs.Document.{Document};
 ghost use Rattle.mp_tree.specs.View.{document};
 ghost use Rattle.mp_pointer.specs.Part.{part};
 ghost use Rattle.mp_merge.specs.Clash.{Compatible};
-ghost use Rattle.mp_replica.specs.Following.{Follows, FollowsOn, settled};
-ghost use Rattle.mp_replica.specs.Held.{AreClashesWith};
+ghost use Rattle.mp_replica.specs.Following.{Follows, FollowsOn, IsHandedBack, settled};
+ghost use Rattle.mp_replica.specs.Held.{AreClashesWith, AreFirstClashesWith};
 
 use crate::laws::merge_laws;
 use crate::live_join::LiveJoin;
-use mp_merge::merge_into;
+use mp_merge::{Conflicts, merge_into};
 use mp_pointer::{Pointer, get};
 use mp_tree::Doc;
 use std::alloc::{AllocError, Global};
@@ -46,12 +46,13 @@ impl Model for Replica {
 }
 
 /// What became of a patch that a replica was given.
-#[derive(Clone, Copy, Debug, PartialEq, Eq)]
+#[derive(Debug, Drop)]
 pub enum Received {
     /// It is received, and shown.
     Taken,
-    /// It conflicts with a patch that was received before, and is not received. One that was pending is shown now.
-    Conflict,
+    /// It conflicts with a patch that was received before, and is not received: this is the patch, handed back, so that
+    /// [`Replica::conflicts_within`] can say where. One that was pending is shown now.
+    Conflict(Doc),
     /// It is received; memory ran out before it is shown. `settle` and `receive` try again.
     Pending,
     /// Memory ran out before a patch that was received earlier is shown. This one is not received.
@@ -79,27 +80,26 @@ impl Replica {
 
     /// Receives a patch. If an earlier one is pending, that is made good first.
     ///
-    /// `Taken` and `Pending`: the patch is received. `Conflict` exactly if it conflicts with one that was received before;
-    /// [`Replica::conflicts`] says where. `Refused` only if an earlier patch was pending and still is.
+    /// `Taken` and `Pending`: the patch is received. `Conflict`, with the patch, exactly if it conflicts with one that was
+    /// received before; [`Replica::conflicts_within`] says where. `Refused` only if an earlier patch was pending and still is.
     ///
     /// ```text
     /// replica.receive(alloc, read_doc(alloc, b"{\"b\":2}")?)  // Received::Taken
-    /// replica.receive(alloc, read_doc(alloc, b"{\"b\":3}")?)  // Received::Conflict
+    /// replica.receive(alloc, read_doc(alloc, b"{\"b\":3}")?)  // Received::Conflict(patch)
     /// ```
     pub fn receive(&mut self, alloc: Global, patch: Doc) -> Received
         ensures follows { (start : Document) (received : List Document)
             → Follows start received self.old
             → FollowsOn result start received (document patch) self.new }
         ensures refused { self.old.pending ≡ None → result ≢ Received.Refused }
-        ensures unchanged { self.old.pending ≡ None → result ≡ Received.Conflict
-            → self.new ≡ self.old }
+        ensures unchanged { self.old.pending ≡ None → IsHandedBack result → self.new ≡ self.old }
     {
         merge_laws();
         if !self.settle(alloc) {
             return Received::Refused;
         }
         if !self.join.fits(&patch) {
-            return Received::Conflict;
+            return Received::Conflict(patch);
         }
         self.put(patch);
         if self.settle(alloc) {
@@ -224,5 +224,32 @@ impl Replica {
             Some(places) => Ok(places),
             None => Ok(Vec::new(alloc)),
         }
+    }
+
+    /// The places that [`Replica::conflicts`] has, of which those that come first are handed out, as many as weigh at most `limit`
+    /// bytes together, and how many there are in all. A place weighs 128 bytes, 8 for each token, and the bytes of its spelling.
+    ///
+    /// Besides these places it takes the memory of one path. `AllocError` if memory ran out, as it has while a patch is
+    /// pending: `settle` first.
+    ///
+    /// ```text
+    /// replica.conflicts_within(alloc, &patch, 1000)  // /b, of 1, for {"b":3}, if {"b":2} was received
+    /// ```
+    pub fn conflicts_within(
+        &self,
+        alloc: Global,
+        patch: &Doc,
+        limit: usize,
+    ) -> Result<Conflicts, AllocError>
+        ensures places { IfOk result (λ c. (start : Document) (received : List Document)
+            → Follows start received self.now
+            → AreFirstClashesWith limit received (document patch.now) c.places.items c.total) }
+        ensures pending { IsOk result → self.now.pending ≡ None }
+    {
+        merge_laws();
+        if self.is_pending() {
+            return Err(AllocError);
+        }
+        self.join.conflicts_within(alloc, patch, limit)
     }
 }

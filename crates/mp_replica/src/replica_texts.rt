@@ -48,6 +48,7 @@ impl Replica {
         ensures texts { IfOk result (λ what. (start : List ℕ) (texts : List (List ℕ))
             → FollowsTexts start texts self.old
             → FollowsTextsOn what start texts patch.now self.new) }
+        ensures read { IfOk result (λ _. (p : Document) × (document_in patch.now ≡ Ok p)) }
         ensures fault { IfErr result (λ fault. IsUnread fault patch.now) }
         ensures unchanged { OnErr result (self.new ≡ self.old) }
     {

@@ -1,19 +1,20 @@
 //! The patches of one start, each under its identity, and what is known of those that conflict.
-ghost use Rattle.std.specs.Prelude.{◌≡◌, ◌≢◌, ◌↔◌, ◌⊎◌, ℕ, List, [], None, Some, IsTrue, IfOk, MatchOption, OnErr, OnOk, map, option_map};
+ghost use Rattle.std.specs.Prelude.{◌≡◌, ◌≢◌, ◌↔◌, ◌⊎◌, ◌++◌, ◌∷◌, ℕ, List, [], None, Some, IsTrue, IfOk, MatchOption, OnErr, OnOk, length, map, option_map};
 ghost use Rattle.std.specs.List.{Contains};
 ghost use Rattle.mp_tree.specs.Document.{Document};
 ghost use Rattle.mp_tree.specs.View.{document};
 ghost use Rattle.mp_merge.specs.Clash.{Compatible};
 ghost use Rattle.mp_merge.specs.Outcome.{IsOutcome};
-ghost use Rattle.mp_replica.specs.PatchLog.{AreAllPairs, AreChosen, HaveArrived, IsFirstMissing, IsFirstPair, Shows, StoresAlso, seen, stored_in};
+ghost use Rattle.mp_replica.specs.PatchLog.{AreAllPairs, AreChosen, AreFirstConflictsAt, AreFirstPairs, ClashesWithNone, HaveArrived, IsFirstMissing, IsFirstPair, Shows, StoresAlso, seen, stored_in};
 ghost use Rattle.mp_replica.specs.Private.StoredPatches.{AreApart, AreConflictingWith, FitsAll, JoinsOthers};
 
+use crate::first_pairs::{FirstPairs, first_pairs};
 use crate::identity_set::set_of;
 use crate::laws::{merge_laws, text_laws};
 use crate::live_join::LiveJoin;
 use crate::message::Identity;
 use crate::pairs::{ConflictingPair, all_pairs, ascending, first_pair};
-use mp_merge::{compatible, merge_into};
+use mp_merge::{Conflicts, compatible, conflict_within, merge_into};
 use mp_tree::Doc;
 use std::alloc::{AllocError, Global};
 use std::collections::BTreeMap;
@@ -64,6 +65,13 @@ impl StoredPatches {
         self.patches.contains_key(&identity)
     }
 
+    // How many patches are stored.
+    pub(crate) fn count(&self) -> usize
+        ensures { result ≡ length self.now }
+    {
+        self.patches.len()
+    }
+
     // Stores a patch under an identity that has none. If memory runs out, nothing is changed.
     pub(crate) fn insert(
         &mut self,
@@ -80,13 +88,36 @@ impl StoredPatches {
         if !self.join.settle(alloc) {
             return Err(AllocError);
         }
-        if self.join.fits(&patch) && fits_all(&patch, self.conflicting.as_slice(), &self.patches) {
+        if !self.join.fits(&patch) {
+            return self.insert_anew(alloc, identity, patch);
+        }
+        if fits_all(&patch, self.conflicting.as_slice(), &self.patches) {
             let copy = patch.copy(alloc)?;
             self.patches.insert(identity, patch)?;
             self.join.put(copy);
             let _settled = self.join.settle(alloc);
             return Ok(());
         }
+        let conflicting = with_one(alloc, self.conflicting.as_slice(), identity)?;
+        self.patches.insert(identity, patch)?;
+        self.conflicting = conflicting;
+        Ok(())
+    }
+
+    // The same of a patch that conflicts with one that is joined: the join is made again without those that conflict now.
+    fn insert_anew(
+        &mut self,
+        alloc: Global,
+        identity: Identity,
+        patch: Doc,
+    ) -> Result<(), AllocError>
+        requires absent { stored_in self.old identity ≡ None }
+        requires clash { ¬ ClashesWithNone (stored_in self.old) (document patch) }
+        ensures stored { OnOk result
+            (StoresAlso (stored_in self.old) identity (document patch) (stored_in self.new)) }
+        ensures unchanged { OnErr result (self.new ≡ self.old) }
+    {
+        merge_laws();
         let known = self.conflicting.as_slice();
         let conflicting = conflicting_with(alloc, identity, &patch, known, &self.patches)?;
         let join = join_of_others(alloc, conflicting.as_slice(), &self.patches)?;
@@ -121,6 +152,20 @@ impl StoredPatches {
         all_pairs(alloc, identities.as_slice(), &self.patches)
     }
 
+    // The first of each two patches that conflict, within a limit.
+    pub(crate) fn conflicts_within(
+        &self,
+        alloc: Global,
+        limit: usize,
+    ) -> Result<FirstPairs, AllocError>
+        ensures { IfOk result (λ found.
+            AreFirstPairs limit (stored_in self.now) (map seen found.pairs.items) found.more) }
+    {
+        let known = self.conflicting.as_slice();
+        let identities = ascending(alloc, &self.patches, known, known)?;
+        first_pairs(alloc, identities.as_slice(), &self.patches, limit)
+    }
+
     // The first of the chosen identities under which no patch is stored.
     pub(crate) fn first_missing(&self, chosen: &[Identity]) -> Option<Identity>
         ensures { MatchOption result (HaveArrived (stored_in self.now) chosen.now)
@@ -139,13 +184,30 @@ impl StoredPatches {
         &self,
         alloc: Global,
         chosen: &[Identity],
-    ) -> Result<Option<ConflictingPair>, AllocError>
+    ) -> Result<Option<(Identity, Identity)>, AllocError>
         ensures { IfOk result (λ found. MatchOption found (AreApart (stored_in self.now) chosen.now)
-            (λ pair. IsFirstPair (stored_in self.now) chosen.now (seen pair))) }
+            (λ pair. IsFirstPair (stored_in self.now) chosen.now pair.0 pair.1)) }
     {
         let known = self.conflicting.as_slice();
         let identities = ascending(alloc, &self.patches, known, chosen)?;
-        first_pair(alloc, identities.as_slice(), &self.patches)
+        Ok(first_pair(identities.as_slice(), &self.patches))
+    }
+
+    // Where these two patches conflict, within a limit; `AllocError` too if not both are stored.
+    pub(crate) fn conflicts_of(
+        &self,
+        alloc: Global,
+        first: Identity,
+        second: Identity,
+        limit: usize,
+    ) -> Result<Conflicts, AllocError>
+        ensures { IfOk result (λ c. AreFirstConflictsAt limit (stored_in self.now) first second
+            c.places.items c.total) }
+    {
+        match (self.patches.get(&first), self.patches.get(&second)) {
+            (Some(one), Some(other)) => conflict_within(alloc, one, other, limit),
+            _ => Err(AllocError),
+        }
     }
 
     // The start after the chosen patches.
@@ -170,6 +232,20 @@ impl StoredPatches {
         }
         Ok(end)
     }
+}
+
+// These identities, and one more.
+fn with_one(
+    alloc: Global,
+    identities: &[Identity],
+    identity: Identity,
+) -> Result<Vec<Identity>, AllocError>
+    ensures { IfOk result (λ all. all.items ≡ identities.now ++ identity ∷ []) }
+{
+    let mut all = Vec::with_capacity(alloc, identities.len().saturating_add(1))?;
+    all.extend_from_slice(identities)?;
+    all.push(identity)?;
+    Ok(all)
 }
 
 // Whether the patch is compatible with each that is stored under one of the identities.

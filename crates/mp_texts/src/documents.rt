@@ -6,11 +6,11 @@ ghost use Rattle.mp_texts.specs.Faults.{IsPartTextFault, IsPatchTextFault, IsRew
 use crate::fault::TextsFault;
 use crate::limiting::{rewrite_under, run_under};
 use crate::reading::{read_document_value, read_patch_value};
-use crate::writing::unless_longer;
+use crate::writing::{text_unless_longer, unless_longer};
 use mp_merge::laws as merging;
 use mp_patch::{laws as patching, ops_of_value, write_patch};
 use mp_pointer::{Pointer, get_value, laws as pointing};
-use mp_tree::{laws as reading, write_value};
+use mp_tree::laws as reading;
 use std::alloc::Global;
 
 /// The text of a merge patch as a JSON Patch for the document, as `mp_merge::rewrite` makes it: tests of what the patch
@@ -48,8 +48,8 @@ pub fn rewrite_text(
 ///
 /// In this order: `Document` if the document's text is not a document; `Patch` of number 0 if the patch's is not one;
 /// `Form` if the patch is a document but not a JSON Patch; at the first operation that is refused, or whose result weighs more
-/// than `limit` bytes, `Refused` or `TooLarge` with its number; `TooLarge` with 0 if the text is longer than `limit`
-/// (`usize::MAX` is no limit). `OutOfMemory` may come at any point.
+/// than `limit` bytes, or by which the work is more than 16 times that, `Refused` or `TooLarge` with its number; `TooLarge` with 0
+/// if the text is longer than `limit` (`usize::MAX` is no limit). `OutOfMemory` may come at any point.
 ///
 /// ```text
 /// patch_text(alloc, b"[1]", b"[{\"op\":\"add\",\"path\":\"/-\",\"value\":2}]", usize::MAX)  // [1,2]
@@ -72,7 +72,7 @@ pub fn patch_text(
     let form = read_patch_value(alloc, json_patch, 0)?;
     let operations = ops_of_value(alloc, form)?;
     let patched = run_under(alloc, doc, operations, limit)?;
-    unless_longer(write_value(alloc, &patched)?, limit)
+    text_unless_longer(alloc, &patched, limit)
 }
 
 /// The text of the part of the document that the pointer names (RFC 6901).
@@ -99,7 +99,7 @@ pub fn part_text(
     let doc = read_document_value(alloc, document)?;
     let pointer = Pointer::parse(alloc, pointer)?;
     match get_value(&doc, &pointer) {
-        Some(part) => unless_longer(write_value(alloc, part)?, limit),
+        Some(part) => text_unless_longer(alloc, part, limit),
         None => Err(TextsFault::Missing),
     }
 }

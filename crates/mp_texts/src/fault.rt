@@ -41,8 +41,8 @@ pub enum TextsFault {
     /// The answer, or something on the way to it, is larger than the caller's limit.
     #[error("too large")]
     TooLarge {
-        /// Of a JSON Patch the number of the operation whose result weighs more, from 0; of a rewriting how many of its
-        /// operations fit; and 0 if the answer's text is longer.
+        /// Of a JSON Patch the number of the operation whose result weighs more, or by which the work is more, from 0; of a rewriting
+        /// how many of its operations fit; and 0 if the answer's text is longer.
         number: usize,
     },
     /// Memory ran out.

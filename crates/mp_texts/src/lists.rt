@@ -8,9 +8,9 @@ ghost use Rattle.mp_texts.specs.Texts.{given};
 
 use crate::fault::TextsFault;
 use crate::reading::{read_document_value, read_patch_values};
-use crate::writing::unless_longer;
+use crate::writing::text_unless_longer;
 use mp_merge::{join_all_values_within, laws as merging, merge_value, replay_values_within};
-use mp_tree::{laws as reading, write_value};
+use mp_tree::laws as reading;
 use serde_json::Value;
 use std::alloc::{AllocError, Global};
 
@@ -38,7 +38,7 @@ pub fn join_texts(alloc: Global, patches: &[&[u8]], limit: usize) -> Result<Stri
     let patches = read_patch_values(alloc, patches)?;
     let joined = join_all_values_within(alloc, patches.as_slice(), limit)?;
     drop(patches);
-    unless_longer(write_value(alloc, &joined)?, limit)
+    text_unless_longer(alloc, &joined, limit)
 }
 
 /// The text of the document that merge patches, no two of which conflict, make of the start's, in whatever order and with
@@ -68,7 +68,7 @@ pub fn replay_texts(
     let patches = read_patch_values(alloc, patches)?;
     let outcome = replay_values_within(alloc, start, patches.as_slice(), limit)?;
     drop(patches);
-    unless_longer(write_value(alloc, &outcome)?, limit)
+    text_unless_longer(alloc, &outcome, limit)
 }
 
 /// The text of the document after the merge patches (RFC 7396 section 2), each applied to what those before it left. That
@@ -96,7 +96,7 @@ pub fn merge_texts(
     let doc = read_document_value(alloc, document)?;
     let patches = read_patch_values(alloc, patches)?;
     let merged = merge_each(doc, patches, alloc)?;
-    unless_longer(write_value(alloc, &merged)?, limit)
+    text_unless_longer(alloc, &merged, limit)
 }
 
 // Each patch is applied to what those before it left.

@@ -1,14 +1,38 @@
 //! The text of an answer within a limit, and that of a list of places.
-ghost use Rattle.std.specs.Prelude.{List, ◌≡◌, ◌<◌, ◌≤◌, ◌+◌, length, take, IfOk, MatchOption, MatchResult, string_bytes};
+ghost use Rattle.std.specs.Prelude.{List, ◌≡◌, ◌<◌, ◌≤◌, ◌+◌, ◌⊎◌, length, take, Some, IfOk, MatchOption, MatchResult, string_bytes};
 ghost use Rattle.mp_pointer.specs.Spelling.{Tokens};
+ghost use Rattle.mp_tree.specs.Document.{depth, depth_limit};
+ghost use Rattle.mp_tree.specs.Text.{read, text as compact};
+ghost use Rattle.mp_tree.specs.Values.{value_document};
 ghost use Rattle.mp_tree.specs.View.{document};
 ghost use Rattle.mp_texts.specs.Answers.{IsTextOf, place_of, places_list};
 ghost use Rattle.mp_texts.specs.PlacesTexts.{IsPlacesText, listed};
 
 use crate::fault::TextsFault;
 use mp_pointer::Pointer;
-use mp_tree::{Doc, write_doc, write_text};
+use mp_tree::{Doc, write_doc, write_text, write_value_within};
+use serde_json::Value;
 use std::alloc::{AllocError, Global};
+
+// The text of a document, unless it has more bytes than the caller allows: then none is made.
+pub(crate) fn text_unless_longer(
+    alloc: Global,
+    value: &Value,
+    limit: usize,
+) -> Result<String, TextsFault>
+    ensures text { MatchResult result
+        (λ answer. (string_bytes answer ≡ compact (value_document value.now))
+        × (length (compact (value_document value.now)) ≤ limit))
+        (λ fault. (fault ≡ TextsFault.OutOfMemory) ⊎ ((fault ≡ TextsFault.TooLarge 0)
+        × (limit < length (compact (value_document value.now))))) }
+    ensures reads_back { depth (value_document value.now) ≤ depth_limit
+        → read (compact (value_document value.now)) ≡ Some (value_document value.now) }
+{
+    match write_value_within(alloc, value, limit)? {
+        Some(text) => Ok(text),
+        None => Err(TextsFault::TooLarge { number: 0 }),
+    }
+}
 
 // The text of an answer, unless it has more bytes than the caller allows.
 pub(crate) fn unless_longer(text: String, limit: usize) -> Result<String, TextsFault>

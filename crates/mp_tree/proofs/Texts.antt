@@ -2,6 +2,7 @@
 pub mod Arrays
 pub mod FromData
 pub mod IntoData
+pub mod Lengths
 pub mod RoundTrip
 pub mod Unescaped
 pub mod Written

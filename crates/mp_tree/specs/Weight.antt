@@ -1,5 +1,5 @@
 -- The weight of a document in bytes: about what it takes in memory, and never less than it takes once it is made.
-use Rattle.std.specs.Prelude.{◌+◌, ℕ, List, length}
+use Rattle.std.specs.Prelude.{◌+◌, ℕ, length}
 use Rattle.mp_tree.specs.Document.{Document, string, list, object, Items, no_items, item, Members, no_members, member}
 
 -- of null, a truth value or a number

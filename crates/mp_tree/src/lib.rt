@@ -13,7 +13,9 @@ pub mod borrowing;
 mod measuring;
 mod node;
 mod reading;
+mod scalar_lengths;
 mod serializing;
+mod text_lengths;
 mod trimming;
 mod value_copying;
 mod value_reading;
@@ -31,8 +33,8 @@ pub use node::Node;
 pub use reading::{DEPTH_LIMIT, read_doc, read_docs};
 pub use values::{
     copy_to_doc, copy_value, is_whole, read_any, read_value, read_values, same_value,
-    value_items_mut, value_members_mut, write_value,
+    value_items_mut, value_members_mut, write_value, write_value_within,
 };
 pub use weighing::{left_of, left_of_name};
 pub use whole::Whole;
-pub use writing::{write_doc, write_text};
+pub use writing::{write_doc, write_doc_within, write_text};

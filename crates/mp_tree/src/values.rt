@@ -2,7 +2,7 @@
 //! would be read of it, so each function here says of a value what its sibling says of a `Doc`. A number that is not whole means 0:
 //! one that `serde_json` holds as a float, as it does each with a fraction or an exponent, or outside -2^63 to 2^64 - 1.
 //! `read_value` and `read_values` give none.
-ghost use Rattle.std.specs.Prelude.{◌≡◌, ◌≢◌, ◌≤◌, ◌↔◌, All, None, Some, IsSome, Ok, Err, IsTrue, IfOk, IfErr, MatchOption, string_bytes};
+ghost use Rattle.std.specs.Prelude.{◌≡◌, ◌≢◌, ◌≤◌, ◌<◌, ◌↔◌, length, All, None, Some, IsSome, Ok, Err, IsTrue, IfOk, IfErr, MatchOption, string_bytes};
 ghost use Rattle.std.specs.Borrow.{sem, LendsIf};
 ghost use Rattle.serde_json.specs.Rows.{list_row, map_row};
 ghost use Rattle.serde_json.specs.contracts.value.Value.{the_row};
@@ -18,6 +18,7 @@ use crate::copying::doc_copied;
 use crate::doc::Doc;
 use crate::fault::{DocsFault, ReadFault};
 use crate::reading::read_json;
+use crate::text_lengths::is_longer;
 use crate::value_copying::copy_of;
 use crate::value_reading::{Tree, read_tree};
 use crate::value_walks::is_same;
@@ -106,6 +107,25 @@ pub fn write_value(alloc: Global, value: &Value) -> Result<String, AllocError>
         Ok(written) => Ok(written),
         Err(_) => Err(AllocError),
     }
+}
+
+/// As `write_doc_within`, of the document that the value means.
+pub fn write_value_within(
+    alloc: Global,
+    value: &Value,
+    limit: usize,
+) -> Result<Option<String>, AllocError>
+    ensures text { IfOk result (λ o. MatchOption o
+        (limit < length (text (value_document value.now)))
+        (λ s. (string_bytes s ≡ text (value_document value.now))
+        × (length (string_bytes s) ≤ limit))) }
+    ensures reads_back { depth (value_document value.now) ≤ depth_limit
+        → read (text (value_document value.now)) ≡ Some (value_document value.now) }
+{
+    if is_longer(value, limit) {
+        return Ok(None);
+    }
+    Ok(Some(write_value(alloc, value)?))
 }
 
 /// As `Doc::copy`: a value that means an equal document, and shares nothing with this one. A number that is not whole means 0 in

@@ -1,10 +1,11 @@
 //! JSON texts from documents.
-ghost use Rattle.std.specs.Prelude.{◌≡◌, ◌≤◌, Some, IfOk, string_bytes};
+ghost use Rattle.std.specs.Prelude.{◌≡◌, ◌≤◌, ◌<◌, length, Some, IfOk, MatchOption, string_bytes};
 ghost use Rattle.mp_tree.specs.Document.{string, depth, depth_limit};
 ghost use Rattle.mp_tree.specs.View.{document};
 ghost use Rattle.mp_tree.specs.Text.{text, read};
 
 use crate::doc::Doc;
+use crate::text_lengths::is_longer;
 use serde_json::{Value, to_string};
 use std::alloc::{AllocError, Global};
 
@@ -23,6 +24,29 @@ pub fn write_doc(alloc: Global, doc: &Doc) -> Result<String, AllocError>
         Ok(written) => Ok(written),
         Err(_) => Err(AllocError),
     }
+}
+
+/// As `write_doc`, unless the text has more than `limit` bytes: then the answer is None, and nothing is made. The text is measured
+/// first, by a walk that takes no memory; with `usize::MAX` nothing is measured.
+///
+/// ```text
+/// write_doc_within(alloc, &doc, 15)  // Some text, {"a":null,"b":1}
+/// write_doc_within(alloc, &doc, 14)  // None
+/// ```
+pub fn write_doc_within(
+    alloc: Global,
+    doc: &Doc,
+    limit: usize,
+) -> Result<Option<String>, AllocError>
+    ensures text { IfOk result (λ o. MatchOption o (limit < length (text (document doc.now)))
+        (λ s. (string_bytes s ≡ text (document doc.now)) × (length (string_bytes s) ≤ limit))) }
+    ensures reads_back { depth (document doc.now) ≤ depth_limit
+        → read (text (document doc.now)) ≡ Some (document doc.now) }
+{
+    if is_longer(doc, limit) {
+        return Ok(None);
+    }
+    Ok(Some(write_doc(alloc, doc)?))
 }
 
 /// The text as a JSON string (RFC 8259 section 7), as it stands in what [`write_doc`] writes: in quotes, with a quote,

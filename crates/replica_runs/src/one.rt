@@ -39,9 +39,9 @@ fn on_replica(
         "join_into" => join_into(alloc, &mut joined, &patch) == Ok(true),
         "joined_text" => replica.joined_text(alloc).is_ok(),
         "part_text" => replica.part_text(alloc, "").is_ok(),
-        "receive_doc" => replica.receive(alloc, patch) == Received::Taken,
+        "receive_doc" => matches!(replica.receive(alloc, patch), Received::Taken),
         "receive_text" => replica.receive_text(alloc, given.as_bytes()).is_ok(),
-        "repeat" => replica.receive(alloc, joined) == Received::Taken,
+        "repeat" => matches!(replica.receive(alloc, joined), Received::Taken),
         "shown_text" => replica.shown_text(alloc).is_ok(),
         _ => false,
     };

@@ -23,7 +23,7 @@ pub fn receive(alloc: Global, bytes: u64, count: u64) -> Result<Option<u64>, All
 
 fn is_taken(received: Result<Received, LiveFault>) -> bool {
     match received {
-        Ok(what) => what == Received::Taken,
+        Ok(what) => matches!(what, Received::Taken),
         Err(_) => false,
     }
 }

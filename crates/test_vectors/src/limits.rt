@@ -8,7 +8,9 @@ use mp_patch::{
 use mp_texts::{
     TextsFault, join_texts, merge_texts, part_text, patch_text, replay_texts, rewrite_text,
 };
-use mp_tree::{Doc, read_doc, read_value, write_doc, write_value};
+use mp_tree::{
+    Doc, read_doc, read_value, write_doc, write_doc_within, write_value, write_value_within,
+};
 use std::alloc::{AllocError, Global};
 use std::process::Abort;
 use std::test::Fail;
@@ -136,6 +138,150 @@ fn each_result_is_within_the_limit(rt: HostRuntime) -> Result<(), Fail> {
             weight.saturating_sub(1),
             refused.as_str(),
         )?;
+    }
+    Ok(())
+}
+
+/// A document, operations, and how often they are repeated; the least limit that allows their work, and the first operation that
+/// is too large one below.
+const WORKED: &[(&str, &str, usize, usize, usize)] = &[
+    // a copy weighs 120, and its sum is one below 16 times 128, and then 16 times the limit itself
+    ("[1]", r#"{"op":"copy","from":"","path":""}"#, 17, 128, 16),
+    (
+        "[1,2,3]",
+        r#"{"op":"copy","from":"","path":""}"#,
+        32,
+        400,
+        31,
+    ),
+    // the removal shifts two elements, and the addition three
+    (
+        "[1,2,3,4]",
+        r#"{"op":"move","from":"/1","path":"/0"}"#,
+        800,
+        250,
+        796,
+    ),
+    // four, and four again
+    (
+        "[1,2,3,4]",
+        r#"{"op":"add","path":"/0","value":0},{"op":"remove","path":"/0"}"#,
+        600,
+        300,
+        1_196,
+    ),
+    // the copy weighs 40 and shifts four, and the removal shifts four
+    (
+        "[1,2,3,4]",
+        r#"{"op":"copy","from":"/1","path":"/0"},{"op":"remove","path":"/0"}"#,
+        100,
+        300,
+        198,
+    ),
+    // no work: the limit is what the heaviest result weighs
+    (
+        "[1]",
+        r#"{"op":"replace","path":"/0","value":1}"#,
+        100,
+        120,
+        0,
+    ),
+    ("[1]", r#"{"op":"test","path":"/0","value":1}"#, 100, 120, 0),
+    (
+        "[1]",
+        r#"{"op":"add","path":"/-","value":2},{"op":"remove","path":"/1"}"#,
+        100,
+        160,
+        0,
+    ),
+];
+
+/// A JSON Patch of the operations again and again.
+fn repeated(alloc: Global, operations: &str, times: usize) -> Result<String, AllocError> {
+    let mut text = String::from_str(alloc, "[")?;
+    for number in 0..times {
+        if number > 0 {
+            text.push(',')?;
+        }
+        text.push_str(operations)?;
+    }
+    text.push(']')?;
+    Ok(text)
+}
+
+#[test]
+fn all_work_is_within_the_limit(rt: HostRuntime) -> Result<(), Fail> {
+    for (doc, operations, times, limit, op) in WORKED {
+        let form = repeated(rt.alloc(), operations, *times)?;
+        let result = applied(rt.alloc(), doc, form.as_str())?;
+        is_applied(&rt, (*doc, form.as_str()), *limit, result.as_str())?;
+        is_applied(&rt, (*doc, form.as_str()), usize::MAX, result.as_str())?;
+        let refused = format!(in rt.alloc(); "operation {op}: too large")?;
+        is_applied(
+            &rt,
+            (*doc, form.as_str()),
+            limit.saturating_sub(1),
+            refused.as_str(),
+        )?;
+    }
+    Ok(())
+}
+
+/// Documents whose texts have each kind of part, and how many bytes they have.
+const MEASURED: &[(&str, usize)] = &[
+    ("null", 4),
+    ("true", 4),
+    ("false", 5),
+    ("0", 1),
+    ("-9223372036854775808", 20),
+    ("18446744073709551615", 20),
+    (r#""""#, 2),
+    (r#""a\"\\\b\f\n\r\t/""#, 18),
+    (r#""\u0000\u001f\u007f""#, 15),
+    (r#""\u00e9\u20ac\ud83d\ude00""#, 11),
+    ("[]", 2),
+    ("[[]]", 4),
+    ("[1,[],{}]", 9),
+    ("{}", 2),
+    (r#"{"":0}"#, 6),
+    (r#"{"a\n":[1,2],"b":{"c":null}}"#, 28),
+];
+
+/// The document of a text, and the value of it, are written as the text within the limit, or as none.
+fn is_measured<R: Abort + AllocGlobal>(
+    rt: &R,
+    text: &str,
+    limit: usize,
+    is_written: bool,
+) -> Result<(), Fail> {
+    let doc = read_doc(rt.alloc(), text.as_bytes())?;
+    let value = read_value(rt.alloc(), text.as_bytes())?;
+    let written = write_doc(rt.alloc(), &doc)?;
+    match write_doc_within(rt.alloc(), &doc, limit)? {
+        Some(found) => {
+            equal(rt, found.as_str(), written.as_str());
+            holds(rt, is_written, text);
+        }
+        None => holds(rt, !is_written, text),
+    }
+    match write_value_within(rt.alloc(), &value, limit)? {
+        Some(found) => {
+            equal(rt, found.as_str(), written.as_str());
+            holds(rt, is_written, text);
+        }
+        None => holds(rt, !is_written, text),
+    }
+    Ok(())
+}
+
+#[test]
+fn texts_are_measured(rt: HostRuntime) -> Result<(), Fail> {
+    for (text, length) in MEASURED {
+        is_measured(&rt, text, *length, true)?;
+        is_measured(&rt, text, length.saturating_add(1), true)?;
+        is_measured(&rt, text, usize::MAX, true)?;
+        is_measured(&rt, text, length.saturating_sub(1), false)?;
+        is_measured(&rt, text, 0, false)?;
     }
     Ok(())
 }

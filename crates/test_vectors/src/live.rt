@@ -61,8 +61,13 @@ fn a_conflict_changes_nothing(rt: HostRuntime) -> Result<(), Fail> {
     let places = r#"["/a/x","/k","/l"]"#;
     answers(&rt, replica.conflicts_text(rt.alloc(), CLASHING), places)?;
     answers(&rt, replica.conflicts_text(rt.alloc(), ONE), "[]")?;
-    let received = replica.receive_text(rt.alloc(), CLASHING)?;
-    equal(&rt, received, Received::Conflict);
+    let handed_back = match replica.receive_text(rt.alloc(), CLASHING)? {
+        Received::Conflict(patch) => replica.conflicts_within(rt.alloc(), &patch, 290)?,
+        _ => return Err(Fail::new("the patch is received")),
+    };
+    let found = write_places(rt.alloc(), handed_back.places.as_slice())?;
+    answers(&rt, Ok(found), r#"["/a/x","/k"]"#)?;
+    equal(&rt, handed_back.total, 3);
     shows(&rt, &replica)
 }
 
@@ -117,7 +122,7 @@ fn groups_are_combined(rt: HostRuntime) -> Result<(), Fail> {
 /// The places of a conflict, as they are written.
 fn places(alloc: Global, patches: &Patches) -> Result<String, LiveFault> {
     match patches.places() {
-        Some(places) => Ok(write_places(alloc, places.as_slice())?),
+        Some(found) => Ok(write_places(alloc, found.places.as_slice())?),
         None => Err(LiveFault::Missing),
     }
 }

@@ -183,7 +183,7 @@ fn the_recipe_of_replicas(rt: HostRuntime) -> Result<(), Fail> {
     let mut log = log_of_both(&rt)?;
     comes(&rt, &mut log, &LARGER_COMES)?;
     reports(&rt, &log, &[ANN_AND_BOB])?;
-    log.decide(rt.alloc(), &[ANN, BOB_AGAIN])?;
+    log.decide(rt.alloc(), &[ANN, BOB_AGAIN], usize::MAX)?;
     has_begun(&rt, &log, LARGER_BLUE_BOX)
 }
 
@@ -234,7 +234,7 @@ const AFTER: &[Coming] = &[
 fn what_becomes_of_messages(rt: HostRuntime) -> Result<(), Fail> {
     let mut log = log_of_both(&rt)?;
     all_come(&rt, &mut log, REPEATS)?;
-    log.decide(rt.alloc(), &[ANN])?;
+    log.decide(rt.alloc(), &[ANN], usize::MAX)?;
     all_come(&rt, &mut log, AFTER)
 }
 
@@ -252,7 +252,7 @@ fn the_first_patch_of_an_identity_counts(rt: HostRuntime) -> Result<(), Fail> {
     let mut log = log_of(&rt, &[(ANN, BLUE)])?;
     comes(&rt, &mut log, &ANN_TWICE)?;
     reports(&rt, &log, &[])?;
-    log.decide(rt.alloc(), &[ANN])?;
+    log.decide(rt.alloc(), &[ANN], usize::MAX)?;
     has_begun(&rt, &log, BLUE_BOX)
 }
 
@@ -353,7 +353,7 @@ fn is_refused<R: Abort + AllocGlobal>(
     chosen: &[Identity],
     wanted: &str,
 ) -> Result<DecideFault, Fail> {
-    match log.decide(rt.alloc(), chosen) {
+    match log.decide(rt.alloc(), chosen, usize::MAX) {
         Err(fault) => {
             says(rt, &fault, wanted)?;
             Ok(fault)
@@ -370,7 +370,7 @@ fn a_decision_waits_for_what_it_names(rt: HostRuntime) -> Result<(), Fail> {
     is_refused(&rt, &mut log, &[ANN, BOB_AGAIN], NOT_BOB_AGAIN)?;
     reports(&rt, &log, &[ANN_AND_BOB])?;
     comes(&rt, &mut log, &LARGER_COMES)?;
-    log.decide(rt.alloc(), &[ANN, BOB_AGAIN])?;
+    log.decide(rt.alloc(), &[ANN, BOB_AGAIN], usize::MAX)?;
     has_begun(&rt, &log, LARGER_BLUE_BOX)
 }
 
@@ -401,7 +401,7 @@ fn is_refused_at<R: Abort + AllocGlobal>(
     place: &str,
 ) -> Result<(), Fail> {
     match is_refused(rt, log, chosen, wanted)? {
-        DecideFault::Conflict { places, .. } => is_at(rt, places.as_slice(), place),
+        DecideFault::Conflict { conflicts, .. } => is_at(rt, conflicts.places.as_slice(), place),
         _ => Err(Fail::new("no conflict is reported")),
     }
 }
@@ -424,14 +424,14 @@ fn the_first_pair_that_was_chosen_is_reported(rt: HostRuntime) -> Result<(), Fai
     let wanted =
         "conflict: Identity { sender: 2, number: 2 } and Identity { sender: 3, number: 1 }";
     is_refused_at(&rt, &mut log, &[CLEO, BOB_AGAIN, ANN], wanted, "/size")?;
-    log.decide(rt.alloc(), &[BOB_AGAIN, ANN])?;
+    log.decide(rt.alloc(), &[BOB_AGAIN, ANN], usize::MAX)?;
     has_begun(&rt, &log, LARGER_BLUE_BOX)
 }
 
 #[test]
 fn a_decision_may_name_a_patch_twice(rt: HostRuntime) -> Result<(), Fail> {
     let mut log = log_of_both(&rt)?;
-    log.decide(rt.alloc(), &[ANN, ANN])?;
+    log.decide(rt.alloc(), &[ANN, ANN], usize::MAX)?;
     has_begun(&rt, &log, BLUE_BOX)
 }
 
@@ -439,7 +439,7 @@ fn a_decision_may_name_a_patch_twice(rt: HostRuntime) -> Result<(), Fail> {
 fn a_decision_may_name_nothing(rt: HostRuntime) -> Result<(), Fail> {
     let mut log = log_of(&rt, &[(BOB_AGAIN, LARGER)])?;
     shows(&rt, &log, LARGER_BOX)?;
-    log.decide(rt.alloc(), &[])?;
+    log.decide(rt.alloc(), &[], usize::MAX)?;
     has_begun(&rt, &log, BOX)
 }
 
@@ -457,7 +457,7 @@ fn no_number_is_left(rt: HostRuntime) -> Result<(), Fail> {
 #[test]
 fn the_last_number_is_used(rt: HostRuntime) -> Result<(), Fail> {
     let mut log = PatchLog::new(rt.alloc(), u64::MAX - 1, doc_of(rt.alloc(), BOX)?);
-    log.decide(rt.alloc(), &[])?;
+    log.decide(rt.alloc(), &[], usize::MAX)?;
     equal(&rt, log.epoch(), u64::MAX);
     is_refused(&rt, &mut log, &[], NO_NUMBER)?;
     Ok(())

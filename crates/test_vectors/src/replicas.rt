@@ -92,14 +92,18 @@ fn parts_are_there_or_not(rt: HostRuntime) -> Result<(), Fail> {
 /// What became of a message.
 #[derive(Clone, Copy, Debug, PartialEq, Eq)]
 enum Became {
-    Given(Received),
+    Taken,
+    Conflict,
+    OutOfMemory,
     Late,
     Early(u64),
 }
 
 fn of_delivery(delivery: Delivery) -> Became {
     match delivery {
-        Delivery::Given(what) => Became::Given(what),
+        Delivery::Given(Received::Taken) => Became::Taken,
+        Delivery::Given(Received::Conflict(_)) => Became::Conflict,
+        Delivery::Given(_) => Became::OutOfMemory,
         Delivery::Late => Became::Late,
         Delivery::Early(message) => Became::Early(message.epoch),
     }
@@ -107,12 +111,12 @@ fn of_delivery(delivery: Delivery) -> Became {
 
 /// The number of the start that a patch was made for, the patch, and what becomes of it.
 const MESSAGES: &[(u64, &str, Became)] = &[
-    (1, r#"{"a":{"x":1}}"#, Became::Given(Received::Taken)),
+    (1, r#"{"a":{"x":1}}"#, Became::Taken),
     (0, r#"{"k":5}"#, Became::Late),
-    (1, r#"{"a":{"y":null}}"#, Became::Given(Received::Taken)),
+    (1, r#"{"a":{"y":null}}"#, Became::Taken),
     (2, r#"{"k":6}"#, Became::Early(2)),
-    (1, r#"{"k":null}"#, Became::Given(Received::Taken)),
-    (1, r#"{"a":{"x":1}}"#, Became::Given(Received::Taken)),
+    (1, r#"{"k":null}"#, Became::Taken),
+    (1, r#"{"a":{"x":1}}"#, Became::Taken),
 ];
 
 /// A patch of the start of number 1 that conflicts with the first of these.
@@ -180,19 +184,18 @@ fn is_at<R: Abort + AllocGlobal>(rt: &R, places: &[Pointer], wanted: &str) -> Re
 #[test]
 fn a_patch_that_clashes_is_not_received(rt: HostRuntime) -> Result<(), Fail> {
     let mut replica = replica(rt.alloc())?;
-    becomes(&rt, &mut replica, 1, SHOWN, Became::Given(Received::Taken))?;
+    becomes(&rt, &mut replica, 1, SHOWN, Became::Taken)?;
     let clashing = message(rt.alloc(), 1, CLASHING)?;
     let places = replica.conflicts(rt.alloc(), &clashing)?;
     is_at(&rt, places.as_slice(), "/a/x")?;
-    let conflict = Became::Given(Received::Conflict);
-    becomes(&rt, &mut replica, 1, CLASHING, conflict)?;
+    becomes(&rt, &mut replica, 1, CLASHING, Became::Conflict)?;
     is_some_text(&rt, replica.replica().shown(), r#"{"a":{"x":1},"k":0}"#)
 }
 
 #[test]
 fn a_message_of_another_start_conflicts_nowhere(rt: HostRuntime) -> Result<(), Fail> {
     let mut replica = replica(rt.alloc())?;
-    becomes(&rt, &mut replica, 1, SHOWN, Became::Given(Received::Taken))?;
+    becomes(&rt, &mut replica, 1, SHOWN, Became::Taken)?;
     let later = message(rt.alloc(), 2, CLASHING)?;
     let places = replica.conflicts(rt.alloc(), &later)?;
     holds(&rt, places.is_empty(), CLASHING);

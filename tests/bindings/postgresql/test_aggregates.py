@@ -181,9 +181,10 @@ def test_of_a_thousand_rows_one_that_is_no_patch_is_named_and_stops_no_other_gro
     assert server.ask("SELECT number - 1, patch FROM priced WHERE NOT mergejoin_is_patch(patch);\n") == '747|{"k747": 9.5}\n'
 
 
-def test_the_beginning_of_a_text_that_is_no_patch_is_shown(server):
-    text = json.dumps({"é" * 300: 1.5}, ensure_ascii=False)
-    said = f'ERROR:  22032: patch of the group: number not whole at "/{"é" * 300}"\nDETAIL:  The patch is {text[:101]}..\n' \
+@pytest.mark.parametrize("name", ["é" * 300, "x" + "é" * 300], ids=["200 bytes", "199 bytes, and half a character"])
+def test_the_beginning_of_a_text_that_is_no_patch_is_shown(server, name):
+    text = json.dumps({name: 1.5}, ensure_ascii=False)
+    said = f'ERROR:  22032: patch of the group: number not whole at "/{name}"\nDETAIL:  The patch is {text[:101]}..\n' \
         "HINT:  mergejoin_is_patch(patch) is false of such a row.\n"
     assert server.ask(f"SELECT mergejoin_agg(patch) FROM (VALUES ({quoted(text)}::json)) AS log (patch);\n") == said
 

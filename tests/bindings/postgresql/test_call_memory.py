@@ -35,8 +35,8 @@ def server_with_the_tables(server):
     return server
 
 
-def resident_after(server, statements):
-    """Gives what a session prints for statements, the seconds that they took, and the megabytes that it has then."""
+def resident_after(server, statements, figure="VmRSS"):
+    """Gives what a session prints for statements, the seconds that they took, and the megabytes that it has then, or had at most."""
     session = server.begin("-v", "VERBOSITY=sqlstate")
     session.stdin.write("SELECT mergejoin_join('1'::json);\nSELECT pg_backend_pid();\n")
     session.stdin.flush()
@@ -50,7 +50,7 @@ def resident_after(server, statements):
     seconds = time.monotonic() - begun
     status = pathlib.Path(f"/proc/{pid}/status").read_text("ascii")
     session.communicate()
-    return "".join(lines), seconds, int(re.search(r"VmRSS:\s+(\d+) kB", status)[1]) / 1024
+    return "".join(lines), seconds, int(re.search(rf"{figure}:\s+(\d+) kB", status)[1]) / 1024
 
 
 @pytest.mark.parametrize("attack", [COPIES, *GROUPS.values()], ids=["copies", *GROUPS])
@@ -58,6 +58,14 @@ def test_an_attack_ends_soon_after_a_timeout_and_leaves_little(attacked, attack)
     said, seconds, megabytes = resident_after(attacked, TIMEOUT + attack)
     assert said.startswith(("ERROR:  57014", "ERROR:  54000", "ERROR:  MJ001"))
     assert seconds < 2 and megabytes < 64
+
+
+def test_a_group_takes_what_its_join_takes(server):
+    """However many patches it has: 200 MB of them."""
+    patch = "json_build_object('a', repeat('x', 2000))"
+    query = f"SELECT length(mergejoin_agg(patch)::text) FROM (SELECT {patch} AS patch FROM generate_series(1, 100000)) AS log"
+    said, _, megabytes = resident_after(server, query, "VmHWM")
+    assert said == "2008\n" and megabytes < 64
 
 
 def test_copies_are_refused_without_a_timeout_too(attacked):
@@ -76,6 +84,25 @@ def test_a_conflict_at_many_places_stops_no_other_group(attacked):
         "GROUP BY number ORDER BY number"
     for limit in ("1GB", "200MB"):
         assert attacked.ask(f"{LIMIT.format(limit)}{query};\n") == "1|\n2|1\n"
+
+
+# A patch for which the session's process has no memory, made after two that conflict at more places than a call may take memory for.
+UNREADABLE = """CREATE FUNCTION unreadable() RETURNS json LANGUAGE plpgsql AS $function$
+BEGIN
+  COPY (SELECT WHERE false) TO PROGRAM $$prlimit --pid $PPID --as=$(awk '/^VmSize/ {print $2 * 1024 + 40000000}' /proc/$PPID/status)$$;
+  RETURN (SELECT patch FROM large);
+END $function$;
+CREATE TABLE large AS SELECT json_object_agg('name' || number, number) AS patch FROM generate_series(1, 300000) AS number;
+"""
+IN_TURN = "SELECT mergejoin_try_agg(CASE number WHEN 3 THEN unreadable() ELSE (SELECT patch FROM deep OFFSET number - 1 LIMIT 1) END) " \
+    "FROM (VALUES (1), (2), (3)) AS numbers (number);\n"
+
+
+def test_memory_that_is_not_there_is_no_conflict_at_many_places(attacked):
+    """Also after one: it is reported as what it is."""
+    assert attacked.ask(UNREADABLE) == ""
+    said = "ERROR:  53200: out of memory\nDETAIL:  A call of mergejoin could not allocate memory.\n"
+    assert attacked.ask(LIMIT.format("200MB") + IN_TURN) == said
 
 
 @pytest.mark.parametrize(("table", "shown", "count"), [("wide", 100, 20000), ("deep", 0, 12000)])

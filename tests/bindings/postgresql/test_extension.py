@@ -32,6 +32,17 @@ def test_it_exports_what_postgresql_looks_for_alone(server):
     assert all(name.startswith("mergejoin_") for name in functions)
 
 
+MEMBERS = """SELECT oid::regprocedure, provolatile, proparallel FROM pg_proc WHERE oid IN (SELECT objid FROM pg_depend
+  WHERE classid = 'pg_proc'::regclass AND deptype = 'e' AND refobjid = (SELECT oid FROM pg_extension WHERE extname = 'mergejoin'));
+"""
+
+
+def test_each_function_has_one_answer_and_may_run_in_a_worker(server):
+    """So an index may be of it, and a plan may be parallel."""
+    members = [line.rsplit("|", 2) for line in server.ask(MEMBERS).splitlines()]
+    assert len(members) > 30 and [member for member in members if member[1:] != ["i", "s"]] == []
+
+
 def test_its_own_tests_pass(server):
     script = 'make -C "$0" installcheck || { cat "$0/regression.diffs"; exit 1; }'
     assert "All 2 tests passed" in server.run("sh", "-c", script, server.build)

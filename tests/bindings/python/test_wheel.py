@@ -21,14 +21,15 @@ def shown(start: str, patches: list[bytes]) -> str:
         try:
             replica.receive(patch, limit=1_000)
         except mergejoin.Conflict as conflict:
-            print(", ".join(conflict.places), conflict.total)
+            print(", ".join(conflict.places), conflict.total, "and more" if conflict.more else "")
     part: str | None = replica.get("/author", None)
     return part or replica.document(limit=1_000_000)
 
 def followed(log: mergejoin.PatchLog, chosen: list[tuple[int, int]]) -> int:
     if log.receive(log.epoch, (1, 2), memoryview(b"{}")) is Arrival.STORED:
         log.decide(chosen)
-    return sum(len(pair.places) + pair.first.sender for pair in log.conflicts())
+    pairs, more = log.first_conflicts(limit=1_000)
+    return log.count() if more else sum(len(pair.places) + pair.first.sender for pair in [*pairs, *log.conflicts()])
 
 texts: list[str | bytearray] = ["{}", bytearray(b"{}")]
 joined: str = mergejoin.join(text for text in texts)

@@ -119,7 +119,8 @@ def test_all_are_decided_for_as_the_page_shortens(extension, machine):
 
 @pytest.mark.parametrize("chosen", [CHOSEN, f"('{BOB}'), ('{PATCHES[1]}')"], ids=["the same", "another"])
 def test_of_two_sessions_at_once_one_decides(extension, machine, tmp_path, chosen):
-    """Whoever is second has an error, whether it waits or not, and a patch that was not chosen is still there."""
+    """Whoever is second has an error, whether it waits or not, and a patch that was not chosen is still there. If neither waits, the
+    second may keep the first from its COMMIT while it looks whether it may begin: then both are refused, and one is repeated."""
     for number in range(15):
         file, ended = machine(f"{number}"), []
         decisions = [f".timeout {1000 * (number % 2)}\n{it}" for it in (DECISION, DECISION.replace(CHOSEN, chosen))]
@@ -128,6 +129,9 @@ def test_of_two_sessions_at_once_one_decides(extension, machine, tmp_path, chose
             thread.start()
         for thread in threads:
             thread.join()
+        if number % 2 == 0 and all("database is locked" in err for _, _, err in ended):
+            assert "notes/2" not in stored(extension, file)[0]
+            ended[0] = shell(extension, file, decisions[0])
         assert sorted(status for status, _, _ in ended) == [0, 1], ended
         (err,) = (err for status, _, err in ended if status)
         assert any(it in err for it in ("NOT NULL constraint failed: starts.start", "UNIQUE constraint failed: starts.doc", "database is locked"))

@@ -119,12 +119,57 @@ def test_a_large_group_is_joined_in_much_less_time_than_text_by_text(connection)
     assert time.process_time() - begun < 20
 
 
-def test_a_long_place_of_a_conflict_is_shown(connection):
-    place = "/" + 200_000 * "~0" + "/a"
-    texts = [json.dumps({200_000 * "~": {"a": value}}) for value in (1, 2)]
-    for call in "mergejoin_join(?, ?)", "mergejoin_agg(value) FROM (SELECT ? AS value UNION ALL SELECT ?)":
-        name, said = outcome(connection, f"SELECT {call}", texts)
-        assert name == "SQLITE_CONSTRAINT_FUNCTION" and said.endswith(f': ["{place}"]')
+OF_TEXTS, OF_A_GROUP = "mergejoin_join(?, ?)", "mergejoin_agg(value) FROM (SELECT ? AS value UNION ALL SELECT ?)"
+
+
+def places_said(connection, call, names):
+    """What is said of two texts that conflict at a member of each of the names."""
+    name, said = outcome(connection, f"SELECT {call}", [json.dumps({it: {"a": value} for it in names}) for value in (1, 2)])
+    assert name == "SQLITE_CONSTRAINT_FUNCTION"
+    return said.partition(": ")[2].partition(": ")[2]
+
+
+@pytest.mark.parametrize("name,place", [(30_000 * "~", 30_000 * "~0"), (60_000 * "\1", 60_000 * "\\u0001")], ids=["tildes", "controls"])
+@pytest.mark.parametrize("call", [OF_TEXTS, OF_A_GROUP])
+def test_a_long_place_of_a_conflict_is_shown(connection, call, name, place):
+    assert places_said(connection, call, [name]) == f'["/{place}/a"]'
+
+
+def test_a_group_says_if_there_are_more_places_than_it_holds(connection):
+    """It holds as many as weigh 64 kB: none that is longer, and 436 of these, of 150 each."""
+    assert places_said(connection, OF_TEXTS, [200_000 * "~"]) == f'["/{200_000 * "~0"}/a"]'
+    assert places_said(connection, OF_A_GROUP, [200_000 * "~"]) == "more than 0 places"
+    for count, words in ((99, ""), (100, ""), (101, "101"), (436, "436"), (437, "more than 436"), (1_000, "more than 436")):
+        names = [f"{number:03}" for number in range(count)]
+        shown = json.dumps([f"/{name}/a" for name in names[:100]], separators=(",", ":"))
+        assert places_said(connection, OF_A_GROUP, names) == shown + (f", the first 100 of {words} places" if words else "")
+    one = [30_000 * "~", 60_000 * "a"]
+    assert places_said(connection, OF_A_GROUP, one) == f'["/{one[1]}/a"], the first 1 of more than 1 places'
+
+
+# Two rows of 888,896 bytes, whose places have 40 GB together, and by how many bytes more than before are resident at the most.
+ROWS_OF_A_WIDE_CONFLICT = """
+import resource, sqlite3, sys
+connection = sqlite3.connect(":memory:")
+connection.enable_load_extension(True)
+connection.load_extension(sys.argv[1])
+connection.execute("CREATE TABLE log (patch)")
+for value in 1, 2:
+    text = '{"%s":{%s}}' % ("~" * 500_000, ",".join(f'"{number}":{value}' for number in range(40_000)))
+    connection.execute("INSERT INTO log VALUES (?)", [text])
+before = resource.getrusage(resource.RUSAGE_SELF).ru_maxrss
+try:
+    connection.execute("SELECT mergejoin_agg(patch) FROM log").fetchall()
+except sqlite3.Error as error:
+    print(len(text), error.sqlite_errorname, error)
+print(connection.execute("SELECT mergejoin_try_agg(patch) FROM log").fetchall())
+print(resource.getrusage(resource.RUSAGE_SELF).ru_maxrss - before < 50_000)
+"""
+
+
+def test_a_group_of_a_wide_conflict_takes_little_memory(extension, run):
+    words = "888896 SQLITE_CONSTRAINT_FUNCTION conflict: two patches of the group: more than 0 places\n[(None,)]\nTrue\n"
+    assert run(["/usr/bin/python3", "-I", "-c", ROWS_OF_A_WIDE_CONFLICT, extension]) == (0, words, "")
 
 
 def test_a_group_is_interrupted_between_its_rows(connection):

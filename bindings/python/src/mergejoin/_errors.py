@@ -24,23 +24,27 @@ class Conflict(MergejoinError):
     and first the least of those. places are all places at which these two conflict, as JSON Pointers, in the order of paths.
 
     Replica and Patches keep no numbers, so there they are None. If a limit was given, places are the first ones that fit, and total
-    says how many there are in all.
+    says how many there are in all. A Patches holds the first places alone, up to 64 kB: more says whether there are more than total.
     """
 
     first: Union[int, Any]
     second: Union[int, Any]
     places: List[str]
     total: int
+    more: bool
 
-    def __init__(self, first: Optional[int], second: Optional[int], places: List[str], total: Optional[int] = None) -> None:
+    def __init__(self, first: Optional[int], second: Optional[int], places: List[str], total: Optional[int] = None,
+                 more: bool = False) -> None:
         total = len(places) if total is None else total
-        super().__init__(first, second, places, total)
-        self.first, self.second, self.places, self.total = first, second, places, total
+        super().__init__(first, second, places, total, more)
+        self.first, self.second, self.places, self.total, self.more = first, second, places, total, more
 
     def __str__(self) -> str:
         which = "two patches" if self.first is None else f"patches {self.first} and {self.second}"
         places = [json.dumps(place, ensure_ascii=False) for place in self.places]
-        if self.total > len(places):
+        if self.more:
+            places += ["more"] if places else []
+        elif self.total > len(places):
             places.append(f"{self.total - len(places):,} {'more' if places else 'places' if self.total > 1 else 'place'}")
         return f"conflict: {which}" + (f" at {', '.join(places)}" if places else "")
 
@@ -183,11 +187,12 @@ def _words_and_place(text: str, length: int) -> Tuple[str, Optional[str]]:
     return (text[:length], text[length + len(" at "):]) if length else (text, None)
 
 
-def error_of(status: int, first: int, second: int, total: int, text: str) -> Exception:
+def error_of(status: int, first: int, second: int, total: int, text: str, more: int = 0) -> Exception:
     """Return the error of a reply without a result."""
     if status == _library.CONFLICT:
         is_of_list = first != second
-        return Conflict(first if is_of_list else None, second if is_of_list else None, json.loads(text) if text else [], total)
+        return Conflict(first if is_of_list else None, second if is_of_list else None, json.loads(text) if text else [], total,
+                        bool(more))
     if status in (_library.DOCUMENT, _library.PATCH):
         return InputError("document" if status == _library.DOCUMENT else "patch", first, *_words_and_place(text, total))
     if status in (_library.REFUSED, _library.FORM):

@@ -5,7 +5,7 @@ import json
 from typing import Iterable, List, NamedTuple, Optional, Tuple, TypeVar, Union, overload
 
 from . import _library
-from ._errors import Missing, NoPatches
+from ._errors import Missing, NoPatches, TooLarge
 from ._texts import Given
 
 _Default = TypeVar("_Default")
@@ -276,13 +276,29 @@ class PatchLog:
         """Return the document: the start with the patches that conflict with no other. TooLarge is raised as by join()."""
         return self._held.document(limit)
 
+    def count(self) -> int:
+        """Return how many patches are stored. What a log takes and costs is bounded by this and by the lengths of the patches."""
+        return self._held.count()
+
     def conflicts(self, *, limit: Optional[int] = None) -> List[ConflictingPair]:
         """Return each two patches that conflict, once, in the order of their identities.
 
-        TooLarge is raised if the list, as a JSON text, is longer than the limit.
+        TooLarge is raised if the list takes more than the limit: then first_conflicts() returns its beginning.
         """
-        return [ConflictingPair(Identity(*pair["first"]), Identity(*pair["second"]), pair["places"])
-                for pair in json.loads(self._held.conflicts(limit))]
+        pairs, more = self.first_conflicts(limit=limit)
+        if more:
+            raise TooLarge(0)
+        return pairs
+
+    def first_conflicts(self, *, limit: Optional[int] = None) -> Tuple[List[ConflictingPair], bool]:
+        """Return the pairs that come first, as many as take at most the limit, and whether a pair or a place is left out.
+
+        A pair counts 64 bytes and its places, and a place 128, 8 for each token, and its bytes. The last pair may have the first of its
+        places alone.
+        """
+        text, more = self._held.conflicts(limit)
+        pairs = [ConflictingPair(Identity(*pair["first"]), Identity(*pair["second"]), pair["places"]) for pair in json.loads(text)]
+        return pairs, bool(more)
 
     def decide(self, chosen: Iterable[Tuple[int, int]], *, limit: Optional[int] = None) -> None:
         """End the start by the patches with these identities: what they make of it is the next start, and all patches are forgotten.

@@ -124,8 +124,8 @@ def conflicts(texts: Iterable[Given], *, limit: Optional[int] = None) -> List[Pa
     [(0, 2, ['/a', '/b'])]
 
     A text that conflicts with no other costs what it is long; one that does may cost what all texts are long. InputError is raised if a
-    text is not a document, and TooLarge if the list, as a JSON text, is longer than the limit. With a limit that is looked at each time that
-    the texts are twice as many. So no much longer list is made, if the texts are in no order.
+    text is not a document, and TooLarge if the list takes more than the limit, as PatchLog.first_conflicts() counts it. With a limit that is
+    looked at each time that the texts are twice as many. So it is seen early, if the texts are in no order.
     """
     log, fault = _library.PatchLog(0, "null"), None
     for number, text in enumerate(ordered(texts, "texts")):
@@ -137,13 +137,21 @@ def conflicts(texts: Iterable[Given], *, limit: Optional[int] = None) -> List[Pa
             fault = _too_large(log, limit)
     if fault:
         raise fault
-    pairs = json.loads(log.conflicts(limit))
+    pairs = json.loads(_all_conflicts(log, limit))
     return [(pair["first"][0], pair["second"][0], pair["places"]) for pair in pairs]
+
+
+def _all_conflicts(log: _library.PatchLog, limit: Optional[int]) -> str:
+    """Return the text of all pairs."""
+    text, more = log.conflicts(limit)
+    if more:
+        raise TooLarge(0)
+    return text
 
 
 def _too_large(log: _library.PatchLog, limit: int) -> Optional[TooLarge]:
     try:
-        log.conflicts(limit)
+        _all_conflicts(log, limit)
     except TooLarge as error:
         return error
     return None

@@ -102,7 +102,7 @@ def conflicts_by_key(bag: Bag, split_out: Optional[int] = None, limit: Optional[
     its key, and the result has split_out partitions.
 
     Of n patches that all conflict there are n * (n - 1) / 2 pairs. So TooLarge is raised, with the key, if the pairs of a key are longer
-    than the limit: as mergejoin.conflicts() has it, in bytes, of which a pair with a short place takes some 50. None is no limit.
+    than the limit: as mergejoin.conflicts() has it, in bytes, of which a pair with a short place takes some 200. None is no limit.
 
     All texts of a key come together before one is read. So give it the texts of the keys for which join_by_key() has None, if the
     log is large.

@@ -1,18 +1,21 @@
 -- A move is a removal and then an addition to what is left; a copy is an addition of what is there.
-use Rattle.std.proofs.Common.{◌≡◌, ◌≢◌, inl, inr, ℕ, None, Some, Result, Ok, Err, refl, subst}
+use Rattle.std.proofs.Common.{◌≡◌, ◌≢◌, ◌+◌, ◌-◌, inl, inr, ℕ, Option, None, Some, MatchOption, Result, Ok, Err, refl, subst}
 use Rattle.mp_tree.specs.Document.{Document, IsDocument}
 use Rattle.mp_pointer.specs.Part.{part}
 use Rattle.mp_pointer.specs.Spelling.{Tokens, IsProperPrefix}
 use Rattle.mp_patch.specs.Operation.{Operation, add, move, copy, remove, Removes}
 use Rattle.mp_patch.specs.Refusal.{HasNoPlace, IsTooDeep, LeavesNoPlace, PartIsTooDeep, RefusedBy, causes}
 use Rattle.mp_patch.specs.Private.Steps.{Answers}
-use Rattle.mp_patch.specs.Private.Within.{AnswersWithin, Judges, TakesToMove}
+use Rattle.mp_patch.specs.Private.Within.{AnswersWithin, ExceedsLeft, IsTooMuch, Judges, LeavesWork, TakesToMove}
+use Rattle.mp_patch.specs.Work.{shifted_at}
 use Rattle.mp_patch.specs.declared.fault.Cause.{Cause}
 use Rattle.mp_patch.specs.declared.fault.Refusal.{Refusal}
 use Rattle.mp_patch.specs.declared.fault.Refusal.TheVariants.{By, OutOfMemory}
+use Rattle.mp_patch.specs.declared.scale.Scale.{Scale}
 use Rattle.mp_patch.proofs.Operations.Documents.{Removes-once}
 use Rattle.mp_patch.proofs.FirstCause.{NoneHolds, unrefused, free_of}
 use Rattle.mp_patch.proofs.Operations.SingleSteps.{some_missing}
+use Rattle.mp_patch.proofs.Operations.Works.{counts_move, followed, too_heavy}
 use Rattle.mp_pointer.proofs.Facts.{root_is_prefix}
 use Rattle.mp_tree.proofs.Facts.{same_some}
 
@@ -65,18 +68,19 @@ pub not_taken : {T : Type 0} (m : T → Document) (fault : Refusal Cause) (f t :
 not_taken m (By cause) f t d e refused = refused
 not_taken m OutOfMemory f t d e refused = tt
 
-pub refused_within : (limit : ℕ) (fault : Refusal Cause) (d : Document) (o : Operation) (e e' : Document) → Answers (Err fault) d o e → AnswersWithin limit (Err fault) d o e'
-refused_within limit (By cause) d o e e' refused = refused
-refused_within limit OutOfMemory d o e e' refused = tt
+pub refused_within : (scale : Scale) (fault : Refusal Cause) (d : Document) (o : Operation) (e e' : Document) → Answers (Err fault) d o e → AnswersWithin scale (Err fault) d o e'
+refused_within scale (By cause) d o e e' refused = refused
+refused_within scale OutOfMemory d o e e' refused = tt
 
-module _ (limit : ℕ) (f t : Tokens) (x d left : Document) (good : IsDocument d) (apart : ¬ IsProperPrefix f t) (other : f ≢ t) (stood : part d f ≡ Some x) (removes : Removes f d left) where
-  pub moved_too_large : Judges limit None left (add t x) → Judges limit None d (move f t)
+module _ (scale : Scale) (f t : Tokens) (x d left : Document) (good : IsDocument d) (apart : ¬ IsProperPrefix f t) (other : f ≢ t) (stood : part d f ≡ Some x) (removes : Removes f d left) where
+  pub moved_too_large : Judges scale.limit None left (add t x) → IsTooMuch scale d (move f t)
   moved_too_large j =
       let done = moved f t x d left good apart other stood removes (Ok tt) j.1 (j.0, j.2) in
-      (done.0, j.1, done.1, j.3)
+      too_heavy scale d (move f t) (done.0, j.1, done.1, j.3)
 
-  pub moved_within : (n : ℕ) (e : Document) → Judges limit (Some n) left (add t x) → Answers (Ok tt) left (add t x) e → AnswersWithin limit (Ok (Some n)) d (move f t) e
-  moved_within n e j answers =
+  pub moved_within : (n removal arrival : ℕ) (e : Document) → Judges scale.limit (Some n) left (add t x) → (scale.work ≢ None → removal ≡ shifted_at f d - 1) → (scale.work ≢ None → arrival ≡ shifted_at t left) → Answers (Ok tt) left (add t x) e
+      → (r : Option Scale) → MatchOption r (ExceedsLeft scale.work (removal + arrival)) (λ next. (next.weight ≡ n) × (next.limit ≡ scale.limit) × LeavesWork scale.work (removal + arrival) next.work) → AnswersWithin scale (Ok r) d (move f t) e
+  moved_within n removal arrival e j before after answers =
       let done = moved f t x d left good apart other stood removes (Ok tt) e answers in
       let weighs = j e answers.0 answers.1 in
-      (done.0, done.1, weighs.0, weighs.1)
+      followed scale n (removal + arrival) d e (move f t) done.0 done.1 weighs.0 weighs.1 (counts_move scale.work removal arrival f t d left good other removes before after)

@@ -60,12 +60,13 @@ module _ {O : Type 0} (R : List Operation → Document → Type 0) (g : O → Op
     long : done ≡ length (map g r.passed)
     long = r.numbered ∙ sym (length-map r.passed g)
 
-    pub run_further : (e : Document) → ((os : List Operation) → R os m → R (os ++ g op ∷ []) e) → HasRunTo R g ops more (done + 1) e
-    run_further e longer = record {
+    -- the relation after the next operation may be another one
+    pub run_further : (S : List Operation → Document → Type 0) (e : Document) → ((os : List Operation) → R os m → S (os ++ g op ∷ []) e) → HasRunTo S g ops more (done + 1) e
+    run_further S e longer = record {
       passed = r.passed ++ op ∷ [];
       all = r.all ∙ ap (λ os. r.passed ++ os) next ∙ sym (append_assoc r.passed (op ∷ []) more);
       numbered = ap (λ n. n + 1) r.numbered ∙ sym (length-append r.passed (op ∷ []));
-      run = subst (λ os. R os e) (sym (map-append g r.passed (op ∷ []))) (longer (map g r.passed) r.run);
+      run = subst (λ os. S os e) (sym (map-append g r.passed (op ∷ []))) (longer (map g r.passed) r.run);
     }
 
     pub few_done : done < length ops

@@ -1,5 +1,5 @@
 -- What a single operation within a limit answers. Only private clauses cite it.
-use Rattle.std.specs.Prelude.{◌≡◌, ◌≢◌, ◌≤◌, ◌+◌, ◌↔◌, ℕ, length, Bool, IsTrue, Option, None, Some, Result, Ok, Err, ⊤}
+use Rattle.std.specs.Prelude.{◌≡◌, ◌≢◌, ◌≤◌, ◌<◌, ◌⊎◌, ◌+◌, ◌*◌, ◌↔◌, ℕ, length, Bool, IsTrue, Option, None, Some, Result, Ok, Err, ⊤}
 use Rattle.mp_tree.specs.Document.{Document, depth, depth_limit}
 use Rattle.mp_tree.specs.Weight.{weight}
 use Rattle.mp_pointer.specs.Part.{part}
@@ -7,10 +7,11 @@ use Rattle.mp_pointer.specs.Spelling.{Tokens, IsProperPrefix}
 use Rattle.mp_patch.specs.Operation.{Operation, Step, Removes, add, remove, replace, move, copy, test}
 use Rattle.mp_patch.specs.Refusal.{RefusedBy}
 use Rattle.mp_patch.specs.Run.{IsRefused}
-use Rattle.mp_patch.specs.Within.{IsTooLarge}
+use Rattle.mp_patch.specs.Work.{IsWork, work_factor, unbounded}
 use Rattle.mp_patch.specs.declared.fault.Cause.{Cause}
 use Rattle.mp_patch.specs.declared.fault.Refusal.{Refusal}
 use Rattle.mp_patch.specs.declared.fault.Refusal.TheVariants.{By, OutOfMemory}
+use Rattle.mp_patch.specs.declared.scale.Scale.{Scale}
 use Rattle.mp_patch.specs.declared.view.Change.{Change}
 use Rattle.mp_patch.specs.declared.view.Change.TheVariants as change
 use Rattle.mp_patch.specs.declared.view.View.{View}
@@ -29,20 +30,60 @@ abbrev pub viewed : {T : Type 0} → (T → Document) → View T → Operation
 viewed f (view.Change c) = changed f c
 viewed f (view.Move origin path) = move origin.now path.now
 
+-- ---- the work that is left, which is none if it has no bound
+
+-- so much is left of what a limit allows, once so much was done
+abbrev pub HasLeft : ℕ → ℕ → Option ℕ → Type 0
+HasLeft limit done None = limit ≡ unbounded
+HasLeft limit done (Some left) = (limit ≢ unbounded) × (left + done ≡ work_factor * limit)
+
+-- what is left after so much more
+abbrev pub LeavesWork : Option ℕ → ℕ → Option ℕ → Type 0
+LeavesWork None w after = after ≡ None
+LeavesWork (Some left) w None = ⊥
+LeavesWork (Some left) w (Some after) = after + w ≡ left
+
+abbrev pub ExceedsLeft : Option ℕ → ℕ → Type 0
+ExceedsLeft None w = ⊥
+ExceedsLeft (Some left) w = left < w
+
+-- if there is a bound, n is the work of the operation
+abbrev pub CountsWork : Option ℕ → ℕ → Document → Operation → Type 0
+CountsWork left n d o = (w : ℕ) → left ≢ None → IsWork d o w → n ≡ w
+
 -- ---- answers
+
+-- the operation is not refused, and its result weighs more
+abbrev pub IsTooHeavy : ℕ → Document → Operation → Type 0
+IsTooHeavy limit d o = ¬ IsRefused d o × (m : Document) × Step d o m × (limit < weight m)
 
 -- before an operation is done: if it is not refused, its result weighs n, which is at most the limit; None if it is not
 -- refused, and its result weighs more
 abbrev pub Judges : ℕ → Option ℕ → Document → Operation → Type 0
-Judges limit None d o = IsTooLarge limit d o
+Judges limit None d o = IsTooHeavy limit d o
 Judges limit (Some n) d o = (e : Document) → ¬ IsRefused d o → Step d o e → (n ≡ weight e) × (n ≤ limit)
 
--- the operation was taken from d to e, which has that weight, or its result weighs more than the limit, or it is refused
-abbrev pub AnswersWithin : ℕ → Result (Option ℕ) (Refusal Cause) → Document → Operation → Document → Type 0
-AnswersWithin limit (Ok (Some n)) d o e = ¬ IsRefused d o × Step d o e × (n ≡ weight e) × (n ≤ limit)
-AnswersWithin limit (Ok None) d o e = IsTooLarge limit d o
-AnswersWithin limit (Err (By cause)) d o e = RefusedBy d o cause
-AnswersWithin limit (Err OutOfMemory) d o e = ⊤
+-- the scale once the operation is done: what its result weighs, and what work is left
+pub record ScaleFollows (scale next : Scale) (d : Document) (o : Operation) (e : Document) : Type 0 where
+  pub weighs : next.weight ≡ weight e
+  pub within : next.weight ≤ scale.limit
+  pub same_limit : next.limit ≡ scale.limit
+  pub work : ℕ
+  pub is_work : IsWork d o work
+  pub leaves : LeavesWork scale.work work next.work
+
+-- the operation is not refused, and its result weighs more, or its work is more than what is left
+abbrev pub IsTooMuch : Scale → Document → Operation → Type 0
+IsTooMuch scale d o =
+    ¬ IsRefused d o × (m : Document) × Step d o m × (w : ℕ) × IsWork d o w
+    × ((scale.limit < weight m) ⊎ ExceedsLeft scale.work w)
+
+-- the operation was taken from d to e, and the scale follows, or it is too much, or it is refused
+abbrev pub AnswersWithin : Scale → Result (Option Scale) (Refusal Cause) → Document → Operation → Document → Type 0
+AnswersWithin scale (Ok (Some next)) d o e = ¬ IsRefused d o × Step d o e × ScaleFollows scale next d o e
+AnswersWithin scale (Ok None) d o e = IsTooMuch scale d o
+AnswersWithin scale (Err (By cause)) d o e = RefusedBy d o cause
+AnswersWithin scale (Err OutOfMemory) d o e = ⊤
 
 -- whether a value fits below so many tokens
 abbrev pub Fits : Bool → Tokens → Document → Type 0
@@ -53,6 +94,6 @@ abbrev pub TakesToMove : {T : Type 0} → (T → Document) → Result (Option (T
     → Document → Tokens → Tokens → Document → Type 0
 TakesToMove f (Ok (Some taken)) d s t e =
     ¬ IsProperPrefix s t × (s ≢ t) × (part d s ≡ Some (f taken.0)) × Removes s d e × Fits taken.1 t (f taken.0)
-TakesToMove f (Ok None) d s t e = ¬ IsRefused d (move s t) × Step d (move s t) e × (e ≡ d)
+TakesToMove f (Ok None) d s t e = (s ≡ t) × ¬ IsRefused d (move s t) × Step d (move s t) e × (e ≡ d)
 TakesToMove f (Err (By cause)) d s t e = RefusedBy d (move s t) cause
 TakesToMove f (Err OutOfMemory) d s t e = ⊤

@@ -1,12 +1,13 @@
 -- What one call does to what is held. Only private clauses cite it.
-use Rattle.std.specs.Prelude.{◌≡◌, ◌↔◌, List, [], ◌∷◌, Option, None, Some, IfSome, option_map, ⊤}
+use Rattle.std.specs.Prelude.{◌≡◌, ◌↔◌, ℕ, List, [], ◌∷◌, Option, None, Some, IfSome, option_map, ⊤}
 use Rattle.mp_tree.specs.Document.{Document, IsDocument}
 use Rattle.mp_tree.specs.Look.{Path}
 use Rattle.mp_tree.specs.View.{document}
 use Rattle.mp_tree.specs.declared.doc.Doc.{Doc}
 use Rattle.mp_merge.specs.Clash.{AreAllClashes, Compatible}
 use Rattle.mp_merge.specs.Join.{IsJoin, JoinResumes}
-use Rattle.mp_replica.specs.Held.{Joins}
+use Rattle.mp_merge.specs.Within.{AreFirstConflicts}
+use Rattle.mp_replica.specs.Held.{AreFirstPlaces, HeldPlaces, Joins}
 
 -- a join, and a patch that was received and is not joined whole yet
 pub record HeldJoin : Type 0 where
@@ -45,3 +46,16 @@ ClashesWithJoin (Some k) p places = (¬ Compatible p k) × AreAllClashes p k pla
 abbrev pub ClashesWithAll : Option Document → Option Document → List Path → Type 0
 ClashesWithAll joined None places = ⊥
 ClashesWithAll joined (Some p) places = ClashesWithJoin joined p places
+
+-- the first of all conflicts of a patch with the join, and there are some
+abbrev pub HoldsClashesWithJoin : Option Document → Document → HeldPlaces → Type 0
+HoldsClashesWithJoin joined p held = (all : List Path) × ClashesWithJoin joined p all × AreFirstPlaces all held
+
+-- the same of the join that another holds
+abbrev pub HoldsClashesWithAll : Option Document → Option Document → HeldPlaces → Type 0
+HoldsClashesWithAll joined other held = (all : List Path) × ClashesWithAll joined other all × AreFirstPlaces all held
+
+-- the first conflicts of a patch with the join within a limit, and how many there are; without a join there is none
+abbrev pub FirstClashesWithJoin : ℕ → Option Document → Document → List Path → ℕ → Type 0
+FirstClashesWithJoin limit None p places total = (places ≡ []) × (total ≡ 0)
+FirstClashesWithJoin limit (Some k) p places total = AreFirstConflicts limit p k places total

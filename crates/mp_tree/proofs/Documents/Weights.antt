@@ -1,12 +1,12 @@
 -- The weight of a list or a map is the sum of its parts, also after a change.
-use Rattle.std.proofs.Common.{◌≡◌, ◌≢◌, ◌<◌, ◌≤◌, ◌-◌, ◌+◌, MatchOption, ℕ, zero, suc, List, [], ◌∷◌, ◌++◌, length, Bool, true, false, cond, Option, Some, None, Ordering, Less, Equal, Greater, is_eq, refl, sym, ap, ◌∙◌, arith}
+use Rattle.std.proofs.Common.{◌≡◌, ◌≢◌, ◌<◌, ◌≤◌, ◌-◌, ◌+◌, MatchOption, ℕ, zero, suc, List, length, Bool, true, false, cond, Option, Some, None, Ordering, Less, Equal, Greater, is_eq, refl, ap, ◌∙◌, arith}
 use Rattle.std.specs.Ordering.{match_ordering}
 use Rattle.mp_tree.specs.Document.{Document, null, flag, whole, string, list, object, Items, no_items, item, Members, no_members, member, name_cmp, is_name, find, put, without, IsBelow, IsMap}
 use Rattle.mp_tree.specs.Elements.{append, nth}
 use Rattle.mp_tree.specs.Weight.{scalar_weight, name_weight, weight, items_weight, members_weight}
 use Rattle.mp_tree.proofs.Documents.Elements.{set_item}
 use Rattle.mp_tree.proofs.Maps.Finite.{find-below, IsBelow-trans}
-use Rattle.mp_tree.proofs.Maps.Names.{same_name, same_from_cmp, is_name-less, is_name-self}
+use Rattle.mp_tree.proofs.Maps.Names.{same_name, same_from_cmp, is_name-self}
 
 -- ---- a list after a change
 

@@ -1,5 +1,5 @@
 use Rattle.std.proofs.Common.{◌≡◌, ◌≢◌, ◌<◌, [], ◌++◌, length, None, refl, sym, ap, ◌∙◌, subst, true≢false, arith}
-use Rattle.std.proofs.lemmas.Bool.{eq-eqb}
+use Rattle.std.proofs.lemmas.Bool.{eq-eqb, eqb-true}
 use Rattle.std.proofs.lemmas.List.{nil_from_length}
 use Rattle.std.specs.Vec.Iter.{into_iter_items}
 use Rattle.mp_tree.specs.View.{document}
@@ -27,14 +27,14 @@ loop-message-preserved c =
     let received = patches_of n so_far.passed in
     let places = c.in_ok-places.places in
     let here : epoch_of l.replica ≡ n = l.invariant.epoch in
-    let none : places.items ≡ [] = nil_from_length places.items (grind arith) in
+    let none : places.items ≡ [] = nil_from_length places.items (sym places.ok.0 ∙ eqb-true _ 0 (sym c.is_empty.ensures ∙ c.if-not-is_empty.false)) in
     let said = c.in_ok-places.ensures in
-    let was = c.receive.ensures in
+    let was = c.receive-delivery.ensures in
     record {
       epoch = was.epoch ∙ here;
-      received = one_further so_far c.in-Some.ensures.steps.0 (follows_one_more n start so_far.passed m (replica_of l.replica) (replica_of c.receive.new.self)
+      received = one_further so_far c.in-Some.ensures.steps.0 (follows_one_more n start so_far.passed m (replica_of l.replica) (replica_of c.receive-delivery.new.self)
           (λ same. let this = same ∙ sym here in
-          delivered c.receive.result start received (document m.patch) (replica_of l.replica) (replica_of c.receive.new.self) (was.follows this) (was.refused (said.pending this refl))
+          delivered c.receive-delivery.result start received (document m.patch) (replica_of l.replica) (replica_of c.receive-delivery.new.self) (was.follows this) (was.refused (said.pending this refl))
           (subst (AreClashesWith received (document m.patch)) none (said.places this start received so_far.holds)) so_far.holds)
           (λ late. ap replica_of (was.late (subst (λ k. m.epoch < k) (sym here) late)).1)
           (λ early. ap replica_of (was.early (subst (λ k. k < m.epoch) (sym here) early)).1)

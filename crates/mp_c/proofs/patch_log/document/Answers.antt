@@ -3,4 +3,4 @@ use Rattle.mp_tree.proofs.Facts.{IsDocument-document}
 use Rattle.mp_c.proofs.patch_log.document.Goals as goal
 
 pub returns : goal.returns
-returns c = (meaning_of c.in_ok-shown.shown, IsDocument-document c.in_ok-shown.shown, c.in_ok-shown.ensures, c.in_ok-write_doc.ensures.text)
+returns c limit = (meaning_of c.in_ok-shown.shown, IsDocument-document c.in_ok-shown.shown, c.in_ok-shown.ensures, c.in_ok-write_doc.ensures.text)

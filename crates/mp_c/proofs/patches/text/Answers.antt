@@ -8,9 +8,9 @@ use Rattle.mp_c.proofs.patches.text.Goals as goal
 pub returns-in-Err-Conflict : goal.returns-in-Err-Conflict
 returns-in-Err-Conflict c =
     let still = still_taken c.args.patches.now c.settle-settled.new.self c.settle-settled.ensures.taken in
-    conflicting c.args.limit c.args.patches.now c.settle-settled.new.self (stop_answer c.conflict_or.result) still
+    conflicting c.args.limit c.args.patches.now c.settle-settled.new.self (stop_answer c.conflict_of.result) still
     (λ texts has. subst (λ (why : LiveFault). IsNoJoinText why texts) c.in-Err-Conflict.field-0-is (c.in-Err-Conflict.ensures.join texts (still texts has)))
-    c.conflict_or.ensures
+    c.conflict_of.ensures
 
 pub returns-in-Err-NoPatches : goal.returns-in-Err-NoPatches
 returns-in-Err-NoPatches c =

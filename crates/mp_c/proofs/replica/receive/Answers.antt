@@ -10,11 +10,11 @@ returns-in-Taken c = (
   subst (λ (what : Received). Receives what c.args.patch.now c.args.replica.now c.receive_text.new.self) c.in-Taken.is c.in-Ok.ensures.texts,
 )
 
-pub returns-in_ok-conflict_with-in-Conflict : goal.returns-in_ok-conflict_with-in-Conflict
-returns-in_ok-conflict_with-in-Conflict c =
-    refuses c.args.limit c.args.patch.now c.args.replica.now c.receive_text.new.self c.in_ok-conflict_with-in-Conflict.field-0
+pub returns-in-Conflict : goal.returns-in-Conflict
+returns-in-Conflict c =
+    refuses c.args.limit c.args.patch.now c.args.replica.now c.receive_text.new.self c.in-Conflict.patch c.conflict_with.result
     (subst (λ (what : Received). Receives what c.args.patch.now c.args.replica.now c.receive_text.new.self) c.in-Conflict.is c.in-Ok.ensures.texts)
-    c.in_ok-conflict_with-in-Conflict.ensures
+    c.conflict_with.ensures
 
 pub returns-in-Pending : goal.returns-in-Pending
 returns-in-Pending c =

@@ -1,16 +1,16 @@
-use Rattle.std.proofs.Common.{List, length, string_bytes, sym, ap, ◌∙◌, subst}
+use Rattle.std.proofs.Common.{List, string_bytes, subst}
 use Rattle.std.proofs.lemmas.Option.{get_or_from_slice_get, slice_get_within}
 use Rattle.mp_tree.specs.Look.{Path}
-use Rattle.mp_texts.specs.PlacesTexts.{IsPlacesText}
-use Rattle.mp_replica.specs.PatchLog.{IsDecideFault, IsFirstPair, Pair, stored_of}
+use Rattle.mp_replica.specs.PatchLog.{IsDecideFault, IsFirstPair, stored_of}
 use Rattle.mp_replica.specs.declared.fault.DecideFault.{DecideFault}
+use Rattle.mp_c.specs.OnHandles.{IsPlacesTextOrNone}
 use Rattle.mp_c.proofs.undecided.undecided_of.Goals as goal
 
 pub returns-in-NotReceived : goal.returns-in-NotReceived
 returns-in-NotReceived c log fault =
     let chosen = c.args.chosen.now in
     let i = c.in-NotReceived.identity in
-    let why = subst (λ (why : DecideFault). IsDecideFault why log chosen) c.in-NotReceived.is fault in
+    let why = subst (λ (why : DecideFault). IsDecideFault c.args.limit why log chosen) c.in-NotReceived.is fault in
     let first = why.1 in (
       why.0,
       record {
@@ -20,20 +20,21 @@ returns-in-NotReceived c log fault =
       },
     )
 
-pub returns-in-Ok : goal.returns-in-Ok
-returns-in-Ok c log fault =
+pub returns-in-Conflict : goal.returns-in-Conflict
+returns-in-Conflict c log fault =
     let chosen = c.args.chosen.now in
-    let pair : Pair = record { first = c.in-Conflict.first; second = c.in-Conflict.second; places = c.in-Conflict.places.items } in
-    let why = subst (λ (why : DecideFault). IsDecideFault why log chosen) c.in-Conflict.is fault in
-    let is_first : IsFirstPair (stored_of log) chosen pair = why.2 in (
+    let why = subst (λ (why : DecideFault). IsDecideFault c.args.limit why log chosen) c.in-Conflict.is fault in
+    let is_first : IsFirstPair (stored_of log) chosen c.in-Conflict.first c.in-Conflict.second = why.2 in (
       why.0,
       why.1,
       record {
-        pair = pair;
+        one = c.in-Conflict.first;
+        other = c.in-Conflict.second;
         is_first = is_first;
-        at_first = c.number_of-first.ensures is_first.chosen_first;
-        at_second = c.number_of-second.ensures is_first.chosen_second;
-        counted = c.len-total.ensures ∙ sym c.as_slice.ensures.len ∙ ap length c.as_slice.ensures.value;
-        text = subst (λ (places : List Path). IsPlacesText c.args.limit places (string_bytes c.in-Ok.places)) c.as_slice.ensures.value c.in-Ok.ensures.first;
+        at_first = c.number_of-in-Conflict.ensures is_first.chosen_first;
+        at_second = c.number_of-in-Conflict-2.ensures is_first.chosen_second;
+        places = c.in-Conflict.conflicts.places.items;
+        conflicts = why.3;
+        text = subst (λ (places : List Path). IsPlacesTextOrNone c.args.limit places (string_bytes c.text_of_places.result)) c.as_slice.ensures.value c.text_of_places.ensures;
       },
     )

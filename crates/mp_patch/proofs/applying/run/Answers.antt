@@ -28,7 +28,7 @@ loop-op-preserved g c =
     let l = c.loop-op in
     let answer = c.in_default.ensures.answer in
     record {
-      ran = run_further (λ os e. Runs (g.T.Node.means c.args.doc) os e) g.O.StepOwned.means c.args.ops.items (into_iter_items l.op-iterator) l.done (g.T.Node.means l.result) l.invariant.ran c.in-Some.op (into_iter_items c.next.new.self) c.in-Some.ensures.steps.0 (g.T.Node.means c.step_owned.new.doc) (λ os run. Runs-more os (g.T.Node.means c.args.doc) (g.T.Node.means l.result) (g.T.Node.means c.step_owned.new.doc) (g.O.StepOwned.means c.in-Some.op) run answer.0 answer.1);
+      ran = run_further (λ os e. Runs (g.T.Node.means c.args.doc) os e) g.O.StepOwned.means c.args.ops.items (into_iter_items l.op-iterator) l.done (g.T.Node.means l.result) l.invariant.ran c.in-Some.op (into_iter_items c.next.new.self) c.in-Some.ensures.steps.0 (λ os e. Runs (g.T.Node.means c.args.doc) os e) (g.T.Node.means c.step_owned.new.doc) (λ os run. Runs-more os (g.T.Node.means c.args.doc) (g.T.Node.means l.result) (g.T.Node.means c.step_owned.new.doc) (g.O.StepOwned.means c.in-Some.op) run answer.0 answer.1);
       bounds = c.in_default.ensures.bounds;
       shallow = λ shallow. Step-depth (g.T.Node.means l.result) (g.O.StepOwned.means c.in-Some.op) (g.T.Node.means c.step_owned.new.doc) answer.0 answer.1 (c.requires.documents l.result) (c.requires.documents c.step_owned.new.doc) (l.invariant.shallow shallow);
       can_next = tt;

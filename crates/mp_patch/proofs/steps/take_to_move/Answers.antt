@@ -18,7 +18,7 @@ returns-in-Some-clause-taken g c =
     let apart : ¬ IsProperPrefix f t = λ h. true≢false (sym (c.is_proper_prefix_of.ensures.1 h) ∙ c.if-is_proper_prefix_of.false) in
     let same : f ≡ t = (Decides-at _ _ c.eq.ensures (are_same_tokens-Decides f t)).0 c.if-eq.true in
     let done = stays (m c.args.doc.now) (m c.in-Some.field-0.now) f t apart same (sym c.in-Some.ensures) in
-    (done.0, done.1, refl)
+    (same, done.0, done.1, refl)
 
 pub returns-in_err-part-clause-taken : goal.returns-in_err-part-clause-taken
 returns-in_err-part-clause-taken g c =

@@ -1,9 +1,10 @@
-use Rattle.std.proofs.Common.{string_bytes, refl, sym}
+use Rattle.std.proofs.Common.{refl, sym}
+use Rattle.mp_tree.specs.Text.{text as compact}
 use Rattle.mp_tree.specs.Values.{value_document}
 use Rattle.mp_texts.specs.Answers.{IsPartText}
 use Rattle.mp_texts.specs.Faults.{IsMissingPart, IsPartTextFault}
 use Rattle.mp_texts.proofs.Readings.{text_written}
-use Rattle.mp_texts.proofs.Short.{answered}
+use Rattle.mp_texts.proofs.Short.{answered_of}
 use Rattle.mp_texts.proofs.documents.part_text.Goals as goal
 
 -- a part of what can be read can be read
@@ -13,19 +14,20 @@ returns-in-Some c =
     let pointer = c.args.pointer.now in
     let d = value_document c.in_ok-doc.doc in
     let x = value_document c.in-Some.part.now in
-    let written = c.in_ok-write_value-in-Some in
+    let written = compact x in
+    let back = c.text_unless_longer.ensures.reads_back in
     let is_part = sym c.in-Some.ensures in
     let good = c.parts_are_readable.ensures c.in_ok-pointer.pointer d x (c.readings_are_documents.ensures.document document d c.in_ok-doc.ensures) is_part in
-    let is : IsPartText document pointer (string_bytes written.field-0) = record {
+    let is : IsPartText document pointer written = record {
       from = d;
       document_read = c.in_ok-doc.ensures;
       tokens = c.in_ok-pointer.pointer;
       spelled = c.in_ok-pointer.ensures.spelled;
       value = x;
       is_part = is_part;
-      text = text_written x (string_bytes written.field-0) written.ensures.text written.ensures.reads_back good.within;
+      text = text_written x written refl back good.within;
     } in
-    answered c.args.limit c.unless_longer.result written.field-0 (IsPartText document pointer) (λ fault. IsPartTextFault c.args.limit fault document pointer) c.unless_longer.ensures is (λ long. (refl, long))
+    answered_of c.args.limit c.text_unless_longer.result written (IsPartText document pointer) (λ fault. IsPartTextFault c.args.limit fault document pointer) c.text_unless_longer.ensures.text is (λ long. (refl, long)) tt
 
 pub returns : goal.returns
 returns c =

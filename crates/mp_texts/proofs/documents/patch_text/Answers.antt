@@ -1,10 +1,11 @@
-use Rattle.std.proofs.Common.{string_bytes, inr, refl}
+use Rattle.std.proofs.Common.{inr, refl}
+use Rattle.mp_tree.specs.Text.{text as compact}
 use Rattle.mp_tree.specs.Values.{value_document}
 use Rattle.mp_patch.specs.View.{value_operations}
 use Rattle.mp_texts.specs.Answers.{IsLightPatchText, IsPatchText}
 use Rattle.mp_texts.specs.Faults.{IsPatchTextFault}
 use Rattle.mp_texts.proofs.Readings.{text_written}
-use Rattle.mp_texts.proofs.Short.{answered}
+use Rattle.mp_texts.proofs.Short.{answered_of}
 use Rattle.mp_texts.proofs.documents.patch_text.Goals as goal
 
 -- what the operations leave can be read, since the document and the patch can
@@ -16,14 +17,15 @@ returns c =
     let form = value_document c.in_ok-form.form in
     let operations = value_operations c.in_ok-operations.operations.items in
     let end = value_document c.in_ok-patched.patched in
-    let written = c.in_ok-write_value in
+    let written = compact end in
+    let back = c.text_unless_longer.ensures.reads_back in
     let readable = c.readings_are_documents.ensures.document in
     let forms = c.in_ok-operations.ensures in
     let steps = c.in_ok-patched.ensures.within in
     let runs = c.in_ok-patched.ensures.runs in
     let writable = c.forms_are_writable.ensures form operations (readable json_patch form c.in_ok-form.ensures) forms in
     let good = c.runs_are_readable.ensures d end operations (readable document d c.in_ok-doc.ensures) writable runs in
-    let is : IsPatchText document json_patch (string_bytes written.field-0) = record {
+    let is : IsPatchText document json_patch written = record {
       from = d;
       document_read = c.in_ok-doc.ensures;
       form = form;
@@ -32,7 +34,7 @@ returns c =
       forms = forms;
       end = end;
       runs = runs;
-      text = text_written end (string_bytes written.field-0) written.ensures.text written.ensures.reads_back good.within;
+      text = text_written end written refl back good.within;
     } in
-    let light : IsLightPatchText c.args.limit document json_patch (string_bytes written.field-0) = (is, steps) in
-    answered c.args.limit c.unless_longer.result written.field-0 (IsLightPatchText c.args.limit document json_patch) (λ fault. IsPatchTextFault c.args.limit fault document json_patch) c.unless_longer.ensures light (λ long. inr (refl, long))
+    let light : IsLightPatchText c.args.limit document json_patch written = (is, steps) in
+    answered_of c.args.limit c.text_unless_longer.result written (IsLightPatchText c.args.limit document json_patch) (λ fault. IsPatchTextFault c.args.limit fault document json_patch) c.text_unless_longer.ensures.text light (λ long. inr (refl, long)) tt

@@ -1,12 +1,13 @@
-use Rattle.std.proofs.Common.{◌≤◌, map, string_bytes, refl, subst, sym}
+use Rattle.std.proofs.Common.{◌≤◌, map, refl, subst, sym}
 use Rattle.mp_tree.specs.Document.{Document, depth, depth_limit}
+use Rattle.mp_tree.specs.Text.{text as compact}
 use Rattle.mp_tree.specs.Values.{value_document}
 use Rattle.mp_texts.specs.Answers.{IsMergeText, IsTextOf}
 use Rattle.mp_texts.specs.Faults.{IsMergeTextFault}
 use Rattle.mp_texts.specs.Texts.{given}
 use Rattle.mp_texts.proofs.Merging.{in_turn-readable}
 use Rattle.mp_texts.proofs.Readings.{all_readable, text_written}
-use Rattle.mp_texts.proofs.Short.{answered}
+use Rattle.mp_texts.proofs.Short.{answered_of}
 use Rattle.mp_texts.proofs.lists.merge_texts.Goals as goal
 
 -- what the patches leave can be read, since the document and the patches can
@@ -18,13 +19,14 @@ returns c =
     let readable = c.readings_are_documents.ensures.document in
     let good = in_turn-readable c.merged_is_readable.ensures d ps (readable c.args.document.now d c.in_ok-doc.ensures) (all_readable readable texts ps c.in_ok-patches.ensures) in
     let merged = value_document c.in_ok-merged.merged in
-    let written = c.in_ok-write_value in
+    let written = compact merged in
+    let back = c.text_unless_longer.ensures.reads_back in
     let within : depth merged ≤ depth_limit = subst (λ (x : Document). depth x ≤ depth_limit) (sym c.in_ok-merged.ensures) good.within in
-    let is : IsMergeText c.args.document.now texts (string_bytes written.field-0) = record {
+    let is : IsMergeText c.args.document.now texts written = record {
       from = d;
       document_read = c.in_ok-doc.ensures;
       documents = ps;
       read = c.in_ok-patches.ensures;
-      text = subst (λ (x : Document). IsTextOf x (string_bytes written.field-0)) c.in_ok-merged.ensures (text_written merged (string_bytes written.field-0) written.ensures.text written.ensures.reads_back within);
+      text = subst (λ (x : Document). IsTextOf x written) c.in_ok-merged.ensures (text_written merged written refl back within);
     } in
-    answered c.args.limit c.unless_longer.result written.field-0 (IsMergeText c.args.document.now texts) (λ fault. IsMergeTextFault c.args.limit fault c.args.document.now texts) c.unless_longer.ensures is (λ long. (refl, long))
+    answered_of c.args.limit c.text_unless_longer.result written (IsMergeText c.args.document.now texts) (λ fault. IsMergeTextFault c.args.limit fault c.args.document.now texts) c.text_unless_longer.ensures.text is (λ long. (refl, long)) tt

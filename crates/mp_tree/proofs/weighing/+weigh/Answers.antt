@@ -1,7 +1,7 @@
 use Rattle.std.proofs.Common.{◌≡◌, ◌<◌, ◌≤◌, ◌+◌, ◌∷◌, List, length, String, Global, string_bytes, string_cmp, ap, ◌∙◌, subst, arith}
 use Rattle.std.specs.List.Sorted.{IsStrictlySortedBy}
 use Rattle.std.specs.Map.{keys_of}
-use Rattle.mp_tree.specs.Document.{Document, member, depth, members_depth}
+use Rattle.mp_tree.specs.Document.{Document, depth, members_depth}
 use Rattle.mp_tree.specs.Weight.{name_weight, weight, members_weight}
 use Rattle.mp_tree.specs.View.{members_by}
 use Rattle.mp_tree.proofs.Texts.IntoData.{members-cons-by}

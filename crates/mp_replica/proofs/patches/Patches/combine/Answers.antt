@@ -1,4 +1,5 @@
 use Rattle.std.proofs.Common.{◌∙◌, ap, sym}
+use Rattle.mp_replica.specs.Held.{held_places}
 use Rattle.mp_replica.specs.declared.patches.Added.TheVariants.{Conflict}
 use Rattle.mp_replica.proofs.Growing.{some_mapped}
 use Rattle.mp_replica.proofs.Taking.{conflict_takes_all, takes_conflict_over}
@@ -7,7 +8,7 @@ use Rattle.mp_replica.proofs.patches.Patches.combine.Goals as goal
 
 pub returns-then-is_some-clause-taken : goal.returns-then-is_some-clause-taken
 returns-then-is_some-clause-taken c taken others has have =
-    let some = some_mapped (λ v. v.items) c.self.inside.places c.args.self.now.places c.if-is_some.ensures (ap (λ r. r.places) c.self.view_is) in
+    let some = some_mapped held_places c.self.inside.places c.args.self.now.places c.if-is_some.ensures (ap (λ r. r.places) c.self.view_is) in
     (conflict_takes_all c.args.self.now c.args.other.now taken others some has have, c.clear.ensures, some)
 
 pub returns-then-is_some-clause-texts : goal.returns-then-is_some-clause-texts
@@ -16,7 +17,7 @@ returns-then-is_some-clause-texts c texts others has have =
 
 pub returns-then-is_some-2-clause-taken : goal.returns-then-is_some-2-clause-taken
 returns-then-is_some-2-clause-taken c taken others has have =
-    let some = some_mapped (λ v. v.items) c.other.inside.places c.args.other.now.places c.if-is_some-2.ensures (ap (λ r. r.places) c.other.view_is) in
+    let some = some_mapped held_places c.other.inside.places c.args.other.now.places c.if-is_some-2.ensures (ap (λ r. r.places) c.other.view_is) in
     let took = c.take_conflict.ensures in (
       takes_conflict_over c.args.self.now c.args.other.now c.take_conflict.new.self taken others some took.places took.joined took.pending has have,
       took.left,

@@ -1,4 +1,4 @@
-use Rattle.std.proofs.Common.{IfSome, option_map, rules, subst, sym}
+use Rattle.std.proofs.Common.{IfSome, option_map, refl, rules, subst, sym}
 use Rattle.mp_tree.specs.View.{document}
 use Rattle.mp_merge.specs.Clash.{Compatible}
 use Rattle.mp_replica.proofs.Following.{clashes_if_unfit}
@@ -8,6 +8,7 @@ pub returns-then-not-fits-clause-follows : goal.returns-then-not-fits-clause-fol
 returns-then-not-fits-clause-follows c start received follows =
     let still = c.settle.ensures.follows start received follows in
     let settled = c.if-not-settle.ensures.settled.0 (search rules) in (
+      refl,
       still,
       settled,
       clashes_if_unfit c.merge_laws.ensures start received c.settle.new.self c.args.patch settled

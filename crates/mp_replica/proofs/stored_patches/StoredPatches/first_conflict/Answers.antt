@@ -1,6 +1,5 @@
-use Rattle.std.proofs.Common.{[], length, IfOk, MatchOption, subst}
-use Rattle.std.proofs.lemmas.Result.{IfOk-weaker}
-use Rattle.mp_replica.specs.PatchLog.{IsFirstPair, seen, stored_in}
+use Rattle.std.proofs.Common.{[], length, MatchOption, subst}
+use Rattle.mp_replica.specs.PatchLog.{IsFirstPair, stored_in}
 use Rattle.mp_replica.specs.Private.Pairs.{ArePairsBefore, IsFirstFrom}
 use Rattle.mp_replica.specs.Private.StoredPatches.{AreApart}
 use Rattle.mp_replica.proofs.Reporting.{both_chosen, found_of_chosen}
@@ -12,7 +11,6 @@ returns c =
     let known = c.self.inside.conflicting.items in
     let chosen = c.args.chosen.now in
     let ids = c.in_ok-identities.identities.items in
-    subst (λ l. IfOk c.first_pair.result (λ found. MatchOption found (AreApart (stored_in l) chosen) (λ pair. IsFirstPair (stored_in l) chosen (seen pair)))) c.self.view_is
-    (IfOk-weaker c.first_pair.result _ _ (λ found is. found_of_chosen es known chosen ids c.self.invariant.conflicting c.in_ok-identities.ensures.rising
-    (both_chosen es known chosen ids c.as_slice-known.ensures.value c.in_ok-identities.ensures.members) found
-    (subst (λ l. MatchOption found (ArePairsBefore (stored_in es) l (length l) 0 []) (λ pair. IsFirstFrom (stored_in es) l (seen pair))) c.as_slice.ensures.value is)) c.first_pair.ensures)
+    subst (λ l. MatchOption c.first_pair.result (AreApart (stored_in l) chosen) (λ pair. IsFirstPair (stored_in l) chosen pair.0 pair.1)) c.self.view_is
+    (found_of_chosen es known chosen ids c.self.invariant.conflicting c.in_ok-identities.ensures.rising (both_chosen es known chosen ids c.as_slice-known.ensures.value c.in_ok-identities.ensures.members) c.first_pair.result
+    (subst (λ l. MatchOption c.first_pair.result (ArePairsBefore (stored_in es) l (length l) 0 []) (λ pair. IsFirstFrom (stored_in es) l pair.0 pair.1)) c.as_slice.ensures.value c.first_pair.ensures))

@@ -1,13 +1,12 @@
-use Rattle.std.proofs.Common.{◌≡◌, None, Some, IfSome, option_map, sym, ap, ◌∙◌, subst, true≢false}
+use Rattle.std.proofs.Common.{◌≡◌, ◌++◌, ◌∷◌, [], None, Some, IfSome, option_map, sym, ap, ◌∙◌, subst, true≢false}
 use Rattle.mp_tree.specs.View.{document}
 use Rattle.mp_merge.specs.Clash.{Compatible}
 use Rattle.mp_replica.specs.PatchLog.{StoresAlso, stored_in}
 use Rattle.mp_replica.specs.Private.Steps.{SameJoins}
-use Rattle.mp_replica.specs.Private.StoredPatches.{AreConflictingWith, FitsAll, JoinsOthers, KnowsConflicts}
-use Rattle.mp_replica.proofs.Conflicting.{knows_conflict, knows_more, knows_still, others_are_apart}
+use Rattle.mp_replica.specs.Private.StoredPatches.{FitsAll, KnowsConflicts}
+use Rattle.mp_replica.proofs.Conflicting.{clashes_if_unfit, knows_listed, knows_more, knows_still}
 use Rattle.mp_replica.proofs.Identities.{stores_also}
 use Rattle.mp_replica.proofs.stored_patches.StoredPatches.insert.Goals as goal
-use Rattle.mp_replica.proofs.stored_patches.StoredPatches.insert.Goals.{else-fits-via-then-fits+else-fits_all, else-fits-via-else-fits}
 
 pub invariant_of-self : goal.invariant_of-self
 invariant_of-self c = knows_still c.self.invariant c.settle.ensures.stays
@@ -30,7 +29,7 @@ invariant_of-self-then-fits_all c =
     let absent = subst (λ l. stored_in l c.args.identity ≡ None) (sym c.self.view_is) c.requires in
     let more = subst (λ d. StoresAlso (stored_in es) c.args.identity d (stored_in c.insert.new.self.entries)) (sym same)
     (stores_also es c.insert.new.self.entries c.args.identity c.args.patch c.in_ok-insert.ensures.updates.2 c.in_ok-insert.ensures.updates.1) in
-    let fits = subst (λ d. IfSome (option_map document held.joined) (Compatible d)) (sym same) (c.fits.ensures.0 c.if-fits.true) in
+    let fits = subst (λ d. IfSome (option_map document held.joined) (Compatible d)) (sym same) (c.fits.ensures.0 c.if-not-fits.false) in
     let each = subst (λ d. FitsAll (stored_in es) known d) (sym same) (subst (λ l. FitsAll (stored_in es) l (document c.args.patch)) c.as_slice.ensures.value (c.fits_all.ensures.0 c.if-fits_all.true)) in
     let stays : SameJoins (option_map document held.joined) (Some (document copy)) (option_map document now.joined) (option_map document now.pending) = subst (λ m. SameJoins m (Some (document copy)) (option_map document now.joined) (option_map document now.pending)) (ap (option_map document) c.put.ensures.joined)
     (subst (λ o. SameJoins (option_map document c.put.new.self.joined) (option_map document o) (option_map document now.joined) (option_map document now.pending)) c.put.ensures.pending c.settle-settled.ensures.stays) in
@@ -44,18 +43,6 @@ returns-then-fits_all-clause-stored c =
 pub invariant_of-self-in_err-conflicting : goal.invariant_of-self-in_err-conflicting
 invariant_of-self-in_err-conflicting c = knows_still c.self.invariant c.settle.ensures.stays
 
-pub join_of_others-requires : goal.join_of_others-requires
-join_of_others-requires c =
-    let es = c.self.inside.patches.entries in
-    let p = document c.args.patch in
-    let found = c.in_ok-conflicting.conflicting.items in
-    let are = subst (λ l. AreConflictingWith (stored_in es) c.args.identity p l found) c.as_slice-known.ensures.value c.in_ok-conflicting.ensures in
-    let apart = others_are_apart (stored_in es) c.args.identity p c.self.inside.conflicting.items found c.self.invariant.conflicting are in
-    subst (λ l. (i j : _) (q r : _) → stored_in es i ≡ Some q → stored_in es j ≡ Some r → ¬ Rattle.std.specs.List.Contains l i → ¬ Rattle.std.specs.List.Contains l j → Compatible q r) (sym c.as_slice-2.ensures.value) apart
-
-pub invariant_of-self-in_err-join : goal.invariant_of-self-in_err-join
-invariant_of-self-in_err-join c = knows_still c.self.invariant c.settle.ensures.stays
-
 pub invariant_of-self-in_err-insert-2 : goal.invariant_of-self-in_err-insert-2
 invariant_of-self-in_err-insert-2 c =
     subst (λ es. KnowsConflicts es c.self.inside.conflicting.items c.settle.new.self) (sym c.in_err-insert-2.ensures.err) (knows_still c.self.invariant c.settle.ensures.stays)
@@ -64,21 +51,23 @@ pub invariant_of-self-2 : goal.invariant_of-self-2
 invariant_of-self-2 c =
     let es = c.self.inside.patches.entries in
     let d = c.args.patch in
-    let found = c.in_ok-conflicting.conflicting.items in
     let known = c.self.inside.conflicting.items in
-    let held = c.settle.new.self in
     let absent = subst (λ l. stored_in l c.args.identity ≡ None) (sym c.self.view_is) c.requires in
     let more = stores_also es c.insert-2.new.self.entries c.args.identity d c.in_ok-insert-2.ensures.updates.2 c.in_ok-insert-2.ensures.updates.1 in
-    let some : ¬ (IfSome (option_map document held.joined) (Compatible (document d)) × FitsAll (stored_in es) known (document d)) = elim c.else-fits.branch [
-      | else-fits-via-then-fits+else-fits_all w ↦ λ both.
-          true≢false (sym (w.fits_all.ensures.1 (subst (λ l. FitsAll (stored_in es) l (document d)) (sym w.as_slice.ensures.value) both.1)) ∙ w.if-fits_all.false)
-      | else-fits-via-else-fits w ↦ λ both. true≢false (sym (c.fits.ensures.1 both.0) ∙ w.if-fits.false)
-    ] in
-    let are = subst (λ l. AreConflictingWith (stored_in es) c.args.identity (document d) l found) c.as_slice-known.ensures.value c.in_ok-conflicting.ensures in
-    let others = subst (λ l. JoinsOthers (stored_in es) l c.in_ok-join.join) c.as_slice-2.ensures.value c.in_ok-join.ensures in
-    knows_conflict c.merge_laws.ensures d (knows_still c.self.invariant c.settle.ensures.stays) absent more c.in_ok-insert-2.ensures.ordered (c.settle.ensures.settled.0 c.if-not-settle.false) some are others
+    let some : ¬ FitsAll (stored_in es) known (document d) = λ each.
+    true≢false (sym (c.fits_all.ensures.1 (subst (λ l. FitsAll (stored_in es) l (document d)) (sym c.as_slice.ensures.value) each)) ∙ c.if-fits_all.false) in
+    knows_listed c.merge_laws.ensures d (knows_still c.self.invariant c.settle.ensures.stays) absent more c.in_ok-insert-2.ensures.ordered (c.settle.ensures.settled.0 c.if-not-settle.false)
+    (c.fits.ensures.0 c.if-not-fits.false) some (c.in_ok-conflicting.ensures ∙ ap (λ l. l ++ c.args.identity ∷ []) c.as_slice-2.ensures.value)
 
 pub returns-clause-stored : goal.returns-clause-stored
 returns-clause-stored c =
     subst (λ es. StoresAlso (stored_in es) c.args.identity (document c.args.patch) (stored_in c.insert-2.new.self.entries)) c.self.view_is
     (stores_also c.self.inside.patches.entries c.insert-2.new.self.entries c.args.identity c.args.patch c.in_ok-insert-2.ensures.updates.2 c.in_ok-insert-2.ensures.updates.1)
+
+pub invariant_of-self-then-not-fits : goal.invariant_of-self-then-not-fits
+invariant_of-self-then-not-fits c = knows_still c.self.invariant c.settle.ensures.stays
+
+pub insert_anew-requires-clause-clash : goal.insert_anew-requires-clause-clash
+insert_anew-requires-clause-clash c =
+    let unfit : ¬ IfSome (option_map document c.settle.new.self.joined) (Compatible (document c.args.patch)) = λ fits. true≢false (sym (c.fits.ensures.1 fits) ∙ c.if-not-fits.true) in
+    clashes_if_unfit c.merge_laws.ensures c.args.patch (knows_still c.self.invariant c.settle.ensures.stays) (c.settle.ensures.settled.0 c.if-not-settle.false) unfit

@@ -1,0 +1,35 @@
+use Rattle.std.proofs.Common.{◌∷◌, ◌++◌, [], length, map, take, ap, ◌∙◌, arith}
+use Rattle.std.proofs.lemmas.List.{take_all}
+use Rattle.mp_replica.specs.LogTexts.{pair_text, pairs_text}
+use Rattle.mp_replica.specs.PatchLog.{seen}
+use Rattle.mp_replica.proofs.PairTexts.{fit_or_none, long-push, seen_more, spelled, spelled-append}
+use Rattle.mp_replica.proofs.pairs_texts.count_within.Goals as goal
+
+pub returns-in_default-clause-within : goal.returns-in_default-clause-within
+returns-in_default-clause-within c =
+    (omega (arith, c.loop-count-test.true), fit_or_none (map seen (take c.loop-count.count c.args.pairs.now)) c.args.limit c.loop-count.left c.loop-count.invariant)
+
+pub returns-in_default-clause-longest : goal.returns-in_default-clause-longest
+returns-in_default-clause-longest c within =
+    let pairs = c.args.pairs.now in
+    let k = c.loop-count.count in
+    let pair = c.index-pairs-count.result in
+    let long = ap length (c.as_str.ensures.value ∙ c.in_ok-push_pair.ensures ∙ ap (λ t. t ++ pair_text (seen pair)) c.new-text.ensures.bytes) in
+    let more = ap (λ ps. length (pairs_text ps)) (seen_more pairs k pair c.loop-count-test.true c.index-pairs-count.is) in
+    omega (arith, more, long-push (map seen (take k pairs)) (seen pair), long, c.in_default.ensures, c.loop-count.invariant)
+
+pub loop-count-preserved : goal.loop-count-preserved
+loop-count-preserved c =
+    let pairs = c.args.pairs.now in
+    let k = c.loop-count.count in
+    let pair = c.index-pairs-count.result in
+    let long = ap length (c.as_str.ensures.value ∙ c.in_ok-push_pair.ensures ∙ ap (λ t. t ++ pair_text (seen pair)) c.new-text.ensures.bytes) in
+    let more = ap spelled (seen_more pairs k pair c.loop-count-test.true c.index-pairs-count.is) in
+    omega (arith, more, spelled-append (map seen (take k pairs)) (seen pair ∷ []), long, c.in-Some.ensures, c.loop-count.invariant)
+
+pub returns-clause-within : goal.returns-clause-within
+returns-clause-within c =
+    let pairs = c.args.pairs.now in
+    let all = ap (λ ps. spelled (map seen ps)) (take_all c.loop-count.count pairs (omega (arith, c.loop-count-test.false))) in
+    let whole = ap (λ ps. spelled (map seen ps)) (take_all (length pairs) pairs (omega arith)) in
+    (omega arith, fit_or_none (map seen (take (length pairs) pairs)) c.args.limit c.loop-count.left (omega (arith, whole, all, c.loop-count.invariant)))

@@ -1,0 +1,44 @@
+//! The places of a conflict that come first, as many as may be held.
+ghost use Rattle.mp_merge.specs.Clash.{Compatible};
+ghost use Rattle.mp_tree.specs.View.{document};
+ghost use Rattle.std.specs.Prelude.{Some};
+ghost use Rattle.mp_replica.specs.Held.{held_places};
+ghost use Rattle.mp_replica.specs.Private.Steps.{HoldsClashesWithJoin};
+
+use crate::laws::merge_laws;
+use mp_merge::{Conflicts, conflict_within};
+use mp_pointer::Pointer;
+use mp_tree::Doc;
+use std::alloc::Global;
+
+// What the places of a conflict that are held weigh at most, in bytes.
+const PLACES_BOUND: usize = 65_536;
+
+/// Of the places at which two patches conflict, in the order of paths, those that come first: as many as weigh at most 65,536
+/// bytes together. A place weighs 128 bytes, 8 for each token, and the bytes of its spelling.
+#[derive(Debug, Drop)]
+pub struct FirstPlaces {
+    /// These places. If memory ran out while they were found, there may be none.
+    pub places: Vec<Pointer>,
+    /// Whether there are more.
+    pub more: bool,
+}
+
+// The first conflicts of two patches that conflict. If memory runs out, none is held, and there are more.
+pub(crate) fn first_places(alloc: Global, patch: &Doc, joined: &Doc) -> FirstPlaces
+    requires { ¬ Compatible (document patch.now) (document joined.now) }
+    ensures { HoldsClashesWithJoin (Some (document joined.now)) (document patch.now)
+        (held_places result) }
+{
+    merge_laws();
+    match conflict_within(alloc, patch, joined, PLACES_BOUND) {
+        Ok(Conflicts { places, total }) => {
+            let more = places.len() < total;
+            FirstPlaces { places, more }
+        }
+        Err(_) => FirstPlaces {
+            places: Vec::new(alloc),
+            more: true,
+        },
+    }
+}
