@@ -65,6 +65,10 @@ class Copy:
     def join(self, *words):
         return self.run(["bin/mergejoin", "join", *words])
 
+    def proofs(self, crate):
+        """How often the toolchain has proved a crate, as what it keeps there says."""
+        return (self.top / "crates" / crate / "out/incremental/lines").read_text().count("\n")
+
     def asked(self):
         """What the toolchain was asked for since this was last asked."""
         lines = self.log.read_text().splitlines() if self.log.exists() else []

@@ -5,16 +5,20 @@
 # EDITS names a source of mp_tree, that is edited just before mp_tree is proved, and put back at the end unless STAYS is set;
 # what is built says which text was read. Its ci says what is in GATE, and ends with ENDS; if TOUCHES names a file or a
 # directory, it changes or moves that, and puts it back. bin/prove hands on no variable, so these stand in a file too. If one comes
-# with it all the same, that is noted.
+# with it all the same, that is noted. Of what it proves it keeps a line for each time in out/incremental, as rt keeps its work there. An
+# archive that stands next to it is what it makes of mp_c. A run for which it is given less than ten minutes has no answer.
 setting=${BASH_SOURCE[0]%/*}/setting
 if [[ -n ${STRAY-} ]]; then echo "$STRAY came too" >>"$STRAY"; fi
 # shellcheck disable=SC1090
 if [[ -r $setting ]]; then . "$setting"; fi
 case $1 in
 version) echo 'a kit for tests' ;;
+doc) echo "${BASH_SOURCE[0]%/*}/START-HERE.md" ;;
 lib)
   if [[ -n ${FAILS-} && $PWD == */mp_patch ]]; then echo 'not proved' && exit 1; fi
   echo "${PWD##*/}" >>"$LOG"
+  mkdir -p out/incremental && echo proved >>out/incremental/lines
+  if [[ $PWD == */mp_c ]]; then cp "${BASH_SOURCE[0]%/*}/libmp_c.a" out; fi
   if [[ $TMPDIR != /* || $TMPDIR == *' '* ]]; then echo "temporary files in $TMPDIR" >>"$LOG"; fi
   if [[ -n ${EDITS-} && $PWD == */mp_tree ]]; then
     printf '//! Two.\n' >"$EDITS"
@@ -33,6 +37,7 @@ run)
   mkdir -p out && printf '%s\n' '#!/usr/bin/env bash' 'echo "proved $*'"$of\"" >out/mergejoin && chmod +x out/mergejoin
   ;;
 try)
+  if [[ $2 != --seconds ]] || (($3 < 600)); then echo 'the run had no time' >&2 && exit 2; fi
   while [[ $1 != -- ]]; do shift; done
   shift
   echo "try in ${PWD##*/}" >>"$LOG"

@@ -168,13 +168,15 @@ def test_random_patches_give_the_pairs_that_a_model_gives(counted, seed):
 
 
 def test_where_nothing_is_proved_each_run_is_counted(copy):
+    """And it is said of how many at most: one for each file and four for each two."""
     for name in "abc":
         copy.write(name, json.dumps({name: "x" * 400_000}))
-    status, out, err = copy.run(["bin/conflicts", "a", "b", "c"], cwd=copy.top)
+    status, out, err = copy.run(["bin/conflicts", "--", "a", "b", "c"], cwd=copy.top)
     first, rest = err[:len(UNPROVED)], err[len(UNPROVED):]
     assert (status, out, first) == (0, "", UNPROVED)
-    assert rest == "".join(f"conflicts: run {number} of bin/mergejoin ..\n" for number in range(2, rest.count("\n") + 2))
-    assert copy.asked() == ["try in mergejoin"] * (rest.count("\n") + 1)
+    lines = [f"conflicts: run {number} of bin/mergejoin, of 15 at most ..\n" for number in range(1, rest.count("\n") + 1)]
+    assert rest == "".join(lines) and len(lines) > 2
+    assert copy.asked() == ["try in mergejoin"] * len(lines)
 
 
 def test_that_nothing_is_proved_is_said_before_the_answer(copy):

@@ -12,6 +12,7 @@ import time
 import calls
 import pytest
 from calls import TOP
+from copies import UNPROVED
 from package import VERSION
 
 LOCATE = TOP / "bin/locate"
@@ -311,6 +312,15 @@ def test_values_that_differ_in_the_order_of_their_names_do_not_conflict(located)
         (located.directory / name).write_text(text)
     says = 'locate: these files have no conflict at "/a": the line is of others\n'
     assert located.run([LOCATE, "join", "ordered", "reversed"], given=CONFLICT) == (1, "", says)
+
+
+def test_that_nothing_is_proved_is_said_once(copy):
+    """Of the one run that makes what the operation was refused for."""
+    for name in ("one", "tests"):
+        copy.write(name, FILES[name])
+    status, out, err = copy.run(["bin/locate", "patch", "one", "tests"], given="operation 1: test failed\n", cwd=copy.top)
+    assert (status, out.count("\n"), err) == (0, 1, f"{UNPROVED}locate: run 1 of bin/mergejoin, of 1 ..\n")
+    assert copy.asked() == ["try in mergejoin"]
 
 
 def test_a_module_next_to_the_script_is_not_run(located):

@@ -50,9 +50,21 @@ def test_two_builds_at_once_are_one(copy):
     assert (copy.top / "out/mergejoin.kit").read_text() == "a kit for tests\n"
 
 
-def test_a_build(copy):
+@pytest.mark.parametrize("handles", [False, True], ids=["", "HANDLES"])
+def test_a_build(copy, handles):
+    if handles:
+        copy.write("HANDLES", "Handles allowed: none.\n")
     assert copy.run(["bin/prove"], {"CDPATH": f".:{copy.top}"}) == (0, "", built())
     assert copy.asked() == CRATES
+    assert copy.join() == PROVED
+
+
+def test_what_rt_keeps_is_lent_to_a_build_and_given_back(copy):
+    """Also by one that fails."""
+    assert copy.run(["bin/prove"], {"FAILS": "1"})[0] == 125
+    assert copy.proofs("mp_tree") == 1
+    assert copy.run(["bin/prove"]) == (0, "", built())
+    assert [copy.proofs(crate) for crate in CRATES[:3]] == [2, 2, 1]
 
 
 @pytest.mark.parametrize("name,old,new", [

@@ -1,6 +1,6 @@
-"""bin/test and .ci/run in a copy, with tests that pass, fail, are skipped and break off, and with an `rt ci` that passes, fails and breaks
-off: what fails is counted and reported, and the status is 0 only if nothing failed. What bin/test skips has failed in .ci/run, which
-installs the packages that the tests want.
+"""bin/test, alone and with `all` and `quick`, and .ci/run in a copy, with tests that pass, fail, are skipped and break off, with builds
+that fail, and with an `rt ci` that passes, fails and breaks off: what fails is counted and reported, and the status is 0 only if nothing
+failed. What bin/test skips has failed in .ci/run, which installs the packages that the tests want.
 """
 
 import os
@@ -9,12 +9,39 @@ import shutil
 
 import pytest
 from calls import TOP
+from copies import CRATES
 
 PASSES = "def test_it():\n    pass\n"
 FAILS = "def test_it():\n    assert False\n"
 SKIPPED = "import pytest\n\ndef test_it():\n    pytest.skip('a tool is not installed')\n"
 BROKEN = "import pytest\n\n@pytest.fixture\ndef broken():\n    raise OSError\n\ndef test_it(broken):\n    pass\n"
-BEGUN = "proving ..\nrt ci took N s on 1 processors\n"
+BEGUN = """\
+The whole check: rt ci proves each crate and tries its mutants, then come all tests, and last their mutants.
+From nothing it takes an hour and a half on four processors, and up to three hours on two.
+proving ..
+rt ci took N s on 1 processors
+"""
+TO_BUILD = """\
+First the program and the library are proved and built, then the tests that take little time are run.
+From nothing all this takes up to 45 minutes on two processors, and a few minutes the next time.
+The whole check, with each mutant, is bin/test all.
+== bin/prove
+"""
+IS_BUILT = """\
+The program and the library are proved and built, so the tests begin. They take some minutes.
+The whole check, with each mutant, is bin/test all.
+== bin/prove
+== bin/library
+== quick
+"""
+SLOW = "import pytest\n\n@pytest.mark.slow\n" + FAILS
+# In the place of bin/library, in a copy that has none of what it links: as it, it keeps an archive with checksums.
+LIBRARY = """\
+#!/usr/bin/env bash
+. "${0%/*}/program.sh" && cd "$top" && echo library >>"$LOG" || exit
+if [ -n "$UNLINKED" ]; then echo 'not linked' && exit 125; fi
+echo made >out/libmp_c.a && write_sums "$(sources_sum "$top")" out/libmp_c.a >out/libmp_c.sum
+"""
 NOT_RUN = "rt ci failed, so no test was run.\n"
 # What rt ci says and ends with, the tests and the mutants, and the last line and the status.
 CASES = {
@@ -59,7 +86,7 @@ def tried(out):
 
 @pytest.mark.parametrize("says,ends,tests,reported,status", CASES.values(), ids=CASES)
 def test_what_passes_and_fails_is_counted(copy, ran, says, ends, tests, reported, status):
-    seen, out = ran(["bin/test"], tests, GATE=says, ENDS=str(ends))
+    seen, out = ran(["bin/test", "all"], tests, GATE=says, ENDS=str(ends))
     is_run = NOT_RUN not in reported
     assert out.startswith(BEGUN) and out.endswith(f"\n{reported}\n")
     assert (seen, tried(out)) == (status, ["== tests", "== mutants"] if is_run else [])
@@ -73,7 +100,7 @@ def test_sources_that_are_touched_while_rt_ci_runs_have_failed(copy, ran, name):
     copy.write("HANDLES", "Handles allowed: none.\n")
     says = "The sources were touched while rt ci ran, so it counts as failed.\n" + NOT_RUN
     printed = f"{BEGUN}{says}3 passed, 1 failed\n"
-    assert ran(["bin/test"], {"tests/test_one.py": PASSES}, TOUCHES=str(copy.top / name)) == (1, printed)
+    assert ran(["bin/test", "all"], {"tests/test_one.py": PASSES}, TOUCHES=str(copy.top / name)) == (1, printed)
     assert sorted(path.name for path in (copy.top / "out").iterdir()) == ["gate.log", "times.log"]
 
 
@@ -85,13 +112,53 @@ def test_where_all_checks_are_to_run_what_is_skipped_has_failed(copy, ran):
         assert [line.split()[:2] for line in absent.read_text().splitlines()] == [["-qq", "update"], ["-qq", "install"]]
 
 
+def test_a_clone_is_built_and_tested(copy, ran):
+    """It says first what it does, proves what is not proved, runs no mutant and no slow test, and counts in its last line."""
+    copy.write("bin/library", LIBRARY, 0o755)
+    tests = {"tests/test_one.py": PASSES, "tests/test_two.py": SLOW, "tests/mutants/test_mutants.py": FAILS}
+    status, out = ran(["bin/test"], tests, UNLINKED="")
+    assert out.startswith(TO_BUILD) and out.endswith("\n1 passed, 0 failed\n")
+    assert (status, tried(out), copy.asked()) == (0, ["== bin/prove", "== bin/library", "== quick"], [*CRATES, "library"])
+    times = (copy.top / "out/times.log").read_text()
+    assert re.fullmatch(r"\d+ bin/prove\n\d+ bin/library\n\d+ quick\n", times)
+    status, out = ran(["bin/test"], {"tests/test_one.py": FAILS}, UNLINKED="")
+    assert status == 1 and out.startswith(IS_BUILT) and out.endswith("\n0 passed, 1 failed\n")
+    assert copy.asked() == ["library"]
+
+
+@pytest.mark.parametrize("setting,said,failed", [
+    ({"FAILS": "1"}, "TOP/out/build.log, which ends:\nnot proved\n", "bin/prove"), ({"UNLINKED": "1"}, "not linked\n", "bin/library"),
+], ids=["not proved", "not linked"])
+def test_no_test_is_run_after_a_build_that_failed(copy, ran, setting, said, failed):
+    copy.write("bin/library", LIBRARY, 0o755)
+    status, out = ran(["bin/test"], {"tests/test_one.py": PASSES}, **{"UNLINKED": "", **setting})
+    assert status == 1
+    assert out.replace(str(copy.top), "TOP").endswith(f"{said}{failed} failed, so no test was run.\n0 passed, 1 failed\n")
+
+
+@pytest.mark.parametrize("words", [["bin/test"], ["bin/test", "all"]], ids=["", "all"])
+def test_what_takes_long_says_so(copy, ran, words):
+    """A line each half minute, which here is a tenth of a second, and none once the last line is there."""
+    copy.write("bin/library", LIBRARY, 0o755)
+    copy.write(copy.kit / "sleep", "#!/bin/sh\nexec /usr/bin/sleep 0.1\n", 0o755)
+    slow = "import time\n\ndef test_it():\n    time.sleep(1)\n"
+    status, out = ran(words, {"tests/test_one.py": slow}, UNLINKED="")
+    title = "tests" if words[1:] else "quick"
+    assert status == 0 and out.endswith(" passed, 0 failed\n") and re.search(rf"^\.*\.\. {title}: \d s so far$", out, re.M)
+
+
+def test_no_pytest_is_said_before_anything_is_built(copy):
+    at_once = "mergejoin: the tests need Debian's python3-pytest, which is not installed\n"
+    copy.write("bin/test", (copy.top / "bin/test").read_text().replace("python=/usr/bin/python3 ", "python=false "), 0o755)
+    assert copy.run(["bin/test"]) == (1, at_once, "") and copy.asked() == []
+
+
 def test_quick_proves_nothing(copy, ran):
     """It runs no mutant and no slow test, and wants the program and the library to be built of the sources as they are."""
-    slow = "import pytest\n\n@pytest.mark.slow\n" + FAILS
     wanted = "mergejoin: the program or the library is not built of the sources as they are: run bin/prove and bin/library first\n"
-    assert ran(["bin/test", "quick"], {"tests/test_one.py": PASSES, "tests/test_two.py": slow}) == (1, wanted)
-    made = '. "${0%/*}/program.sh" && cd "$top" && bin/prove && echo made >out/libmp_c.a'
-    copy.run(f'{made} && write_sums "$(sources_sum "$top")" out/libmp_c.a >out/libmp_c.sum')
+    assert ran(["bin/test", "quick"], {"tests/test_one.py": PASSES, "tests/test_two.py": SLOW}) == (1, wanted)
+    copy.write("bin/library", LIBRARY, 0o755)
+    assert [copy.run([f"bin/{name}"])[0] for name in ("prove", "library")] == [0, 0]
     copy.asked()
     status, out = ran(["bin/test", "quick"], {})
     assert (status, tried(out), out.splitlines()[-1], copy.asked()) == (0, ["== quick"], "1 passed, 0 failed", [])
@@ -101,21 +168,22 @@ def test_nothing_is_begun_after_an_interrupt(copy, ran):
     """What a terminal sends goes to pytest too, which ends as if all had been run."""
     begun, slow = copy.directory / "begun", "import pathlib, time\n\ndef test_it():\n    pathlib.Path({!r}).touch()\n    time.sleep(60)\n"
     copy.write("tests/test_one.py", slow.format(str(begun)))
-    line = f'set -m; "${{0%/*}}/test" & set +m; until [ -e {begun} ]; do sleep 0.1; done; kill -INT -- -$!; wait $!'
+    line = f'set -m; "${{0%/*}}/test" all & set +m; until [ -e {begun} ]; do sleep 0.1; done; kill -INT -- -$!; wait $!'
     status, out = ran(line, {})
     assert status == 130 and "== tests" in out and "== mutants" not in out
 
 
 def test_other_words_are_refused(copy):
-    assert copy.run(["bin/test", "slow"]) == (2, "", "mergejoin: usage: bin/test [quick]\n")
+    assert copy.run(["bin/test", "slow"]) == (2, "", "mergejoin: usage: bin/test [quick | all]\n")
 
 
-def test_no_toolchain_is_said_in_one_line(copy):
-    ended = copy.run(["bin/test"], {"PATH": "/usr/bin:/bin"})
+@pytest.mark.parametrize("words", [["bin/test"], ["bin/test", "all"]], ids=["", "all"])
+def test_no_toolchain_is_said_in_one_line(copy, words):
+    ended = copy.run(words, {"PATH": "/usr/bin:/bin"})
     assert ended == (1, "mergejoin: the Rattle toolchain's command rt is not on the PATH\n", "")
 
 
 @pytest.mark.parametrize("word", ["--help", "-h"])
 def test_help(copy, word):
     status, out, err = copy.run(["bin/test", word])
-    assert (status, err) == (0, "") and out.startswith("The project's whole check") and copy.asked() == []
+    assert (status, err) == (0, "") and out.startswith("The project's tests") and copy.asked() == []
