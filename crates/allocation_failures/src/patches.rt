@@ -34,6 +34,7 @@ pub const CALLS: &[&str] = &[
     "push",
     "to_doc",
     "write_patch",
+    "write_patch_within",
 ];
 
 /// Watches the call of this name, if there is one.
@@ -52,6 +53,7 @@ pub fn watch(alloc: Global, name: &str) -> Option<Option<Seen>> {
         "push" => watch_push(alloc),
         "to_doc" => watch_to_doc(alloc),
         "write_patch" => watch_write_patch(alloc),
+        "write_patch_within" => watch_write_patch_within(alloc),
         _ => return None,
     })
 }
@@ -177,6 +179,19 @@ fn watch_write_patch(alloc: Global) -> Option<Seen> {
     let patch = patch_of(alloc, &form)?;
     let text = mp_tree::write_doc(alloc, &form).ok()?;
     Some(Seen::of_text(mp_patch::write_patch(alloc, &patch), text.as_str()))
+}
+
+/// Of as many bytes as the limit.
+fn watch_write_patch_within(alloc: Global) -> Option<Seen> {
+    let form = doc_of(alloc, LONG_FORM)?;
+    let patch = patch_of(alloc, &form)?;
+    let text = mp_tree::write_doc(alloc, &form).ok()?;
+    let limit = text.as_str().len();
+    Some(match mp_patch::write_patch_within(alloc, &patch, limit) {
+        Ok(Some(written)) => Seen::answer_if(written.as_str() == text.as_str()),
+        Ok(None) => Seen::Wrong,
+        Err(_) => Seen::NoMemory,
+    })
 }
 
 pub fn long_patch(alloc: Global) -> Option<JsonPatch> {

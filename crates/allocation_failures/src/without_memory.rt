@@ -52,6 +52,8 @@ pub const CALLS: &[&str] = &[
     "left_of_name",
     "left_of_op",
     "left_of_place",
+    "left_of_place_text",
+    "left_of_text",
     "left_of_value",
     "live_patches",
     "live_replica",
@@ -68,6 +70,7 @@ pub const CALLS: &[&str] = &[
     "value_items_mut",
     "value_members_mut",
     "whole",
+    "write_patch_within",
 ];
 
 /// Watches the call of this name, if there is one.
@@ -104,17 +107,20 @@ pub fn watch(alloc: Global, name: &str) -> Option<Option<Seen>> {
         "value_items_mut" => watch_value_items_mut(alloc),
         "value_members_mut" => watch_value_members_mut(alloc),
         "whole" => Some(watch_whole()),
-        _ => return watch_weight(alloc, name),
+        "write_patch_within" => watch_write_patch_within(alloc),
+        _ => return watch_measure(alloc, name),
     })
 }
 
-/// Watches the call of this name, if it weighs something.
-fn watch_weight(alloc: Global, name: &str) -> Option<Option<Seen>> {
+/// Watches the call of this name, if it weighs or measures something.
+fn watch_measure(alloc: Global, name: &str) -> Option<Option<Seen>> {
     Some(match name {
         "left_of" => watch_left_of(alloc),
         "left_of_name" => Some(watch_left_of_name()),
         "left_of_op" => watch_left_of_op(alloc),
         "left_of_place" => watch_left_of_place(alloc),
+        "left_of_place_text" => watch_left_of_place_text(alloc),
+        "left_of_text" => watch_left_of_text(alloc),
         "left_of_value" => watch_left_of_value(alloc),
         _ => return None,
     })
@@ -179,12 +185,34 @@ fn watch_left_of_place(alloc: Global) -> Option<Seen> {
     Some(takes(place.left_of(154), place.left_of(150)))
 }
 
+/// Of the document's text, and of that of a byte.
+fn watch_left_of_text(alloc: Global) -> Option<Seen> {
+    let doc = doc_of(alloc, WEIGHED)?;
+    let length = WEIGHED.len();
+    let seen = takes(doc.left_of_text(length + 3), doc.left_of_text(length - 1));
+    Some(seen.with(mp_tree::escaped_length(b'"') == 2 && mp_tree::escaped_length(0) == 6))
+}
+
+/// Of the text `"/a~1b/c"`.
+fn watch_left_of_place_text(alloc: Global) -> Option<Seen> {
+    let place = pointer_of(alloc, "/a~1b/c")?;
+    Some(takes(place.left_of_text(12), place.left_of_text(8)))
+}
+
 /// Of the operation of `FORM`.
 fn watch_left_of_op(alloc: Global) -> Option<Seen> {
     let form = doc_of(alloc, FORM)?;
     let patch = patch_of(alloc, &form)?;
     let op = patch.ops().first()?;
     Some(takes(op.left_of(279), op.left_of(275)))
+}
+
+/// A text of one byte more than the limit is not made.
+fn watch_write_patch_within(alloc: Global) -> Option<Seen> {
+    let form = doc_of(alloc, FORM)?;
+    let patch = patch_of(alloc, &form)?;
+    let written = mp_patch::write_patch_within(alloc, &patch, FORM.len() - 1).ok()?;
+    Some(Seen::answer_if(written.is_none()))
 }
 
 /// Whether the number is whole, if the value is one.

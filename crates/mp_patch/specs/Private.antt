@@ -2,6 +2,7 @@
 pub mod Bounds
 pub mod Exchange
 pub mod Faults
+pub mod Lengths
 pub mod Names
 pub mod Reading
 pub mod Shapes

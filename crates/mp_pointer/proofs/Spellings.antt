@@ -1,5 +1,6 @@
 -- Texts that spell tokens.
 pub mod Kept
+pub mod Lengths
 pub mod Parser
 pub mod Plain
 pub mod ReadBack

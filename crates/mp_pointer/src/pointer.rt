@@ -1,12 +1,16 @@
 //! Pointers: lists of tokens, and their spelling (RFC 6901 section 3).
 ghost use Rattle.std.specs.Prelude.{◌≡◌, ◌≤◌, ◌<◌, ◌+◌, ◌-◌, ◌↔◌, ◌++◌, ◌∷◌, [], length, take, get_or, slice_get, IsTrue, IfOk, IfErr, IfSome, MatchOption, OnOk, OnErr, string_bytes};
 ghost use Rattle.std.specs.Option.{option_copied};
+ghost use Rattle.mp_tree.specs.Document.{string};
+ghost use Rattle.mp_tree.specs.Text.{text as compact};
 ghost use Rattle.mp_pointer.specs.Bytes.{slash};
 ghost use Rattle.mp_pointer.specs.Spelling.{BeginsWith, spell, IsPointerFault, IsProperPrefix};
 ghost use Rattle.mp_pointer.specs.Weight.{place_weight};
 
 use crate::fault::PointerFault;
-use crate::spelling::{bad_tilde, is_plain, left_of_escaped, pointer_after, push_escaped};
+use crate::spelling::{
+    bad_tilde, is_plain, left_of_escaped, left_of_written, pointer_after, push_escaped,
+};
 use std::alloc::{AllocError, Global};
 use std::marker::Model;
 
@@ -286,6 +290,25 @@ impl Pointer {
         let mut left = budget;
         for number in 0..self.len() {
             left = left_of_escaped(self.token(number).unwrap(), left)?;
+        }
+        Some(left)
+    }
+
+    /// What remains of a budget in bytes once the spelling as a JSON string, as `mp_tree::write_text` writes it, is taken from it.
+    /// None exactly if that has more bytes than the budget.
+    ///
+    /// It takes no memory, and stops at the first byte that is too much.
+    ///
+    /// ```text
+    /// pointer.left_of_text(10)  // Some(6) for /a, which is written "/a"
+    /// ```
+    pub fn left_of_text(&self, budget: usize) -> Option<usize>
+        ensures left { MatchOption result (budget < length (compact (string (spell self.now))))
+            (λ left. left + length (compact (string (spell self.now))) ≡ budget) }
+    {
+        let mut left = budget.checked_sub(2)?;
+        for number in 0..self.len() {
+            left = left_of_written(self.token(number).unwrap(), left)?;
         }
         Some(left)
     }

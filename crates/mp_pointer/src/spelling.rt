@@ -1,11 +1,13 @@
 // From a spelling to its tokens and back.
 ghost use Rattle.std.specs.Prelude.{◌≡◌, ◌≢◌, ◌+◌, ◌++◌, ◌∷◌, ◌<◌, ◌↔◌, ◌⊎◌, ℕ, length, slice_index, IsTrue, MatchOption, IfOk, OnOk, None, string_bytes};
+ghost use Rattle.json.specs.Print.{escape as in_string};
 ghost use Rattle.mp_pointer.specs.Bytes.{slash, tilde, digit_zero, digit_one};
 ghost use Rattle.mp_pointer.specs.Private.BadTilde.{first_bad_tilde};
 ghost use Rattle.mp_pointer.specs.Private.Cuts.{IsPlain};
-ghost use Rattle.mp_pointer.specs.Spelling.{escape, spell, IsBadTilde, IsFirstBadTilde};
+ghost use Rattle.mp_pointer.specs.Spelling.{escape, escaped_byte, spell, IsBadTilde, IsFirstBadTilde};
 
 use crate::pointer::Pointer;
+use mp_tree::escaped_length;
 use std::alloc::{AllocError, Global};
 
 pub(crate) fn bad_tilde(text: &[u8]) -> Option<usize>
@@ -130,4 +132,27 @@ pub(crate) fn left_of_escaped(token: &str, budget: usize) -> Option<usize>
         left = left.checked_sub(if *byte == b'~' || *byte == b'/' { 2 } else { 1 })?;
     }
     Some(left)
+}
+
+// What remains of a budget once the spelling of a token, as a JSON string has it, and the slash before it are taken from it.
+pub(crate) fn left_of_written(token: &str, budget: usize) -> Option<usize>
+    ensures { MatchOption result (budget < 1 + length (in_string (escape token.now)))
+        (λ left. left + (1 + length (in_string (escape token.now))) ≡ budget) }
+{
+    let mut left = budget.checked_sub(1)?;
+    for byte in token.as_bytes() {
+        left = left.checked_sub(written_length(*byte))?;
+    }
+    Some(left)
+}
+
+// A JSON string has `~0` and `~1` as they are.
+fn written_length(byte: u8) -> usize
+    ensures { result ≡ length (in_string (escaped_byte byte)) }
+{
+    match byte {
+        b'~' => 2,
+        b'/' => 2,
+        _ => escaped_length(byte),
+    }
 }

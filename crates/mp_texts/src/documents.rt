@@ -6,9 +6,9 @@ ghost use Rattle.mp_texts.specs.Faults.{IsPartTextFault, IsPatchTextFault, IsRew
 use crate::fault::TextsFault;
 use crate::limiting::{rewrite_under, run_under};
 use crate::reading::{read_document_value, read_patch_value};
-use crate::writing::{text_unless_longer, unless_longer};
+use crate::writing::{patch_unless_longer, text_unless_longer};
 use mp_merge::laws as merging;
-use mp_patch::{laws as patching, ops_of_value, write_patch};
+use mp_patch::{laws as patching, ops_of_value};
 use mp_pointer::{Pointer, get_value, laws as pointing};
 use mp_tree::laws as reading;
 use std::alloc::Global;
@@ -36,12 +36,13 @@ pub fn rewrite_text(
         (λ fault. IsRewriteTextFault limit fault document.now patch.now) }
 {
     reading::readings_are_documents();
+    reading::texts_read_back();
     merging::rewritings_are_writable();
     patching::shapes_are_readable();
     let doc = read_document_value(alloc, document)?;
     let patch = read_patch_value(alloc, patch, 0)?;
     let edits = rewrite_under(alloc, &doc, &patch, limit)?;
-    unless_longer(write_patch(alloc, &edits)?, limit)
+    patch_unless_longer(alloc, &edits, limit)
 }
 
 /// The text of the document after a JSON Patch (RFC 6902), which is a JSON text too.

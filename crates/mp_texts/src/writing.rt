@@ -5,10 +5,13 @@ ghost use Rattle.mp_tree.specs.Document.{depth, depth_limit};
 ghost use Rattle.mp_tree.specs.Text.{read, text as compact};
 ghost use Rattle.mp_tree.specs.Values.{value_document};
 ghost use Rattle.mp_tree.specs.View.{document};
+ghost use Rattle.mp_patch.specs.Form.{shapes};
+ghost use Rattle.mp_patch.specs.View.{operations_of};
 ghost use Rattle.mp_texts.specs.Answers.{IsTextOf, place_of, places_list};
 ghost use Rattle.mp_texts.specs.PlacesTexts.{IsPlacesText, listed};
 
 use crate::fault::TextsFault;
+use mp_patch::{JsonPatch, write_patch_within};
 use mp_pointer::Pointer;
 use mp_tree::{Doc, write_doc, write_text, write_value_within};
 use serde_json::Value;
@@ -34,16 +37,22 @@ pub(crate) fn text_unless_longer(
     }
 }
 
-// The text of an answer, unless it has more bytes than the caller allows.
-pub(crate) fn unless_longer(text: String, limit: usize) -> Result<String, TextsFault>
+// The text of a JSON Patch, unless it has more bytes than the caller allows: then none is made.
+pub(crate) fn patch_unless_longer(
+    alloc: Global,
+    patch: &JsonPatch,
+    limit: usize,
+) -> Result<String, TextsFault>
     ensures { MatchResult result
-        (λ answer. (answer ≡ text) × (length (string_bytes text) ≤ limit))
-        (λ fault. (fault ≡ TextsFault.TooLarge 0) × (limit < length (string_bytes text))) }
+        (λ answer. (string_bytes answer ≡ compact (shapes (operations_of patch.now)))
+        × (length (compact (shapes (operations_of patch.now))) ≤ limit))
+        (λ fault. (fault ≡ TextsFault.OutOfMemory) ⊎ ((fault ≡ TextsFault.TooLarge 0)
+        × (limit < length (compact (shapes (operations_of patch.now)))))) }
 {
-    if text.as_str().len() > limit {
-        return Err(TextsFault::TooLarge { number: 0 });
+    match write_patch_within(alloc, patch, limit)? {
+        Some(text) => Ok(text),
+        None => Err(TextsFault::TooLarge { number: 0 }),
     }
-    Ok(text)
 }
 
 /// The pointers' spellings as a JSON array of strings, such as the places of a conflict. `AllocError` if memory ran out.

@@ -15,6 +15,7 @@ pub use Rattle.mp_tree.proofs.Membership.{Contains-nil, Contains-head, Contains-
 pub use Rattle.mp_tree.proofs.Options.{lent_value, same_some, some_none, some_same}
 pub use Rattle.mp_tree.proofs.Readings.Values.{depth-from, document_in-read, one_document}
 pub use Rattle.mp_tree.proofs.Texts.IntoData.{members-cons-by}
+pub use Rattle.mp_tree.proofs.Texts.Lengths.{length-list, length-object}
 pub use Rattle.mp_tree.proofs.Texts.Unescaped.{IsUtf8-ascii}
 pub use Rattle.mp_tree.proofs.Texts.Written.{has_float-data_of}
 pub use Rattle.mp_tree.proofs.Valued.Meaning.{IsDocument-value, value-Array}

@@ -1,9 +1,10 @@
 //! Documents: copies, equality and depth.
-ghost use Rattle.std.specs.Prelude.{◌≡◌, ◌≤◌, ◌<◌, ◌+◌, ◌↔◌, IfOk, IsTrue, MatchOption};
+ghost use Rattle.std.specs.Prelude.{◌≡◌, ◌≤◌, ◌<◌, ◌+◌, ◌↔◌, length, IfOk, IsTrue, MatchOption};
 
 use crate::building::{FEW, map_of};
 use crate::comparing::is_same;
 use crate::measuring::is_within;
+use crate::text_lengths::left_of_text;
 use crate::weighing::left_of;
 use crate::whole::Whole;
 use std::alloc::{AllocError, Global};
@@ -30,6 +31,7 @@ pub enum Doc {
 
 impl Doc {
     ghost use Rattle.mp_tree.specs.Document.{depth};
+    ghost use Rattle.mp_tree.specs.Text.{text as compact};
     ghost use Rattle.mp_tree.specs.Weight.{weight};
     ghost use Rattle.mp_tree.specs.View.{document};
 
@@ -88,6 +90,22 @@ impl Doc {
             (λ left. left + weight (document self.now) ≡ budget) }
     {
         left_of(self, budget)
+    }
+
+    /// What remains of a budget in bytes once the text of this document, as `write_doc` writes it, is taken from it: the budget
+    /// less the length. None exactly if the text is longer.
+    ///
+    /// It takes no memory, looks at each part once at most, and stops at the first part that is too long.
+    ///
+    /// ```text
+    /// Doc::Null.left_of_text(10)  // Some(6)
+    /// Doc::Null.left_of_text(3)   // None
+    /// ```
+    pub fn left_of_text(&self, budget: usize) -> Option<usize>
+        ensures left { MatchOption result (budget < length (compact (document self.now)))
+            (λ left. left + length (compact (document self.now)) ≡ budget) }
+    {
+        left_of_text(self, budget)
     }
 }
 

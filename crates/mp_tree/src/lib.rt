@@ -31,6 +31,7 @@ pub use doc::Doc;
 pub use fault::{DocsFault, ReadFault};
 pub use node::Node;
 pub use reading::{DEPTH_LIMIT, read_doc, read_docs};
+pub use text_lengths::escaped_length;
 pub use values::{
     copy_to_doc, copy_value, is_whole, read_any, read_value, read_values, same_value,
     value_items_mut, value_members_mut, write_value, write_value_within,

@@ -1,4 +1,4 @@
-// How many bytes a text has, found without writing it: nothing is allocated, and the first part that is too long ends it.
+//! How many bytes a text has, found without writing it: nothing is allocated, and the first part that is too long ends it.
 ghost use Rattle.std.specs.Prelude.{◌≡◌, ◌<◌, ◌≤◌, ◌+◌, ◌-◌, ◌^◌, ◌⊎◌, ℕ, length, MatchBool, MatchOption};
 ghost use Rattle.json.specs.Print.{escape_byte, quoted};
 ghost use Rattle.mp_tree.specs.Text.{text};
@@ -21,7 +21,7 @@ pub(crate) fn is_longer<T: Measured>(node: &T, limit: usize) -> bool
 
 // What remains of so many bytes after the text. None if it has more.
 #[cycle(measure)]
-fn left_of_text<T: Measured>(node: &T, budget: usize) -> Option<usize>
+pub(crate) fn left_of_text<T: Measured>(node: &T, budget: usize) -> Option<usize>
     ensures { MatchOption result (budget < length (text (T.means node.now)))
         (λ left. left + length (text (T.means node.now)) ≡ budget) }
 {
@@ -90,9 +90,10 @@ fn left_of_quoted(plain: &str, budget: usize) -> Option<usize>
     Some(left)
 }
 
-// A quote, a backslash and five control characters have a short escape.
-fn escaped_length(byte: u8) -> usize
-    ensures { result ≡ length (escape_byte byte) }
+/// How many bytes a byte of a text takes in a JSON string (RFC 8259 section 7): 2 for a quote, a backslash and the five control
+/// characters with a short escape, 6 for each other control character, and else 1. Takes no memory.
+pub fn escaped_length(byte: u8) -> usize
+    ensures length { result ≡ length (escape_byte byte) }
 {
     match byte {
         b'"' => 2,

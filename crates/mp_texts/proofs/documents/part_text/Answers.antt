@@ -4,7 +4,7 @@ use Rattle.mp_tree.specs.Values.{value_document}
 use Rattle.mp_texts.specs.Answers.{IsPartText}
 use Rattle.mp_texts.specs.Faults.{IsMissingPart, IsPartTextFault}
 use Rattle.mp_texts.proofs.Readings.{text_written}
-use Rattle.mp_texts.proofs.Short.{answered_of}
+use Rattle.mp_texts.proofs.Short.{answered}
 use Rattle.mp_texts.proofs.documents.part_text.Goals as goal
 
 -- a part of what can be read can be read
@@ -27,7 +27,7 @@ returns-in-Some c =
       is_part = is_part;
       text = text_written x written refl back good.within;
     } in
-    answered_of c.args.limit c.text_unless_longer.result written (IsPartText document pointer) (λ fault. IsPartTextFault c.args.limit fault document pointer) c.text_unless_longer.ensures.text is (λ long. (refl, long)) tt
+    answered c.args.limit c.text_unless_longer.result written (IsPartText document pointer) (λ fault. IsPartTextFault c.args.limit fault document pointer) c.text_unless_longer.ensures.text is (λ long. (refl, long)) tt
 
 pub returns : goal.returns
 returns c =

@@ -5,7 +5,7 @@ use Rattle.mp_patch.specs.View.{value_operations}
 use Rattle.mp_texts.specs.Answers.{IsLightPatchText, IsPatchText}
 use Rattle.mp_texts.specs.Faults.{IsPatchTextFault}
 use Rattle.mp_texts.proofs.Readings.{text_written}
-use Rattle.mp_texts.proofs.Short.{answered_of}
+use Rattle.mp_texts.proofs.Short.{answered}
 use Rattle.mp_texts.proofs.documents.patch_text.Goals as goal
 
 -- what the operations leave can be read, since the document and the patch can
@@ -37,4 +37,4 @@ returns c =
       text = text_written end written refl back good.within;
     } in
     let light : IsLightPatchText c.args.limit document json_patch written = (is, steps) in
-    answered_of c.args.limit c.text_unless_longer.result written (IsLightPatchText c.args.limit document json_patch) (λ fault. IsPatchTextFault c.args.limit fault document json_patch) c.text_unless_longer.ensures.text light (λ long. inr (refl, long)) tt
+    answered c.args.limit c.text_unless_longer.result written (IsLightPatchText c.args.limit document json_patch) (λ fault. IsPatchTextFault c.args.limit fault document json_patch) c.text_unless_longer.ensures.text light (λ long. inr (refl, long)) tt

@@ -8,7 +8,7 @@ use Rattle.mp_texts.specs.Answers.{IsJoinText}
 use Rattle.mp_texts.specs.Faults.{IsJoinTextFault}
 use Rattle.mp_texts.specs.Texts.{given}
 use Rattle.mp_texts.proofs.Readings.{all_within, text_written}
-use Rattle.mp_texts.proofs.Short.{answered_of}
+use Rattle.mp_texts.proofs.Short.{answered}
 use Rattle.mp_texts.proofs.lists.join_texts.Goals as goal
 
 -- the join is no deeper than the patches, so it is read back
@@ -30,4 +30,4 @@ returns c =
       is_join = subst (λ (ds : List Document). IsJoin ds joined) same c.in_ok-joined.ensures.joined;
       text = text_written joined written refl back within;
     } in
-    answered_of c.args.limit c.text_unless_longer.result written (IsJoinText texts) (λ fault. IsJoinTextFault c.args.limit fault texts) c.text_unless_longer.ensures.text is (λ long. (refl, long)) tt
+    answered c.args.limit c.text_unless_longer.result written (IsJoinText texts) (λ fault. IsJoinTextFault c.args.limit fault texts) c.text_unless_longer.ensures.text is (λ long. (refl, long)) tt

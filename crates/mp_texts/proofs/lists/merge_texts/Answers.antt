@@ -7,7 +7,7 @@ use Rattle.mp_texts.specs.Faults.{IsMergeTextFault}
 use Rattle.mp_texts.specs.Texts.{given}
 use Rattle.mp_texts.proofs.Merging.{in_turn-readable}
 use Rattle.mp_texts.proofs.Readings.{all_readable, text_written}
-use Rattle.mp_texts.proofs.Short.{answered_of}
+use Rattle.mp_texts.proofs.Short.{answered}
 use Rattle.mp_texts.proofs.lists.merge_texts.Goals as goal
 
 -- what the patches leave can be read, since the document and the patches can
@@ -29,4 +29,4 @@ returns c =
       read = c.in_ok-patches.ensures;
       text = subst (λ (x : Document). IsTextOf x written) c.in_ok-merged.ensures (text_written merged written refl back within);
     } in
-    answered_of c.args.limit c.text_unless_longer.result written (IsMergeText c.args.document.now texts) (λ fault. IsMergeTextFault c.args.limit fault c.args.document.now texts) c.text_unless_longer.ensures.text is (λ long. (refl, long)) tt
+    answered c.args.limit c.text_unless_longer.result written (IsMergeText c.args.document.now texts) (λ fault. IsMergeTextFault c.args.limit fault c.args.document.now texts) c.text_unless_longer.ensures.text is (λ long. (refl, long)) tt

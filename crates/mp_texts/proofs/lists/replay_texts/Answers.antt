@@ -8,7 +8,7 @@ use Rattle.mp_texts.specs.Answers.{IsReplayText}
 use Rattle.mp_texts.specs.Faults.{IsReplayTextFault}
 use Rattle.mp_texts.specs.Texts.{given}
 use Rattle.mp_texts.proofs.Readings.{all_within, text_written}
-use Rattle.mp_texts.proofs.Short.{answered_of}
+use Rattle.mp_texts.proofs.Short.{answered}
 use Rattle.mp_texts.proofs.lists.replay_texts.Goals as goal
 
 -- the outcome is no deeper than the start and the patches, so it is read back
@@ -35,4 +35,4 @@ returns c =
       is_outcome = subst (λ (ds : List Document). IsOutcome d ds outcome) same c.in_ok-outcome.ensures.outcome;
       text = text_written outcome written refl back within;
     } in
-    answered_of c.args.limit c.text_unless_longer.result written (IsReplayText c.args.start.now texts) (λ fault. IsReplayTextFault c.args.limit fault c.args.start.now texts) c.text_unless_longer.ensures.text is (λ long. (refl, long)) tt
+    answered c.args.limit c.text_unless_longer.result written (IsReplayText c.args.start.now texts) (λ fault. IsReplayTextFault c.args.limit fault c.args.start.now texts) c.text_unless_longer.ensures.text is (λ long. (refl, long)) tt
