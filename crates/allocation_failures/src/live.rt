@@ -198,17 +198,17 @@ fn of_text(given: Result<String, LiveFault>, wanted: &str) -> Seen {
 
 fn watch_shown_text(alloc: Global) -> Option<Seen> {
     let replica = replica_of(alloc)?;
-    Some(of_text(replica.shown_text(alloc), SHOWN_BEFORE))
+    Some(of_text(replica.shown_text(alloc, usize::MAX), SHOWN_BEFORE))
 }
 
 fn watch_joined_text(alloc: Global) -> Option<Seen> {
     let replica = replica_of(alloc)?;
-    Some(of_text(replica.joined_text(alloc), BEFORE))
+    Some(of_text(replica.joined_text(alloc, usize::MAX), BEFORE))
 }
 
 fn watch_part_text(alloc: Global) -> Option<Seen> {
     let replica = replica_of(alloc)?;
-    Some(of_text(replica.part_text(alloc, "/b/c"), "[1]"))
+    Some(of_text(replica.part_text(alloc, "/b/c", usize::MAX), "[1]"))
 }
 
 fn watch_conflicts_text(alloc: Global) -> Option<Seen> {
@@ -351,7 +351,7 @@ fn watch_combine_with_clashing(alloc: Global) -> Option<Seen> {
 
 fn watch_text(alloc: Global) -> Option<Seen> {
     let patches = patches_of(alloc)?;
-    Some(of_text(patches.text(alloc), BEFORE))
+    Some(of_text(patches.text(alloc, usize::MAX), BEFORE))
 }
 
 // ---- what takes no memory

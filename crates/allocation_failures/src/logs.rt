@@ -212,7 +212,7 @@ fn watch_document(alloc: Global) -> Option<Seen> {
 
 fn watch_document_text(alloc: Global) -> Option<Seen> {
     let log = log_of(alloc)?;
-    Some(seen_of_text(log.document_text(alloc), SHOWN_BEFORE))
+    Some(seen_of_text(log.document_text(alloc, usize::MAX), SHOWN_BEFORE))
 }
 
 fn watch_conflicts_text(alloc: Global) -> Option<Seen> {

@@ -125,18 +125,19 @@ outcome_held start patches limit reply before buffer (not_utf8 offset) is replie
 
 -- ---- of a replica
 
-no_unshown_result : (why : LiveFault) (r : HeldReplica) → IsUnshown why r → ¬ ((report_of_live_fault status_document why).status ≡ status_result)
-no_unshown_result (live.Document why) r is e = is
-no_unshown_result (live.Pointer why) r is e = is
-no_unshown_result live.Missing r is e = is
-no_unshown_result live.NoPatches r is e = is
-no_unshown_result live.Conflict r is e = is
-no_unshown_result live.Pending r is e = cc
-no_unshown_result live.NotKept r is e = is
-no_unshown_result live.OutOfMemory r is e = cc
+no_unshown_result : (limit : ℕ) (why : LiveFault) (r : HeldReplica) → IsUnshown limit why r → ¬ ((report_of_live_fault status_document why).status ≡ status_result)
+no_unshown_result limit (live.Document why) r is e = is
+no_unshown_result limit (live.Pointer why) r is e = is
+no_unshown_result limit live.Missing r is e = is
+no_unshown_result limit live.NoPatches r is e = is
+no_unshown_result limit live.Conflict r is e = is
+no_unshown_result limit live.Pending r is e = cc
+no_unshown_result limit live.TooLarge r is e = cc
+no_unshown_result limit live.NotKept r is e = is
+no_unshown_result limit live.OutOfMemory r is e = cc
 
 shown_by : (start : List ℕ) (patches : List (List ℕ)) (limit : ℕ) (reply : Reply) (before buffer : List ℕ) (answer : HandleAnswer) (r s : HeldReplica)
-    → FollowsTexts start patches r → ShowsDocument r answer s → IsReply (report_of_handle limit status_document answer) reply before buffer
+    → FollowsTexts start patches r → ShowsDocument limit r answer s → IsReply (report_of_handle limit status_document answer) reply before buffer
     → reply.status ≡ status_result → reply.length ≤ length before → HoldsOutcome start patches reply buffer
 shown_by start patches limit reply before buffer (handle_text shown) r s follows is replied has_result enough =
     text_held start patches reply before buffer shown (is.3 start patches follows) (subst (λ (r : Report). IsReply r reply before buffer) (fits limit shown (sym replied.status ∙ has_result)) replied) enough
@@ -145,12 +146,12 @@ shown_by start patches limit reply before buffer (handle_first_places total arra
 shown_by start patches limit reply before buffer (handle_first_pairs array) r s follows is replied has_result enough = absurd is
 shown_by start patches limit reply before buffer (handle_unread total said) r s follows is replied has_result enough = absurd is
 shown_by start patches limit reply before buffer (handle_fault why) r s follows is replied has_result enough =
-    absurd (no_unshown_result why s is.1 (sym replied.status ∙ has_result))
+    absurd (no_unshown_result limit why s is.1 (sym replied.status ∙ has_result))
 shown_by start patches limit reply before buffer (handle_not_utf8 offset) r s follows is replied has_result enough = absurd is
 shown_by start patches limit reply before buffer handle_not_started r s follows is replied has_result enough = absurd is
 
 shown_held : (start : List ℕ) (patches : List (List ℕ)) (limit : ℕ) (reply : Reply) (before buffer : List ℕ) (answer : HandleAnswer) (handle after : Option HeldReplica)
-    → HandleFollows start patches handle → OfStarted ShowsDocument handle answer after → IsReply (report_of_handle limit status_document answer) reply before buffer
+    → HandleFollows start patches handle → OfStarted (ShowsDocument limit) handle answer after → IsReply (report_of_handle limit status_document answer) reply before buffer
     → reply.status ≡ status_result → reply.length ≤ length before → HoldsOutcome start patches reply buffer
 shown_held start patches limit reply before buffer answer None after follows is replied has_result enough = absurd follows
 shown_held start patches limit reply before buffer answer (Some r) None follows is replied has_result enough = absurd is

@@ -34,6 +34,7 @@ no_result live.Missing e = cc
 no_result live.NoPatches e = cc
 no_result live.Conflict e = cc
 no_result live.Pending e = cc
+no_result live.TooLarge e = cc
 no_result live.NotKept e = cc
 no_result live.OutOfMemory e = cc
 
@@ -144,4 +145,5 @@ gives_conflicts limit log (Err live.Missing) is = absurd is
 gives_conflicts limit log (Err live.NoPatches) is = absurd is
 gives_conflicts limit log (Err live.Conflict) is = absurd is
 gives_conflicts limit log (Err live.Pending) is = absurd is
+gives_conflicts limit log (Err live.TooLarge) is = absurd is
 gives_conflicts limit log (Err live.NotKept) is = absurd is

@@ -1,5 +1,5 @@
 -- What calls on patches without a start answer, of what the calls on what is held say.
-use Rattle.std.proofs.Common.{◌≡◌, ℕ, Bool, true, false, List, [], ◌∷◌, Option, None, Some, Ok, MatchOption, string_bytes, length, inl, inr, refl, sym, ap, ◌∙◌, subst}
+use Rattle.std.proofs.Common.{◌≡◌, ℕ, Bool, true, false, List, [], ◌∷◌, ◌↔◌, Option, None, Some, Ok, MatchOption, string_bytes, length, inl, inr, refl, sym, ap, ◌∙◌, subst}
 use Rattle.std.specs.List.{All}
 use Rattle.std.proofs.lemmas.List.Elements.{All-cons, All-nil}
 use Rattle.mp_tree.specs.Document.{Document, IsReadable}
@@ -13,7 +13,7 @@ use Rattle.mp_replica.specs.Taking.{HasTaken, TakesAll, TakesOne}
 use Rattle.mp_replica.specs.Texts.{HasTakenTexts}
 use Rattle.mp_replica.specs.declared.patches.Added.{Added}
 use Rattle.mp_replica.specs.declared.patches.Added.TheVariants as added
-use Rattle.mp_c.specs.OnHandles.{HandleAnswer, handle_conflict, handle_fault, handle_first_pairs, handle_first_places, handle_not_started, handle_not_utf8, handle_text, handle_unread, GivesJoin, HasAdded, HasCombined, HoldsPlaces, IsPlacesTextOrNone, SaysConflict, StillTaken, patches_in}
+use Rattle.mp_c.specs.OnHandles.{HandleAnswer, handle_conflict, handle_fault, handle_first_pairs, handle_first_places, handle_not_started, handle_not_utf8, handle_text, handle_unread, GivesJoin, HasAdded, HasCombined, HoldsPlaces, IsPlacesTextOrNone, SaysConflict, SettlesPatches, StillTaken, patches_in}
 use Rattle.mp_c.specs.Private.Stopping.{IsConflictAt, IsSaid, conflict_answer, stop_answer}
 use Rattle.mp_c.specs.declared.stopping.Stop.{Stop}
 use Rattle.mp_c.specs.declared.stopping.Stop.TheVariants.{Conflict, Fault, NotStarted, NotUtf8, Unread}
@@ -91,7 +91,7 @@ module _ (limit : ℕ) (before other after left : HeldPatches) where
 -- ---- the join
 
 module _ (limit : ℕ) (before after : HeldPatches) where
-  pub conflicting : (answer : HandleAnswer) → StillTaken before after → ((texts : List (List ℕ)) → HasTakenTexts before texts → ¬ AreCompatible texts)
+  pub conflicting : (answer : HandleAnswer) → SettlesPatches before after → ((texts : List (List ℕ)) → HasTakenTexts before texts → ¬ AreCompatible texts)
       → SaysConflict limit answer after → GivesJoin limit before answer after
   conflicting (handle_conflict total array) still clash said = (still, said, clash)
   conflicting (handle_first_places total array) still clash said = (still, said, clash)
@@ -106,6 +106,16 @@ none_read : (texts : List (List ℕ)) (documents : List Document) → AreRead te
 none_read [] documents are none = refl
 none_read (t ∷ ts) [] are none = absurd (cc)
 none_read (t ∷ ts) (d ∷ ds) are none = absurd (cc)
+
+none_given : (texts : List (List ℕ)) (documents : List Document) → AreRead texts documents → texts ≡ [] → documents ≡ []
+none_given [] [] are none = refl
+none_given [] (d ∷ ds) are none = absurd (cc)
+none_given (t ∷ ts) ds are none = absurd (cc)
+
+-- no text is given exactly if none is read
+pub none_as_read : (texts : List (List ℕ)) (documents : List Document) (kept : List ℕ) → AreRead texts documents → (kept ≡ []) ↔ (documents ≡ []) → (kept ≡ []) ↔ (texts ≡ [])
+none_as_read texts documents kept are same =
+    (λ empty. none_read texts documents are (same.0 empty), λ none. same.1 (none_given texts documents are none))
 
 -- what owns nothing has taken nothing
 pub none_taken : HoldsJoin → (texts : List (List ℕ)) → HasTakenTexts (patches_in None) texts → texts ≡ []

@@ -1,5 +1,5 @@
 -- What calls on the handle of a replica answer, of what the calls on the replica say.
-use Rattle.std.proofs.Common.{◌≡◌, ℕ, Bool, true, false, true≢false, string_bytes, List, Option, Some, Ok, sym, ap, ◌∙◌, subst}
+use Rattle.std.proofs.Common.{◌≡◌, ℕ, Bool, true, false, true≢false, string_bytes, String, List, Option, Some, Result, Ok, Err, IsErrAnd, sym, ap, ◌∙◌, subst}
 use Rattle.mp_tree.specs.Document.{Document}
 use Rattle.mp_tree.specs.Text.{document_in}
 use Rattle.mp_tree.specs.View.{document}
@@ -7,10 +7,11 @@ use Rattle.mp_tree.specs.declared.doc.Doc.{Doc}
 use Rattle.mp_replica.specs.Following.{Follows}
 use Rattle.mp_replica.specs.Held.{HeldReplica}
 use Rattle.mp_replica.specs.Texts.{FollowsTexts}
+use Rattle.mp_replica.specs.declared.fault.LiveFault.{LiveFault}
 use Rattle.mp_replica.specs.declared.fault.LiveFault.TheVariants as live
 use Rattle.mp_replica.specs.declared.replica.Received.TheVariants as received
-use Rattle.mp_c.specs.OnHandles.{AreFirstPlacesOf, ConflictsWith, HandleAnswer, HasReceived, OfStarted, Receives, StillFollows}
-use Rattle.mp_c.specs.Private.Stopping.{IsConflictOf, conflict_answer, stop_answer}
+use Rattle.mp_c.specs.OnHandles.{AreFirstPlacesOf, ConflictsWith, HandleAnswer, HasReceived, OfStarted, Receives, StillFollows, handle_fault}
+use Rattle.mp_c.specs.Private.Stopping.{IsConflictOf, conflict_answer, handle_answer, stop_answer}
 use Rattle.mp_c.specs.Replies.{HandleReplies, IsReply}
 use Rattle.mp_c.specs.Report.{report_of_handle}
 use Rattle.mp_c.specs.declared.replying.Reply.{Reply}
@@ -28,6 +29,13 @@ still_follows before after keeps start texts has = record {
   read = has.read;
   follows = keeps has.from has.documents has.follows;
 }
+
+-- ---- what stops a call
+
+-- an error of the call below is handed on
+pub stopped : {A : Type 0} (Is : HandleAnswer → Type 0) (why : LiveFault) (r : Result (String A) Stop) → IsErrAnd r (λ stop. stop ≡ Fault why) → Is (handle_fault why) → Is (handle_answer r)
+stopped Is why (Ok done) exit is = absurd exit
+stopped Is why (Err stop) exit is = subst (λ (s : Stop). Is (stop_answer s)) (sym exit) is
 
 -- ---- conflicts of a replica
 
@@ -56,6 +64,7 @@ refuses limit patch before after back (Fault (live.Pointer why)) receives found 
 refuses limit patch before after back (Fault live.Missing) receives found = absurd found
 refuses limit patch before after back (Fault live.NoPatches) receives found = absurd found
 refuses limit patch before after back (Fault live.Pending) receives found = absurd found
+refuses limit patch before after back (Fault live.TooLarge) receives found = absurd found
 refuses limit patch before after back (Fault live.NotKept) receives found = absurd found
 refuses limit patch before after back (Fault live.OutOfMemory) receives found = absurd found
 refuses limit patch before after back (Unread total said) receives found = absurd found

@@ -36,7 +36,7 @@ pub record HasShown (start : List ℕ) (texts : List (List ℕ)) (reply : Reply)
   pub handle : Option HeldReplica
   pub after : Option HeldReplica
   pub follows : HandleFollows start texts handle
-  pub replied : HandleReplies limit status_document (λ answer. OfStarted ShowsDocument handle answer after) reply before buffer
+  pub replied : HandleReplies limit status_document (λ answer. OfStarted (ShowsDocument limit) handle answer after) reply before buffer
   pub has : HasResult reply before
 
 abbrev pub GaveDocument : List ℕ → List (List ℕ) → Reply → List ℕ → Type 0

@@ -1,5 +1,5 @@
 -- What each call on a handle answers, and what it makes of what the handle owns.
-use Rattle.std.specs.Prelude.{◌≡◌, ◌≢◌, ◌⊎◌, ℕ, Bool, true, false, List, [], Option, None, Some, MatchOption, Ok, Err, length, ⊤}
+use Rattle.std.specs.Prelude.{◌≡◌, ◌≢◌, ◌≤◌, ◌↔◌, ◌⊎◌, ℕ, Bool, true, false, List, [], Option, None, Some, MatchOption, Ok, Err, length, ⊤}
 use Rattle.std.specs.Str.{IsUtf8, IsValidUpTo}
 use Rattle.mp_tree.specs.Document.{Document}
 use Rattle.mp_tree.specs.Look.{Path}
@@ -9,14 +9,14 @@ use Rattle.mp_tree.specs.declared.fault.ReadFault.{ReadFault}
 use Rattle.mp_texts.specs.Answers.{IsJoinText, IsReplayText}
 use Rattle.mp_texts.specs.PlacesTexts.{IsPlacesText}
 use Rattle.mp_texts.specs.Texts.{AreCompatible, AreRead}
-use Rattle.mp_replica.specs.Faults.{IsNoPart, IsNotJoined, IsUnshown}
+use Rattle.mp_replica.specs.Faults.{IsNoPart, IsNotJoined, HasLongText, IsUnshown}
 use Rattle.mp_tree.specs.declared.doc.Doc.{Doc}
 use Rattle.mp_replica.specs.Held.{AreFirstClashesWith, HeldPatches, HeldReplica}
-use Rattle.mp_replica.specs.Kept.{IsHeldBy, IsKept, IsNoKept, IsNotKeptYet}
+use Rattle.mp_replica.specs.Kept.{IsHeldBy, IsKept, IsKeptText, IsNoKept, IsNotKeptYet}
 use Rattle.mp_replica.specs.Taking.{TakesAll, TakesOne}
 use Rattle.mp_replica.specs.Texts.{FollowsTexts, FollowsTextsOn, HasTakenTexts, IsPartOf}
 use Rattle.mp_replica.specs.declared.fault.LiveFault.{LiveFault}
-use Rattle.mp_replica.specs.declared.fault.LiveFault.TheVariants.{Conflict, NoPatches, Pending, OutOfMemory}
+use Rattle.mp_replica.specs.declared.fault.LiveFault.TheVariants.{Conflict, NoPatches, Pending, TooLarge, OutOfMemory}
 use Rattle.mp_replica.specs.declared.patches.Added.{Added}
 use Rattle.mp_replica.specs.declared.patches.Added.TheVariants as added
 use Rattle.mp_replica.specs.declared.replica.Received.{Received}
@@ -51,6 +51,10 @@ OfStarted Does before answer after = ⊥
 abbrev pub StillFollows : HeldReplica → HeldReplica → Type 0
 StillFollows before after = (start : List ℕ) (texts : List (List ℕ)) → FollowsTexts start texts before
     → FollowsTexts start texts after
+
+-- a call that reads makes good first what is pending; with nothing pending it changes nothing
+abbrev pub Settles : HeldReplica → HeldReplica → Type 0
+Settles before after = StillFollows before after × (before.pending ≡ None → after ≡ before)
 
 -- the text is no document, and that is said
 abbrev pub SaysUnread : List ℕ → ℕ → List ℕ → Type 0
@@ -104,34 +108,37 @@ HasReceived limit patch before (handle_fault why) after = IsUnshownPatch why pat
 HasReceived limit patch before answer after = ⊥
 
 -- the text of the document, which is that of a replay of whatever texts were received
-abbrev pub ShowsDocument : HeldReplica → HandleAnswer → HeldReplica → Type 0
-ShowsDocument before (handle_text shown) after =
-    StillFollows before after × (after.pending ≡ None) × (shown ≡ compact (document after.shown))
+abbrev pub ShowsDocument : ℕ → HeldReplica → HandleAnswer → HeldReplica → Type 0
+ShowsDocument limit before (handle_text shown) after =
+    Settles before after × (after.pending ≡ None) × (shown ≡ compact (document after.shown))
     × ((start : List ℕ) (texts : List (List ℕ)) → FollowsTexts start texts before → IsReplayText start texts shown)
-ShowsDocument before (handle_fault why) after = StillFollows before after × IsUnshown why after
-ShowsDocument before answer after = ⊥
+    × (length shown ≤ limit)
+ShowsDocument limit before (handle_fault why) after = Settles before after × IsUnshown limit why after
+ShowsDocument limit before answer after = ⊥
 
 -- the text of the join, which is that of whatever texts were received
-abbrev pub ShowsJoin : HeldReplica → HandleAnswer → HeldReplica → Type 0
-ShowsJoin before (handle_text joined) after =
-    StillFollows before after × (after.pending ≡ None)
+abbrev pub ShowsJoin : ℕ → HeldReplica → HandleAnswer → HeldReplica → Type 0
+ShowsJoin limit before (handle_text joined) after =
+    Settles before after × (after.pending ≡ None)
     × MatchOption after.joined ⊥ (λ j. joined ≡ compact (document j))
     × ((start : List ℕ) (texts : List (List ℕ)) → FollowsTexts start texts before → IsJoinText texts joined)
-ShowsJoin before (handle_fault why) after = StillFollows before after × IsNotJoined why after
-ShowsJoin before answer after = ⊥
+    × (length joined ≤ limit)
+ShowsJoin limit before (handle_fault why) after = Settles before after × IsNotJoined limit why after
+ShowsJoin limit before answer after = ⊥
 
-abbrev pub ShowsPart : List ℕ → HeldReplica → HandleAnswer → HeldReplica → Type 0
-ShowsPart pointer before (handle_text value) after =
-    StillFollows before after × IsUtf8 pointer × (after.pending ≡ None)
-    × IsPartOf (document after.shown) pointer value
-ShowsPart pointer before (handle_fault why) after =
-    StillFollows before after × IsUtf8 pointer × IsNoPart why after pointer
-ShowsPart pointer before (handle_not_utf8 offset) after = (after ≡ before) × IsValidUpTo pointer offset
-ShowsPart pointer before handle_not_started after = ⊥
-ShowsPart pointer before (handle_conflict total array) after = ⊥
-ShowsPart pointer before (handle_first_places total array) after = ⊥
-ShowsPart pointer before (handle_first_pairs array) after = ⊥
-ShowsPart pointer before (handle_unread total said) after = ⊥
+-- the text of the part at the pointer
+abbrev pub ShowsPart : ℕ → List ℕ → HeldReplica → HandleAnswer → HeldReplica → Type 0
+ShowsPart limit pointer before (handle_text value) after =
+    Settles before after × IsUtf8 pointer × (after.pending ≡ None)
+    × IsPartOf (document after.shown) pointer value × (length value ≤ limit)
+ShowsPart limit pointer before (handle_fault why) after =
+    Settles before after × IsUtf8 pointer × IsNoPart limit why after pointer
+ShowsPart limit pointer before (handle_not_utf8 offset) after = (after ≡ before) × IsValidUpTo pointer offset
+ShowsPart limit pointer before handle_not_started after = ⊥
+ShowsPart limit pointer before (handle_conflict total array) after = ⊥
+ShowsPart limit pointer before (handle_first_places total array) after = ⊥
+ShowsPart limit pointer before (handle_first_pairs array) after = ⊥
+ShowsPart limit pointer before (handle_unread total said) after = ⊥
 
 -- ---- patches without a start
 
@@ -148,6 +155,10 @@ OfPatches Does before answer after = Does (patches_in before) answer (patches_in
 -- whatever texts it has taken, it still has
 abbrev pub StillTaken : HeldPatches → HeldPatches → Type 0
 StillTaken before after = (texts : List (List ℕ)) → HasTakenTexts before texts → HasTakenTexts after texts
+
+-- a call that reads makes good first what is pending; with nothing pending it changes nothing
+abbrev pub SettlesPatches : HeldPatches → HeldPatches → Type 0
+SettlesPatches before after = StillTaken before after × (before.pending ≡ None → after ≡ before)
 
 -- the places of the conflict that it holds: how many they are, whether there are more, and the text of the array of as many as
 -- the limit allows
@@ -209,34 +220,38 @@ HasCombined limit before other (handle_first_places total array) after left =
 HasCombined limit before other (handle_fault why) after left = IsNotCombined why before other after left
 HasCombined limit before other answer after left = ⊥
 
--- there is no join, though no two conflict; or memory ran out
-abbrev pub HasNoJoin : LiveFault → HeldPatches → HeldPatches → Type 0
-HasNoJoin Pending before after = (after.places ≡ None) × (after.pending ≢ None)
-HasNoJoin NoPatches before after = (texts : List (List ℕ)) → HasTakenTexts before texts → texts ≡ []
-HasNoJoin OutOfMemory before after = ⊤
-HasNoJoin other before after = ⊥
+-- there is no join, though no two conflict, or its text is too long; or memory ran out
+abbrev pub HasNoJoin : ℕ → LiveFault → HeldPatches → HeldPatches → Type 0
+HasNoJoin limit Pending before after = (after.places ≡ None) × (after.pending ≢ None)
+HasNoJoin limit NoPatches before after = (texts : List (List ℕ)) → HasTakenTexts before texts → texts ≡ []
+HasNoJoin limit TooLarge before after =
+    (after.places ≡ None) × (after.pending ≡ None) × MatchOption after.joined ⊥ (λ j. HasLongText limit (document j))
+HasNoJoin limit OutOfMemory before after = ⊤
+HasNoJoin limit other before after = ⊥
 
 -- the text of the join of whatever texts were taken, or that two of them conflict
 abbrev pub GivesJoin : ℕ → HeldPatches → HandleAnswer → HeldPatches → Type 0
 GivesJoin limit before (handle_text joined) after =
-    StillTaken before after × (after.places ≡ None) × (after.pending ≡ None)
+    SettlesPatches before after × (after.places ≡ None) × (after.pending ≡ None)
     × MatchOption after.joined ⊥ (λ j. joined ≡ compact (document j))
-    × ((texts : List (List ℕ)) → HasTakenTexts before texts → IsJoinText texts joined)
+    × ((texts : List (List ℕ)) → HasTakenTexts before texts → IsJoinText texts joined) × (length joined ≤ limit)
 GivesJoin limit before (handle_conflict total array) after =
-    StillTaken before after × SaysConflict limit (handle_conflict total array) after
+    SettlesPatches before after × SaysConflict limit (handle_conflict total array) after
     × ((texts : List (List ℕ)) → HasTakenTexts before texts → ¬ AreCompatible texts)
 GivesJoin limit before (handle_first_places total array) after =
-    StillTaken before after × SaysConflict limit (handle_first_places total array) after
+    SettlesPatches before after × SaysConflict limit (handle_first_places total array) after
     × ((texts : List (List ℕ)) → HasTakenTexts before texts → ¬ AreCompatible texts)
-GivesJoin limit before (handle_fault why) after = StillTaken before after × HasNoJoin why before after
+GivesJoin limit before (handle_fault why) after = SettlesPatches before after × HasNoJoin limit why before after
 GivesJoin limit before answer after = ⊥
 
--- the kept form
-abbrev pub GivesKept : HeldPatches → HandleAnswer → HeldPatches → Type 0
-GivesKept before (handle_text kept) after =
-    StillTaken before after × ((texts : List (List ℕ)) → HasTakenTexts before texts → IsKept after kept)
-GivesKept before (handle_fault why) after = StillTaken before after × IsNotKeptYet why after
-GivesKept before answer after = ⊥
+-- the kept form, which is empty exactly if nothing was taken
+abbrev pub GivesKept : ℕ → HeldPatches → HandleAnswer → HeldPatches → Type 0
+GivesKept limit before (handle_text kept) after =
+    SettlesPatches before after × IsKeptText after kept
+    × ((texts : List (List ℕ)) → HasTakenTexts before texts → IsKept after kept × ((kept ≡ []) ↔ (texts ≡ [])))
+    × (length kept ≤ limit)
+GivesKept limit before (handle_fault why) after = SettlesPatches before after × IsNotKeptYet limit why after
+GivesKept limit before answer after = ⊥
 
 -- it holds what a kept form holds: it has taken what was taken where that was made
 abbrev pub HoldsKept : List ℕ → HeldPatches → Type 0

@@ -4,7 +4,7 @@ use Rattle.std.specs.List.{Contains}
 use Rattle.mp_tree.specs.Document.{Document, IsDocument, whole}
 use Rattle.mp_tree.specs.Look.{Path}
 use Rattle.mp_tree.specs.Text.{document_in, text as compact}
-use Rattle.mp_replica.specs.LogTexts.{IsConflictsText, IsConflictsTextWithin}
+use Rattle.mp_replica.specs.LogTexts.{IsConflictsText, IsConflictsTextWithin, IsNoLogText}
 use Rattle.mp_replica.specs.Messages.{LogFollows, Becomes, Sent}
 use Rattle.mp_replica.specs.PatchLog.{AreFirstConflictsAt, Begins, HaveArrived, HeldLog, IsFirstMissing, IsFirstPair, Shows, Stored, start_of, stored_of}
 use Rattle.mp_replica.specs.declared.fault.LiveFault.TheVariants.{OutOfMemory}
@@ -56,7 +56,8 @@ OnlyReads Gives before answer after = Gives before answer × (after ≡ before)
 abbrev pub GivesLogDocument : ℕ → HeldLog → HandleAnswer → Type 0
 GivesLogDocument limit log (handle_text shown) =
     (d : Document) × IsDocument d × Shows (start_of log) (stored_of log) d × (shown ≡ compact d)
-GivesLogDocument limit log (handle_fault OutOfMemory) = ⊤
+    × (length shown ≤ limit)
+GivesLogDocument limit log (handle_fault why) = IsNoLogText limit why log
 GivesLogDocument limit log answer = ⊥
 
 -- the text of each two patches that conflict; or of those that come first within the limit, where a pair or a place is left out

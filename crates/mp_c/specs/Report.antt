@@ -181,6 +181,7 @@ report_of_live_fault unread live.Missing = unnumbered status_missing (codes "mis
 report_of_live_fault unread live.NoPatches = unnumbered status_no_patches (codes "no patches")
 report_of_live_fault unread live.Conflict = with_more (unnumbered status_conflict [])
 report_of_live_fault unread live.Pending = unnumbered status_pending (codes "pending")
+report_of_live_fault unread live.TooLarge = unnumbered status_too_large []
 report_of_live_fault unread live.NotKept = unnumbered unread (codes "not kept patches")
 report_of_live_fault unread live.OutOfMemory = no_memory
 

@@ -1,5 +1,5 @@
 //! Exports on a patch log that stays in memory.
-ghost use Rattle.std.specs.Prelude.{◌≡◌, MatchResult, None, Ok, ℕ};
+ghost use Rattle.std.specs.Prelude.{◌≡◌, MatchResult, None, Ok};
 ghost use Rattle.mp_tree.specs.Text.{document_in};
 ghost use Rattle.mp_tree.specs.View.{document};
 ghost use Rattle.mp_c.specs.OnHandles.{OfStarted};
@@ -145,16 +145,15 @@ pub extern "C" fn mergejoin_patch_log_document(
     let Some(held) = log.take(alloc) else {
         return report_live(Err(Stop::NotStarted), DOCUMENT, out, limit);
     };
-    let answer = document(alloc, &held);
+    let answer = document(alloc, &held, limit);
     log.put(alloc, held);
     report_live(answer, DOCUMENT, out, limit)
 }
 
-fn document(alloc: Global, log: &PatchLog) -> Result<String, Stop>
-    ensures { (limit : ℕ) → GivesLogDocument limit log.now (handle_answer result) }
+fn document(alloc: Global, log: &PatchLog, limit: usize) -> Result<String, Stop>
+    ensures { GivesLogDocument limit log.now (handle_answer result) }
 {
-    let shown = log.document(alloc)?;
-    Ok(write_doc(alloc, &shown)?)
+    Ok(log.document_text(alloc, limit)?)
 }
 
 /// The text of each two patches of a log that conflict, as `mp_replica::PatchLog::conflicts_text_within` gives it.

@@ -176,11 +176,12 @@ fn text(alloc: Global, patches: &mut Patches, limit: usize) -> Result<String, St
     ensures { GivesJoin limit patches.old (handle_answer result) patches.new }
 {
     let _settled = patches.settle(alloc);
-    match patches.text(alloc) {
+    match patches.text(alloc, limit) {
         Ok(joined) => Ok(joined),
         Err(LiveFault::Conflict) => Err(conflict_of(alloc, patches, limit)),
         Err(LiveFault::Pending) => Err(Stop::Fault(LiveFault::Pending)),
         Err(LiveFault::NoPatches) => Err(Stop::Fault(LiveFault::NoPatches)),
+        Err(LiveFault::TooLarge) => Err(Stop::Fault(LiveFault::TooLarge)),
         Err(_) => Err(Stop::Fault(LiveFault::OutOfMemory)),
     }
 }
@@ -194,29 +195,31 @@ pub extern "C" fn mergejoin_patches_kept(
     limit: usize,
 ) -> Reply
     ensures { HandleReplies limit status_document
-        (λ answer. OfPatches GivesKept patches.old.value answer patches.new.value)
+        (λ answer. OfPatches (GivesKept limit) patches.old.value answer patches.new.value)
         result out.old out.new }
 {
-    report_live(kept_of(alloc, patches), DOCUMENT, out, limit)
+    report_live(kept_of(alloc, patches, limit), DOCUMENT, out, limit)
 }
 
-fn kept_of(alloc: Global, patches: &mut PatchesHandle) -> Result<String, Stop>
-    ensures { OfPatches GivesKept patches.old.value (handle_answer result) patches.new.value }
+fn kept_of(alloc: Global, patches: &mut PatchesHandle, limit: usize) -> Result<String, Stop>
+    ensures { OfPatches (GivesKept limit) patches.old.value (handle_answer result)
+        patches.new.value }
 {
+    live::holds_join();
     let Some(mut held) = patches.take(alloc) else {
         return Ok(String::new(alloc));
     };
-    let answer = kept(alloc, &mut held);
+    let answer = kept(alloc, &mut held, limit);
     patches.put(alloc, held);
     answer
 }
 
-fn kept(alloc: Global, patches: &mut Patches) -> Result<String, Stop>
-    ensures { GivesKept patches.old (handle_answer result) patches.new }
+fn kept(alloc: Global, patches: &mut Patches, limit: usize) -> Result<String, Stop>
+    ensures { GivesKept limit patches.old (handle_answer result) patches.new }
 {
     tree::readings_are_documents();
     let _settled = patches.settle(alloc);
-    Ok(patches.kept(alloc)?)
+    Ok(patches.kept(alloc, limit)?)
 }
 
 /// The patches of a kept form, in the place of what was taken before, as `mp_replica::Patches::from_kept` gives them.

@@ -102,22 +102,22 @@ pub extern "C" fn mergejoin_replica_document(
     limit: usize,
 ) -> Reply
     ensures { HandleReplies limit status_document
-        (λ answer. OfStarted ShowsDocument replica.old.value answer replica.new.value)
+        (λ answer. OfStarted (ShowsDocument limit) replica.old.value answer replica.new.value)
         result out.old out.new }
 {
     let Some(mut held) = replica.take(alloc) else {
         return report_live(Err(Stop::NotStarted), DOCUMENT, out, limit);
     };
-    let answer = document(alloc, &mut held);
+    let answer = document(alloc, &mut held, limit);
     replica.put(alloc, held);
     report_live(answer, DOCUMENT, out, limit)
 }
 
-fn document(alloc: Global, replica: &mut Replica) -> Result<String, Stop>
-    ensures { ShowsDocument replica.old (handle_answer result) replica.new }
+fn document(alloc: Global, replica: &mut Replica, limit: usize) -> Result<String, Stop>
+    ensures { ShowsDocument limit replica.old (handle_answer result) replica.new }
 {
     let _settled = replica.settle(alloc);
-    Ok(replica.shown_text(alloc)?)
+    Ok(replica.shown_text(alloc, limit)?)
 }
 
 /// The text of the join of what a replica received.
@@ -129,22 +129,22 @@ pub extern "C" fn mergejoin_replica_joined(
     limit: usize,
 ) -> Reply
     ensures { HandleReplies limit status_document
-        (λ answer. OfStarted ShowsJoin replica.old.value answer replica.new.value)
+        (λ answer. OfStarted (ShowsJoin limit) replica.old.value answer replica.new.value)
         result out.old out.new }
 {
     let Some(mut held) = replica.take(alloc) else {
         return report_live(Err(Stop::NotStarted), DOCUMENT, out, limit);
     };
-    let answer = joined(alloc, &mut held);
+    let answer = joined(alloc, &mut held, limit);
     replica.put(alloc, held);
     report_live(answer, DOCUMENT, out, limit)
 }
 
-fn joined(alloc: Global, replica: &mut Replica) -> Result<String, Stop>
-    ensures { ShowsJoin replica.old (handle_answer result) replica.new }
+fn joined(alloc: Global, replica: &mut Replica, limit: usize) -> Result<String, Stop>
+    ensures { ShowsJoin limit replica.old (handle_answer result) replica.new }
 {
     let _settled = replica.settle(alloc);
-    Ok(replica.joined_text(alloc)?)
+    Ok(replica.joined_text(alloc, limit)?)
 }
 
 /// The text of the part of what a replica shows that the pointer names (RFC 6901).
@@ -157,24 +157,25 @@ pub extern "C" fn mergejoin_replica_get(
     limit: usize,
 ) -> Reply
     ensures { HandleReplies limit status_document
-        (λ answer. OfStarted (ShowsPart pointer.now) replica.old.value answer replica.new.value)
+        (λ answer. OfStarted (ShowsPart limit pointer.now) replica.old.value answer
+        replica.new.value)
         result out.old out.new }
 {
     let Some(mut held) = replica.take(alloc) else {
         return report_live(Err(Stop::NotStarted), DOCUMENT, out, limit);
     };
-    let answer = part(alloc, &mut held, pointer);
+    let answer = part(alloc, &mut held, pointer, limit);
     replica.put(alloc, held);
     report_live(answer, DOCUMENT, out, limit)
 }
 
-fn part(alloc: Global, replica: &mut Replica, pointer: &[u8]) -> Result<String, Stop>
-    ensures { ShowsPart pointer.now replica.old (handle_answer result) replica.new }
+fn part(alloc: Global, replica: &mut Replica, pointer: &[u8], limit: usize) -> Result<String, Stop>
+    ensures { ShowsPart limit pointer.now replica.old (handle_answer result) replica.new }
 {
     match str::from_utf8(pointer) {
         Ok(pointer) => {
             let _settled = replica.settle(alloc);
-            Ok(replica.part_text(alloc, pointer)?)
+            Ok(replica.part_text(alloc, pointer, limit)?)
         }
         Err(fault) => Err(Stop::NotUtf8(fault.valid_up_to())),
     }

@@ -8,7 +8,7 @@ ghost use Rattle.mp_c.specs.Replies.{IsReply};
 ghost use Rattle.mp_c.specs.Report.{report_of_handle, report_of_live_fault};
 
 use crate::replying::{
-    CONFLICT, MISSING, MORE, NO_PATCHES, NOT_STARTED, PENDING, Reply, report_no_memory,
+    CONFLICT, MISSING, MORE, NO_PATCHES, NOT_STARTED, PENDING, Reply, TOO_LARGE, report_no_memory,
     report_not_utf8, report_pointer_fault, with_place, words_of, write, write_result,
 };
 use mp_pointer::Pointer;
@@ -171,6 +171,7 @@ fn report_live_fault(fault: LiveFault, unread: u32, out: &mut [u8]) -> Reply
             ..write(CONFLICT, 0, "", out)
         },
         LiveFault::Pending => write(PENDING, 0, "pending", out),
+        LiveFault::TooLarge => write(TOO_LARGE, 0, "", out),
         LiveFault::NotKept => write(unread, 0, "not kept patches", out),
         LiveFault::OutOfMemory => report_no_memory(out),
     }

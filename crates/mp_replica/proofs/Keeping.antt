@@ -23,14 +23,14 @@ use Rattle.mp_replica.proofs.Taking.{conflict_taken, free_taken, if_conflict, if
 
 -- ---- no document is empty, and none begins with the mark
 
-unread : (text : List ℕ) → serde_json.read text ≡ None → data_in text ≡ None
+pub unread : (text : List ℕ) → serde_json.read text ≡ None → data_in text ≡ None
 unread text none = by (is_utf8 text) refl
   where
     by : (b : Bool) → is_utf8 text ≡ b → data_in text ≡ None
     by true is = ap (λ b. if b then serde_json.read text else None) is ∙ none
     by false is = ap (λ b. if b then serde_json.read text else None) is
 
-unread_nothing : serde_json.read [] ≡ None
+pub unread_nothing : serde_json.read [] ≡ None
 unfolding json_on_literals
 unread_nothing = refl
 
@@ -104,6 +104,7 @@ not_places live.Missing ds k d below none = absurd none
 not_places live.NoPatches ds k d below none = absurd none
 not_places live.Conflict ds k d below none = absurd none
 not_places live.Pending ds k d below none = absurd none
+not_places live.TooLarge ds k d below none = absurd none
 
 -- so what is read as an array of these is read as no places
 pub unread_places : (fault : LiveFault) (more : Bool) (text : List ℕ) (ds : List Doc) → document_in text ≡ Ok (list (items_of (map document ds))) → AreNotPlaces fault (map document ds) → AreUnread fault more text
@@ -115,6 +116,7 @@ unread_places live.Missing more text ds read none = absurd none
 unread_places live.NoPatches more text ds read none = absurd none
 unread_places live.Conflict more text ds read none = absurd none
 unread_places live.Pending more text ds read none = absurd none
+unread_places live.TooLarge more text ds read none = absurd none
 
 no_paths : (ws : List Path) → [] ≡ map place_of ws → ws ≡ []
 no_paths [] same = refl
@@ -196,6 +198,7 @@ no_kept live.Missing text tail marked (more, rest, parts, unread) = absurd unrea
 no_kept live.NoPatches text tail marked (more, rest, parts, unread) = absurd unread
 no_kept live.Conflict text tail marked (more, rest, parts, unread) = absurd unread
 no_kept live.Pending text tail marked (more, rest, parts, unread) = absurd unread
+no_kept live.TooLarge text tail marked (more, rest, parts, unread) = absurd unread
 
 pub marked_text : (text : List ℕ) (d m : ℕ) → false ≡ (length text == 0) → slice_index_or text 0 d ≡ m → text ≡ m ∷ take (length text - 1) (drop 1 text)
 marked_text [] d m some first = absurd (true≢false (sym some))

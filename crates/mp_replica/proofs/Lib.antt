@@ -13,3 +13,4 @@ pub mod Shown
 pub mod Slices
 pub mod Taking
 pub mod TextRuns
+pub mod Written

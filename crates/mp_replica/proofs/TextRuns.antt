@@ -158,16 +158,17 @@ module _ (laws : TextLaws) where
       let joined = (taking.holds_join laws.merging has.documents r has.taken).1 free none in
       join_text texts has.documents j answer has.read (subst (λ o. IsJoinOf has.documents (option_map document o)) some joined) is
 
-  pub no_join_text : (fault : LiveFault) (texts : List (List ℕ)) (r : HeldPatches) → IsNoJoin fault r → HasTakenTexts r texts → IsNoJoinText fault texts
-  no_join_text live.Conflict texts r why has = incompatible texts has.documents has.read (λ free. why ((taking.holds_join laws.merging has.documents r has.taken).0.1 free))
-  no_join_text live.NoPatches texts r why has =
+  pub no_join_text : (limit : ℕ) (fault : LiveFault) (texts : List (List ℕ)) (r : HeldPatches) → IsNoJoin limit fault r → HasTakenTexts r texts → IsNoJoinText fault texts
+  no_join_text limit live.Conflict texts r why has = incompatible texts has.documents has.read (λ free. why ((taking.holds_join laws.merging has.documents r has.taken).0.1 free))
+  no_join_text limit live.NoPatches texts r why has =
       no_texts texts has.documents has.read (subst (λ m. IsJoinOf has.documents (option_map document m)) why.2 ((taking.holds_join laws.merging has.documents r has.taken).1 why.0 why.1))
-  no_join_text (live.Document fault) texts r why has = tt
-  no_join_text (live.Pointer fault) texts r why has = tt
-  no_join_text live.Missing texts r why has = tt
-  no_join_text live.Pending texts r why has = tt
-  no_join_text live.NotKept texts r why has = tt
-  no_join_text live.OutOfMemory texts r why has = tt
+  no_join_text limit (live.Document fault) texts r why has = tt
+  no_join_text limit (live.Pointer fault) texts r why has = tt
+  no_join_text limit live.Missing texts r why has = tt
+  no_join_text limit live.Pending texts r why has = tt
+  no_join_text limit live.TooLarge texts r why has = tt
+  no_join_text limit live.NotKept texts r why has = tt
+  no_join_text limit live.OutOfMemory texts r why has = tt
 
   -- what is kept of patches that can be read
   pub kept_join : (r : HeldPatches) (taken : List Document) (j : Doc) (answer : List ℕ) → r.places ≡ None → r.pending ≡ None → r.joined ≡ Some j → All IsReadable taken → answer ≡ compact (document j) → HasTaken r taken

@@ -1,13 +1,13 @@
 -- The kept form of patches without a start: one text, of their join or of the places of a conflict.
-use Rattle.std.specs.Prelude.{◌≡◌, ◌≢◌, ◌⊎◌, ◌++◌, ℕ, Bool, true, false, List, [], ◌∷◌, None, IsTrue, MatchOption, Ok, Err, ⊤}
+use Rattle.std.specs.Prelude.{◌≡◌, ◌≢◌, ◌<◌, ◌⊎◌, ◌++◌, ℕ, Bool, true, false, List, [], ◌∷◌, None, IsTrue, MatchOption, Ok, Err, length, ⊤}
 use Rattle.mp_tree.specs.Document.{Document}
 use Rattle.mp_tree.specs.Look.{Path}
-use Rattle.mp_tree.specs.Text.{document_in}
+use Rattle.mp_tree.specs.Text.{document_in, text as compact}
 use Rattle.mp_tree.specs.View.{document}
 use Rattle.mp_texts.specs.Answers.{IsTextOf, places_list}
 use Rattle.mp_replica.specs.Held.{HeldPatches, HeldPlaces}
 use Rattle.mp_replica.specs.declared.fault.LiveFault.{LiveFault}
-use Rattle.mp_replica.specs.declared.fault.LiveFault.TheVariants.{Document as NoDocument, Pending, NotKept, OutOfMemory}
+use Rattle.mp_replica.specs.declared.fault.LiveFault.TheVariants.{Document as NoDocument, Pending, TooLarge, NotKept, OutOfMemory}
 
 -- `!`, with which no JSON text begins, stands before the places of a conflict
 abbrev pub mark : ℕ
@@ -25,7 +25,14 @@ abbrev pub KeepsPlaces : HeldPlaces → List ℕ → Type 0
 KeepsPlaces held text =
     (rest : List ℕ) × (text ≡ marks held.more ++ rest) × IsTextOf (places_list held.places) rest
 
--- the text is empty if nothing was taken, else that of the join, or the marks and the array of the places
+-- what is written: the marks and the array of the places, the text of the join, or nothing
+abbrev pub IsKeptText : HeldPatches → List ℕ → Type 0
+IsKeptText r text =
+    MatchOption r.places
+    ((r.pending ≡ None) × MatchOption r.joined (text ≡ []) (λ j. text ≡ compact (document j)))
+    (λ held. KeepsPlaces held text)
+
+-- the same of patches that can be read: the text of the join is read back as that
 abbrev pub IsKept : HeldPatches → List ℕ → Type 0
 IsKept r text =
     MatchOption r.places ((r.pending ≡ None) × MatchOption r.joined (text ≡ []) (λ j. IsTextOf (document j) text))
@@ -48,11 +55,12 @@ IsHeldBy text r =
     × MatchOption r.places (MatchOption r.joined (text ≡ []) (λ j. document_in text ≡ Ok (document j)))
     (λ held. ReadsPlaces text held × (r.joined ≡ None))
 
--- there is no kept form yet
-abbrev pub IsNotKeptYet : LiveFault → HeldPatches → Type 0
-IsNotKeptYet Pending r = (r.places ≡ None) × (r.pending ≢ None)
-IsNotKeptYet OutOfMemory r = ⊤
-IsNotKeptYet other r = ⊥
+-- there is no kept form yet, or it has more bytes than the caller allows
+abbrev pub IsNotKeptYet : ℕ → LiveFault → HeldPatches → Type 0
+IsNotKeptYet limit Pending r = (r.places ≡ None) × (r.pending ≢ None)
+IsNotKeptYet limit TooLarge r = (text : List ℕ) × IsKeptText r text × (limit < length text)
+IsNotKeptYet limit OutOfMemory r = ⊤
+IsNotKeptYet limit other r = ⊥
 
 -- the whole text, or what stands after its marks
 abbrev pub IsUnreadKept : List ℕ → List ℕ → Type 0

@@ -1,10 +1,26 @@
--- Texts of a patch log: the pairs that conflict.
-use Rattle.std.specs.Prelude.{◌≡◌, ◌≢◌, ◌<◌, ◌≤◌, ◌↔◌, ◌⊎◌, ◌++◌, ℕ, Bool, pos, List, [], ◌∷◌, IsTrue, codes, length}
-use Rattle.mp_tree.specs.Document.{Document, list, item, no_items, whole}
+-- Texts of a patch log: what it shows, and the pairs that conflict.
+use Rattle.std.specs.Prelude.{◌≡◌, ◌≢◌, ◌<◌, ◌≤◌, ◌↔◌, ◌⊎◌, ◌++◌, ℕ, Bool, pos, List, [], ◌∷◌, IsTrue, codes, length, ⊤}
+use Rattle.mp_tree.specs.Document.{Document, IsDocument, list, item, no_items, whole}
 use Rattle.mp_tree.specs.Text.{text as compact}
 use Rattle.mp_texts.specs.Answers.{places_list}
-use Rattle.mp_replica.specs.PatchLog.{AreAllPairs, AreFirstPairs, Pair, Stored}
+use Rattle.mp_replica.specs.Faults.{HasLongText}
+use Rattle.mp_replica.specs.PatchLog.{AreAllPairs, AreFirstPairs, HeldLog, Pair, Shows, Stored, start_of, stored_of}
+use Rattle.mp_replica.specs.declared.fault.LiveFault.{LiveFault}
+use Rattle.mp_replica.specs.declared.fault.LiveFault.TheVariants.{TooLarge, OutOfMemory}
 use Rattle.mp_replica.specs.declared.message.Identity.{Identity}
+
+-- the document that the log shows has a text that is too long
+pub record HasLongDocument (limit : ℕ) (log : HeldLog) : Type 0 where
+  pub shown : Document
+  pub is_document : IsDocument shown
+  pub shows : Shows (start_of log) (stored_of log) shown
+  pub too_long : HasLongText limit shown
+
+-- there is no text of what the log shows
+abbrev pub IsNoLogText : ℕ → LiveFault → HeldLog → Type 0
+IsNoLogText limit TooLarge log = HasLongDocument limit log
+IsNoLogText limit OutOfMemory log = ⊤
+IsNoLogText limit other log = ⊥
 
 -- an array of the sender and the number
 abbrev pub identity_document : Identity → Document

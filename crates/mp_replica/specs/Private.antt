@@ -5,3 +5,4 @@ pub mod Pairs
 pub mod Places
 pub mod Steps
 pub mod StoredPatches
+pub mod Writing

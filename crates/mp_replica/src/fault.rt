@@ -30,6 +30,9 @@ pub enum LiveFault {
     /// A patch was received or taken, and memory ran out before it was shown or joined. `settle` tries again.
     #[error("pending")]
     Pending,
+    /// The text is longer than the caller allows.
+    #[error("too large")]
+    TooLarge,
     /// The text is not the kept form of patches.
     #[error("not kept patches")]
     NotKept,

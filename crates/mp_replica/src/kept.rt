@@ -1,11 +1,11 @@
 //! The kept form of patches that are gathered without a start: one text, for a state that is stored or sent.
-ghost use Rattle.std.specs.Prelude.{◌≡◌, ◌++◌, List, map, Ok, IfOk, IfErr, MatchResult, string_bytes};
+ghost use Rattle.std.specs.Prelude.{◌≡◌, ◌↔◌, ◌++◌, ◌≤◌, List, [], length, map, Ok, IfOk, IfErr, MatchResult, string_bytes};
 ghost use Rattle.std.specs.List.{All};
 ghost use Rattle.mp_tree.specs.Document.{Document, IsReadable};
 ghost use Rattle.mp_tree.specs.View.{document};
 ghost use Rattle.mp_texts.specs.Answers.{place_of};
 ghost use Rattle.mp_replica.specs.Held.{HeldPatches, held_places};
-ghost use Rattle.mp_replica.specs.Kept.{IsHeldBy, IsKept, IsNoKept, IsNotKeptYet, marks};
+ghost use Rattle.mp_replica.specs.Kept.{IsHeldBy, IsKept, IsKeptText, IsNoKept, IsNotKeptYet, marks};
 ghost use Rattle.mp_replica.specs.Private.Places.{AreMarkedRead, AreMarkedUnread, AreNotPlaces, AreRead, AreUnread, IsNoPlace};
 ghost use Rattle.mp_replica.specs.Taking.{HasTaken};
 
@@ -14,35 +14,42 @@ use crate::first_places::FirstPlaces;
 use crate::laws::text_laws;
 use crate::patches::Patches;
 use crate::reading::document_of;
+use crate::writing::{text_within, unless_longer};
 use mp_pointer::{Pointer, PointerFault, laws as pointing};
 use mp_texts::write_places;
-use mp_tree::{Doc, write_doc};
+use mp_tree::Doc;
 use std::alloc::{AllocError, Global};
 
 impl Patches {
     /// The kept form of what was taken: the empty text if nothing was, the text of the join, or the places of a conflict as a
     /// JSON array of pointers: behind `!` if these are all, and behind `!+` if there are more. [`Patches::from_kept`] takes it.
     ///
-    /// `Pending` exactly while a patch is pending; `OutOfMemory` may come at any point.
+    /// `Pending` exactly while a patch is pending; else `TooLarge` exactly if the text has more than `limit` bytes (`usize::MAX` is
+    /// no limit). `OutOfMemory` may come at any point.
     ///
     /// ```text
-    /// patches.kept(alloc)  // {"a":1} after {"a":1}, and !["/a"] after {"a":1} and {"a":2}
+    /// patches.kept(alloc, usize::MAX)  // {"a":1} after {"a":1}, and !["/a"] after {"a":1} and {"a":2}
     /// ```
-    pub fn kept(&self, alloc: Global) -> Result<String, LiveFault>
+    pub fn kept(&self, alloc: Global, limit: usize) -> Result<String, LiveFault>
+        ensures text { MatchResult result (λ text. IsKeptText self.now (string_bytes text))
+            (λ fault. IsNotKeptYet limit fault self.now) }
+        ensures within { IfOk result (λ text. length (string_bytes text) ≤ limit) }
+        ensures empty { IfOk result (λ text. (taken : List Document) → HasTaken self.now taken
+            → (string_bytes text ≡ []) ↔ (taken ≡ [])) }
         ensures kept { IfOk result (λ text. (taken : List Document) → HasTaken self.now taken
             → All IsReadable taken → IsKept self.now (string_bytes text)) }
-        ensures fault { IfErr result (λ fault. IsNotKeptYet fault self.now) }
     {
         text_laws();
         if let Some(places) = self.places() {
             let written = write_places(alloc, places.places.as_slice())?;
-            return Ok(marked(alloc, places.more, written.as_str())?);
+            let text = marked(alloc, places.more, written.as_str())?;
+            return unless_longer(text, limit);
         }
         if self.is_pending() {
             return Err(LiveFault::Pending);
         }
         match self.joined() {
-            Some(joined) => Ok(write_doc(alloc, joined)?),
+            Some(joined) => text_within(alloc, joined, limit),
             None => Ok(String::new(alloc)),
         }
     }

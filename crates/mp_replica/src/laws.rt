@@ -94,6 +94,7 @@ pub(crate) fn text_laws()
     ensures { TextLaws }
 {
     merge_laws();
+    tree::docs_are_documents();
     tree::readings_are_documents();
     tree::texts_read_back();
     merge::join_is_readable();

@@ -20,6 +20,7 @@ mod reading;
 mod replica;
 mod replica_texts;
 mod stored_patches;
+mod writing;
 
 pub use fault::{DecideFault, LiveFault};
 pub use first_pairs::FirstPairs;

@@ -1,9 +1,9 @@
 //! A log of patches, over texts.
-ghost use Rattle.std.specs.Prelude.{◌≡◌, ◌≢◌, ◌∷◌, ◌++◌, ◌<◌, ℕ, List, [], None, Ok, IfOk, IfErr, OnErr, MatchResult, string_bytes};
+ghost use Rattle.std.specs.Prelude.{◌≡◌, ◌≢◌, ◌∷◌, ◌++◌, ◌<◌, ◌≤◌, ℕ, List, [], None, Ok, IfOk, IfErr, OnErr, MatchResult, length, string_bytes};
 ghost use Rattle.mp_tree.specs.Document.{Document, IsDocument};
 ghost use Rattle.mp_tree.specs.Text.{document_in, text as compact};
 ghost use Rattle.mp_replica.specs.Faults.{IsOutOfMemory, IsUnread};
-ghost use Rattle.mp_replica.specs.LogTexts.{IsConflictsText, IsConflictsTextWithin};
+ghost use Rattle.mp_replica.specs.LogTexts.{IsConflictsText, IsConflictsTextWithin, IsNoLogText};
 ghost use Rattle.mp_replica.specs.Messages.{LogFollows, Becomes, Sent};
 ghost use Rattle.mp_replica.specs.PatchLog.{Shows, start_of, stored_of};
 
@@ -12,7 +12,7 @@ use crate::message::{Arrival, Identity, Message};
 use crate::pairs_texts::{PairsText, write_pairs, write_pairs_within};
 use crate::patch_log::PatchLog;
 use crate::reading::document_of;
-use mp_tree::write_doc;
+use crate::writing::text_within;
 use std::alloc::Global;
 
 impl PatchLog {
@@ -69,18 +69,22 @@ impl PatchLog {
         Ok(self.receive(alloc, &message)?)
     }
 
-    /// The compact text of the document that the log shows, as [`PatchLog::document`] gives it. `OutOfMemory` if memory ran out.
+    /// The compact text of the document that the log shows, as [`PatchLog::document`] gives it.
+    ///
+    /// `TooLarge` exactly if the text has more than `limit` bytes (`usize::MAX` is no limit): then none is made. `OutOfMemory` if
+    /// memory ran out.
     ///
     /// ```text
-    /// log.document_text(alloc)  // {"a":1,"b":2}
+    /// log.document_text(alloc, usize::MAX)  // {"a":1,"b":2}
     /// ```
-    pub fn document_text(&self, alloc: Global) -> Result<String, LiveFault>
-        ensures { MatchResult result (λ text. (d : Document) × IsDocument d
+    pub fn document_text(&self, alloc: Global, limit: usize) -> Result<String, LiveFault>
+        ensures shows { MatchResult result (λ text. (d : Document) × IsDocument d
             × Shows (start_of self.now) (stored_of self.now) d × (string_bytes text ≡ compact d))
-            IsOutOfMemory }
+            (λ fault. IsNoLogText limit fault self.now) }
+        ensures within { IfOk result (λ text. length (string_bytes text) ≤ limit) }
     {
         let document = self.document(alloc)?;
-        Ok(write_doc(alloc, &document)?)
+        text_within(alloc, &document, limit)
     }
 
     /// Each two patches that conflict, as [`PatchLog::conflicts`] gives them, as a JSON array of objects: `first` and `second`

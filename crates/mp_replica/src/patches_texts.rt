@@ -1,5 +1,5 @@
 //! Patches that are gathered without a start, over texts.
-ghost use Rattle.std.specs.Prelude.{◌≡◌, ◌≢◌, ◌↔◌, ℕ, List, None, Some, Ok, IfOk, IfErr, OnErr, MatchOption, MatchResult, string_bytes};
+ghost use Rattle.std.specs.Prelude.{◌≡◌, ◌≢◌, ◌↔◌, ◌≤◌, ℕ, List, None, Some, Ok, IfOk, IfErr, OnErr, MatchOption, MatchResult, length, string_bytes};
 ghost use Rattle.mp_tree.specs.Document.{Document};
 ghost use Rattle.mp_tree.specs.Text.{document_in, text as compact};
 ghost use Rattle.mp_tree.specs.View.{document};
@@ -12,7 +12,7 @@ use crate::fault::LiveFault;
 use crate::laws::text_laws;
 use crate::patches::{Added, Patches};
 use crate::reading::document_of;
-use mp_tree::write_doc;
+use crate::writing::text_within;
 use std::alloc::Global;
 
 impl Patches {
@@ -46,16 +46,18 @@ impl Patches {
     /// groups and repeats they were taken.
     ///
     /// `Conflict` exactly if two conflict; else `Pending` exactly while a patch is pending, which [`Patches::settle`] makes
-    /// good; else `NoPatches` exactly if nothing was taken. `OutOfMemory` may come at any point.
+    /// good; else `NoPatches` exactly if nothing was taken; else `TooLarge` exactly if the text has more than `limit` bytes
+    /// (`usize::MAX` is no limit): it is measured first, and then none is made. `OutOfMemory` may come at any point.
     ///
     /// ```text
-    /// patches.text(alloc)  // {"a":1,"b":null} for {"a":1} and {"b":null}
+    /// patches.text(alloc, usize::MAX)  // {"a":1,"b":null} for {"a":1} and {"b":null}
     /// ```
-    pub fn text(&self, alloc: Global) -> Result<String, LiveFault>
+    pub fn text(&self, alloc: Global, limit: usize) -> Result<String, LiveFault>
         ensures joined { MatchResult result
             (λ text. (self.now.places ≡ None) × (self.now.pending ≡ None)
             × MatchOption self.now.joined ⊥ (λ j. string_bytes text ≡ compact (document j)))
-            (λ fault. IsNoJoin fault self.now) }
+            (λ fault. IsNoJoin limit fault self.now) }
+        ensures within { IfOk result (λ text. length (string_bytes text) ≤ limit) }
         ensures join { MatchResult result
             (λ text. (texts : List (List ℕ)) → HasTakenTexts self.now texts
             → IsJoinText texts (string_bytes text))
@@ -70,7 +72,7 @@ impl Patches {
             return Err(LiveFault::Pending);
         }
         match self.joined() {
-            Some(joined) => Ok(write_doc(alloc, joined)?),
+            Some(joined) => text_within(alloc, joined, limit),
             None => Err(LiveFault::NoPatches),
         }
     }

@@ -1,5 +1,5 @@
 //! A replica that stays in memory, over texts.
-ghost use Rattle.std.specs.Prelude.{◌≡◌, ◌≢◌, ◌∷◌, ◌++◌, ℕ, List, [], None, Some, Ok, IfOk, IfErr, OnErr, MatchOption, MatchResult, string_bytes};
+ghost use Rattle.std.specs.Prelude.{◌≡◌, ◌≢◌, ◌∷◌, ◌++◌, ◌≤◌, ℕ, List, [], None, Some, Ok, IfOk, IfErr, OnErr, MatchOption, MatchResult, length, string_bytes};
 ghost use Rattle.mp_tree.specs.Document.{Document};
 ghost use Rattle.mp_tree.specs.Text.{document_in, text as compact};
 ghost use Rattle.mp_tree.specs.View.{document};
@@ -12,9 +12,9 @@ use crate::fault::LiveFault;
 use crate::laws::text_laws;
 use crate::reading::document_of;
 use crate::replica::{Received, Replica};
+use crate::writing::text_within;
 use mp_pointer::Pointer;
 use mp_texts::write_places;
-use mp_tree::write_doc;
 use std::alloc::Global;
 
 impl Replica {
@@ -58,37 +58,40 @@ impl Replica {
 
     /// The compact text of what is shown.
     ///
-    /// `Pending` exactly while a patch is pending, so that none is shown in part: [`Replica::settle`] makes it good.
-    /// `OutOfMemory` may come at any point.
+    /// `Pending` exactly while a patch is pending, so that none is shown in part: [`Replica::settle`] makes it good. Else
+    /// `TooLarge` exactly if the text has more than `limit` bytes (`usize::MAX` is no limit): it is measured first, and then none
+    /// is made. `OutOfMemory` may come at any point.
     ///
     /// ```text
-    /// replica.shown_text(alloc)  // {"a":1,"b":2}
+    /// replica.shown_text(alloc, usize::MAX)  // {"a":1,"b":2}
     /// ```
-    pub fn shown_text(&self, alloc: Global) -> Result<String, LiveFault>
+    pub fn shown_text(&self, alloc: Global, limit: usize) -> Result<String, LiveFault>
         ensures shown { MatchResult result
             (λ text. (self.now.pending ≡ None)
             × (string_bytes text ≡ compact (document self.now.shown)))
-            (λ fault. IsUnshown fault self.now) }
+            (λ fault. IsUnshown limit fault self.now) }
+        ensures within { IfOk result (λ text. length (string_bytes text) ≤ limit) }
         ensures replay { IfOk result (λ text. (start : List ℕ) (texts : List (List ℕ))
             → FollowsTexts start texts self.now
             → IsReplayText start texts (string_bytes text)) }
     {
         text_laws();
         match self.shown() {
-            Some(shown) => Ok(write_doc(alloc, shown)?),
+            Some(shown) => text_within(alloc, shown, limit),
             None => Err(LiveFault::Pending),
         }
     }
 
     /// The text of the join of what was received, which can be sent in place of that.
     ///
-    /// `Pending` exactly while a patch is pending; else `NoPatches` exactly if nothing was received. `OutOfMemory` may come at
-    /// any point.
-    pub fn joined_text(&self, alloc: Global) -> Result<String, LiveFault>
+    /// `Pending` exactly while a patch is pending; else `NoPatches` exactly if nothing was received; else `TooLarge` exactly if
+    /// the text has more than `limit` bytes. `OutOfMemory` may come at any point.
+    pub fn joined_text(&self, alloc: Global, limit: usize) -> Result<String, LiveFault>
         ensures joined { MatchResult result
             (λ text. (self.now.pending ≡ None) × MatchOption self.now.joined ⊥
             (λ j. string_bytes text ≡ compact (document j)))
-            (λ fault. IsNotJoined fault self.now) }
+            (λ fault. IsNotJoined limit fault self.now) }
+        ensures within { IfOk result (λ text. length (string_bytes text) ≤ limit) }
         ensures join { IfOk result (λ text. (start : List ℕ) (texts : List (List ℕ))
             → FollowsTexts start texts self.now → IsJoinText texts (string_bytes text)) }
     {
@@ -97,7 +100,7 @@ impl Replica {
             return Err(LiveFault::Pending);
         }
         match self.joined() {
-            Some(joined) => Ok(write_doc(alloc, joined)?),
+            Some(joined) => text_within(alloc, joined, limit),
             None => Err(LiveFault::NoPatches),
         }
     }
@@ -105,16 +108,17 @@ impl Replica {
     /// The text of the part of what is shown that the pointer names (RFC 6901).
     ///
     /// In this order: `Pointer` if the pointer's text spells no pointer; `Pending` while a patch is pending; `Missing` if
-    /// there is no such part. `OutOfMemory` may come at any point.
+    /// there is no such part; `TooLarge` if its text has more than `limit` bytes. `OutOfMemory` may come at any point.
     ///
     /// ```text
-    /// replica.part_text(alloc, "/b")  // 2
+    /// replica.part_text(alloc, "/b", usize::MAX)  // 2
     /// ```
-    pub fn part_text(&self, alloc: Global, pointer: &str) -> Result<String, LiveFault>
-        ensures { MatchResult result
+    pub fn part_text(&self, alloc: Global, pointer: &str, limit: usize) -> Result<String, LiveFault>
+        ensures part { MatchResult result
             (λ text. (self.now.pending ≡ None)
             × IsPartOf (document self.now.shown) pointer.now (string_bytes text))
-            (λ fault. IsNoPart fault self.now pointer.now) }
+            (λ fault. IsNoPart limit fault self.now pointer.now) }
+        ensures within { IfOk result (λ text. length (string_bytes text) ≤ limit) }
     {
         text_laws();
         let pointer = Pointer::parse(alloc, pointer)?;
@@ -122,7 +126,7 @@ impl Replica {
             return Err(LiveFault::Pending);
         }
         match self.get(&pointer) {
-            Some(part) => Ok(write_doc(alloc, part)?),
+            Some(part) => text_within(alloc, part, limit),
             None => Err(LiveFault::Missing),
         }
     }

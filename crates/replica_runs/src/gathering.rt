@@ -50,7 +50,7 @@ pub fn agree(alloc: Global, count: u64) -> Result<Option<u64>, AllocError> {
     }
     let all = bytes_of(alloc, texts.as_slice())?;
     match (
-        patches.text(alloc),
+        patches.text(alloc, usize::MAX),
         join_texts(alloc, all.as_slice(), usize::MAX),
     ) {
         (Ok(joined), Ok(wanted)) => Ok(if joined == wanted { Some(taken) } else { None }),

@@ -37,12 +37,12 @@ fn on_replica(
         "conflicts" => replica.conflicts(alloc, &patch).is_ok(),
         "get" => replica.get(&Pointer::empty(alloc)).is_some(),
         "join_into" => join_into(alloc, &mut joined, &patch) == Ok(true),
-        "joined_text" => replica.joined_text(alloc).is_ok(),
-        "part_text" => replica.part_text(alloc, "").is_ok(),
+        "joined_text" => replica.joined_text(alloc, usize::MAX).is_ok(),
+        "part_text" => replica.part_text(alloc, "", usize::MAX).is_ok(),
         "receive_doc" => matches!(replica.receive(alloc, patch), Received::Taken),
         "receive_text" => replica.receive_text(alloc, given.as_bytes()).is_ok(),
         "repeat" => matches!(replica.receive(alloc, joined), Received::Taken),
-        "shown_text" => replica.shown_text(alloc).is_ok(),
+        "shown_text" => replica.shown_text(alloc, usize::MAX).is_ok(),
         _ => false,
     };
     Ok(if made { Some(1) } else { None })
@@ -66,7 +66,7 @@ fn on_patches(
         "add" => patches.add(alloc, patch) == Added::Joined,
         "add_text" => patches.add_text(alloc, given.as_bytes()).is_ok(),
         "combine" => patches.combine(alloc, &mut others) == Added::Joined,
-        "text" => patches.text(alloc).is_ok(),
+        "text" => patches.text(alloc, usize::MAX).is_ok(),
         _ => false,
     };
     Ok(if made { Some(1) } else { None })

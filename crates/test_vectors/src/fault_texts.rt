@@ -108,6 +108,7 @@ const LIVE_FAULTS: &[(LiveFault, &str)] = &[
     (LiveFault::NoPatches, "no patches"),
     (LiveFault::Conflict, "conflict"),
     (LiveFault::Pending, "pending"),
+    (LiveFault::TooLarge, "too large"),
     (LiveFault::NotKept, "not kept patches"),
     (LiveFault::OutOfMemory, "out of memory"),
 ];

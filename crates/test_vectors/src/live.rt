@@ -31,8 +31,8 @@ fn follows(alloc: Global, patches: &[&[u8]]) -> Result<Replica, LiveFault> {
 }
 
 fn shows<R: Abort + AllocGlobal>(rt: &R, replica: &Replica) -> Result<(), Fail> {
-    answers(rt, replica.shown_text(rt.alloc()), SHOWN)?;
-    answers(rt, replica.joined_text(rt.alloc()), JOINED)
+    answers(rt, replica.shown_text(rt.alloc(), usize::MAX), SHOWN)?;
+    answers(rt, replica.joined_text(rt.alloc(), usize::MAX), JOINED)
 }
 
 #[test]
@@ -44,9 +44,17 @@ fn replicas_show_the_same(rt: HostRuntime) -> Result<(), Fail> {
 #[test]
 fn a_part_of_what_is_shown(rt: HostRuntime) -> Result<(), Fail> {
     let replica = follows(rt.alloc(), &[ONE])?;
-    answers(&rt, replica.part_text(rt.alloc(), "/a/x"), "1")?;
-    answers(&rt, replica.part_text(rt.alloc(), "/b"), "missing")?;
-    answers(&rt, replica.part_text(rt.alloc(), "b"), "pointer: no slash")?;
+    answers(&rt, replica.part_text(rt.alloc(), "/a/x", usize::MAX), "1")?;
+    answers(
+        &rt,
+        replica.part_text(rt.alloc(), "/b", usize::MAX),
+        "missing",
+    )?;
+    answers(
+        &rt,
+        replica.part_text(rt.alloc(), "b", usize::MAX),
+        "pointer: no slash",
+    )?;
     equal(
         &rt,
         replica.get(&Pointer::empty(rt.alloc())).is_some(),
@@ -96,8 +104,12 @@ fn what_is_no_document(rt: HostRuntime) -> Result<(), Fail> {
         replica.conflicts_text(alloc, b""),
         "document: not JSON",
     )?;
-    answers(&rt, replica.joined_text(alloc), "no patches")?;
-    answers(&rt, replica.shown_text(alloc), r#"{"k":0,"l":[1]}"#)?;
+    answers(&rt, replica.joined_text(alloc, usize::MAX), "no patches")?;
+    answers(
+        &rt,
+        replica.shown_text(alloc, usize::MAX),
+        r#"{"k":0,"l":[1]}"#,
+    )?;
     answers(&rt, received(alloc, &mut replica, THREE), "Taken")
 }
 
@@ -115,8 +127,8 @@ fn groups_are_combined(rt: HostRuntime) -> Result<(), Fail> {
     let mut patches = taken(rt.alloc(), &[THREE])?;
     let mut others = taken(rt.alloc(), &[ONE, TWO, ONE])?;
     equal(&rt, patches.combine(rt.alloc(), &mut others), Added::Joined);
-    answers(&rt, patches.text(rt.alloc()), JOINED)?;
-    answers(&rt, others.text(rt.alloc()), "no patches")
+    answers(&rt, patches.text(rt.alloc(), usize::MAX), JOINED)?;
+    answers(&rt, others.text(rt.alloc(), usize::MAX), "no patches")
 }
 
 /// The places of a conflict, as they are written.
@@ -130,16 +142,16 @@ fn places(alloc: Global, patches: &Patches) -> Result<String, LiveFault> {
 #[test]
 fn a_conflict_is_a_state(rt: HostRuntime) -> Result<(), Fail> {
     let mut patches = taken(rt.alloc(), &[ONE, br#"{"a":5}"#, THREE])?;
-    answers(&rt, patches.text(rt.alloc()), "conflict")?;
+    answers(&rt, patches.text(rt.alloc(), usize::MAX), "conflict")?;
     answers(&rt, places(rt.alloc(), &patches), r#"["/a"]"#)?;
-    answers(&rt, patches.kept(rt.alloc()), r#"!["/a"]"#)?;
+    answers(&rt, patches.kept(rt.alloc(), usize::MAX), r#"!["/a"]"#)?;
     let mut others = taken(rt.alloc(), &[TWO])?;
     equal(
         &rt,
         others.combine(rt.alloc(), &mut patches),
         Added::Conflict,
     );
-    answers(&rt, patches.text(rt.alloc()), "no patches")?;
+    answers(&rt, patches.text(rt.alloc(), usize::MAX), "no patches")?;
     answers(&rt, places(rt.alloc(), &others), r#"["/a"]"#)
 }
 
@@ -170,7 +182,7 @@ const KEPT: &[(&[u8], &str)] = &[
 
 fn kept_again(alloc: Global, kept: &[u8]) -> Result<String, LiveFault> {
     let patches = Patches::from_kept(alloc, kept)?;
-    patches.kept(alloc)
+    patches.kept(alloc, usize::MAX)
 }
 
 #[test]

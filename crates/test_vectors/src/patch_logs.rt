@@ -498,7 +498,7 @@ fn what_becomes_of_texts(rt: HostRuntime) -> Result<(), Fail> {
         let answer = arrived(rt.alloc(), &mut log, *epoch, *identity, text);
         answers(&rt, answer, wanted)?;
     }
-    answers(&rt, log.document_text(rt.alloc()), LARGER_BOX)?;
+    answers(&rt, log.document_text(rt.alloc(), usize::MAX), LARGER_BOX)?;
     let pairs = r#"[{"first":[1,1],"second":[2,1],"places":["/colour"]}]"#;
     answers(&rt, log.conflicts_text(rt.alloc()), pairs)
 }
@@ -531,7 +531,7 @@ fn pairs_as_a_text(rt: HostRuntime) -> Result<(), Fail> {
 
 /// The text of a log that begins with this text.
 fn begun(alloc: Global, start: &str) -> Result<String, LiveFault> {
-    PatchLog::from_text(alloc, 1, start.as_bytes())?.document_text(alloc)
+    PatchLog::from_text(alloc, 1, start.as_bytes())?.document_text(alloc, usize::MAX)
 }
 
 #[test]

@@ -1,5 +1,5 @@
 -- The laws of the crates below that those of replicas rest on. Only private clauses cite it.
-use Rattle.mp_tree.specs.Laws.{ReadsBack, ReadsReadable}
+use Rattle.mp_tree.specs.Laws.{DocsAreDocuments, ReadsBack, ReadsReadable}
 use Rattle.mp_pointer.specs.Laws as pointer
 use Rattle.mp_merge.specs.Laws as merge
 
@@ -25,6 +25,7 @@ pub record MergeLaws : Type 0 where
 -- of texts
 pub record TextLaws : Type 0 where
   pub merging : MergeLaws
+  pub docs_good : DocsAreDocuments
   pub reads_readable : ReadsReadable
   pub reads_back : ReadsBack
   pub readable_join : merge.JoinIsReadable

@@ -14,4 +14,4 @@ pub returns : goal.returns
 returns c =
     put_back (OnlyReads (GivesLogDocument c.args.limit)) c.args.limit status_document c.args.log.now.value c.put.new.self.value c.report_live-2.result c.args.out.now c.report_live-2.new.out c.in-Some.held.value c.in-Some.held.value
     (handle_answer c.document-answer.result) (sym c.take.ensures.value ∙ ap (option_map (λ b. b.value)) c.in-Some.is) c.put.ensures
-    (subst (λ log. GivesLogDocument c.args.limit log (handle_answer c.document-answer.result)) c.deref.ensures (c.document-answer.ensures c.args.limit), refl) c.report_live-2.ensures
+    (subst (λ log. GivesLogDocument c.args.limit log (handle_answer c.document-answer.result)) c.deref.ensures c.document-answer.ensures, refl) c.report_live-2.ensures

@@ -8,11 +8,11 @@ use Rattle.mp_c.proofs.patches.text.Goals as goal
 pub returns-in-Err-Conflict : goal.returns-in-Err-Conflict
 returns-in-Err-Conflict c =
     let still = still_taken c.args.patches.now c.settle-settled.new.self c.settle-settled.ensures.taken in
-    conflicting c.args.limit c.args.patches.now c.settle-settled.new.self (stop_answer c.conflict_of.result) still
+    conflicting c.args.limit c.args.patches.now c.settle-settled.new.self (stop_answer c.conflict_of.result) (still, c.settle-settled.ensures.unchanged)
     (λ texts has. subst (λ (why : LiveFault). IsNoJoinText why texts) c.in-Err-Conflict.field-0-is (c.in-Err-Conflict.ensures.join texts (still texts has)))
     c.conflict_of.ensures
 
 pub returns-in-Err-NoPatches : goal.returns-in-Err-NoPatches
 returns-in-Err-NoPatches c =
     let still = still_taken c.args.patches.now c.settle-settled.new.self c.settle-settled.ensures.taken in
-    (still, λ texts has. subst (λ (why : LiveFault). IsNoJoinText why texts) c.in-Err-NoPatches.field-0-is (c.in-Err-NoPatches.ensures.join texts (still texts has)))
+    ((still, c.settle-settled.ensures.unchanged), λ texts has. subst (λ (why : LiveFault). IsNoJoinText why texts) c.in-Err-NoPatches.field-0-is (c.in-Err-NoPatches.ensures.join texts (still texts has)))

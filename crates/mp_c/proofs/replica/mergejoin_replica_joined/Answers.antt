@@ -6,5 +6,5 @@ use Rattle.mp_c.proofs.replica.mergejoin_replica_joined.Goals as goal
 
 pub returns-in_default : goal.returns-in_default
 returns-in_default c =
-    not_started ShowsJoin c.args.limit status_document c.args.replica.now.value c.take.new.self.value c.report_live.result c.args.out.now c.report_live.new.out (sym c.take.ensures.value ∙ ap (option_map (λ b. b.value)) c.in_default.is)
+    not_started (ShowsJoin c.args.limit) c.args.limit status_document c.args.replica.now.value c.take.new.self.value c.report_live.result c.args.out.now c.report_live.new.out (sym c.take.ensures.value ∙ ap (option_map (λ b. b.value)) c.in_default.is)
     c.take.ensures.rest c.report_live.ensures
