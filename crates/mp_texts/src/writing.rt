@@ -13,7 +13,7 @@ ghost use Rattle.mp_texts.specs.PlacesTexts.{IsPlacesText, listed};
 use crate::fault::TextsFault;
 use mp_patch::{JsonPatch, write_patch_within};
 use mp_pointer::Pointer;
-use mp_tree::{Doc, write_doc, write_text, write_value_within};
+use mp_tree::{Doc, write_doc, write_value_within};
 use serde_json::Value;
 use std::alloc::{AllocError, Global};
 
@@ -73,7 +73,7 @@ pub fn write_places(alloc: Global, places: &[Pointer]) -> Result<String, AllocEr
 /// As `write_places`, of as many of the first places as make a text of at most `limit` bytes. If not even an empty array fits,
 /// since the limit is 0 or 1, the text is empty. `AllocError` if memory ran out.
 ///
-/// The text of all places is made first, so a caller who wants little memory bounds the places before.
+/// How many fit is counted first, by a walk that takes no memory; with `usize::MAX` nothing is counted.
 ///
 /// ```text
 /// write_places_within(alloc, &places, 10)  // ["/a"], where all would be ["/a","/b~1c"]
@@ -87,41 +87,37 @@ pub fn write_places_within(
     ensures reads_back { IfOk result (λ text. 2 ≤ limit
         → (written : List Tokens) × IsTextOf (places_list written) (string_bytes text)) }
 {
+    if limit == usize::MAX {
+        return write_places(alloc, places);
+    }
     if limit < 2 {
         return Ok(String::new(alloc));
     }
-    let text = write_places(alloc, places)?;
-    if text.as_str().len() <= limit {
-        return Ok(text);
-    }
-    drop(text);
-    let count = count_within(alloc, places, limit)?;
+    let count = count_within(places, limit);
     write_places(alloc, &places[..count])
 }
 
 // How many of the first places make a text of at most so many bytes.
-fn count_within(alloc: Global, places: &[Pointer], limit: usize) -> Result<usize, AllocError>
+fn count_within(places: &[Pointer], limit: usize) -> usize
     requires { 2 ≤ limit }
-    ensures within { IfOk result (λ n. (n ≤ length places.now)
-        × (listed (take n places.now) ≤ limit)) }
-    ensures longest { IfOk result (λ n. n < length places.now
-        → limit < listed (take (n + 1) places.now)) }
+    ensures within { (result ≤ length places.now) × (listed (take result places.now) ≤ limit) }
+    ensures longest { result < length places.now
+        → limit < listed (take (result + 1) places.now) }
 {
     let mut left = limit - 1;
     for (count, place) in places.iter().enumerate() {
-        let spelling = write_text(alloc, place.print(alloc)?.as_str())?;
-        let Some(after) = left_after(spelling.as_str(), left) else {
-            return Ok(count);
+        let Some(after) = left_after(place, left) else {
+            return count;
         };
         left = after;
     }
-    Ok(places.len())
+    places.len()
 }
 
-// What remains of so many bytes after a text, and what stands before or after it in the array.
-fn left_after(text: &str, left: usize) -> Option<usize>
-    ensures { MatchOption result (left < 1 + length text.now)
-        (λ after. after + (1 + length text.now) ≡ left) }
+// What remains of so many bytes after a place, and what stands before or after it in the array.
+fn left_after(place: &Pointer, left: usize) -> Option<usize>
+    ensures { MatchOption result (left < 1 + length (compact (place_of place.now)))
+        (λ after. after + (1 + length (compact (place_of place.now))) ≡ left) }
 {
-    left.checked_sub(1)?.checked_sub(text.len())
+    place.left_of_text(left.checked_sub(1)?)
 }

@@ -1,9 +1,6 @@
 use Rattle.std.proofs.Common.{◌≡◌, ◌<◌, ◌+◌, ◌∷◌, ◌++◌, [], ℕ, List, length, take, get_or, sym, ap, ◌∙◌, arith}
 use Rattle.std.proofs.lemmas.List.{take_all, take_more}
-use Rattle.mp_tree.specs.Document.{string}
-use Rattle.mp_tree.specs.Text.{text as compact}
 use Rattle.mp_pointer.specs.Spelling.{Tokens}
-use Rattle.mp_texts.specs.Answers.{place_of}
 use Rattle.mp_texts.specs.PlacesTexts.{listed}
 use Rattle.mp_texts.proofs.Listed.{listed_within, listed-push, spelled, spelled-append}
 use Rattle.mp_texts.proofs.writing.count_within.Goals as goal
@@ -21,20 +18,16 @@ returns-in_default-clause-longest c within =
     let places = c.args.places.now in
     let k = c.loop-count.count in
     let w = c.index-places-count.result in
-    let spelling : length c.as_str-in-loop-count.result.now ≡ length (compact (place_of w)) =
-    ap length (c.as_str-in-loop-count.ensures.value ∙ c.in_ok-spelling.ensures.text ∙ ap (λ s. compact (string s)) (c.as_str.ensures.value ∙ c.in_ok-print.ensures)) in
     let longer : listed (take (k + 1) places) ≡ listed (take k places ++ w ∷ []) = ap listed (more places k w c.loop-count-test.true c.index-places-count.is) in
-    omega (arith, longer, listed-push (take k places) w, spelling, c.in_default.ensures, c.loop-count.invariant)
+    omega (arith, longer, listed-push (take k places) w, c.in_default.ensures, c.loop-count.invariant)
 
 pub loop-count-preserved : goal.loop-count-preserved
 loop-count-preserved c =
     let places = c.args.places.now in
     let k = c.loop-count.count in
     let w = c.index-places-count.result in
-    let spelling : length c.as_str-in-loop-count.result.now ≡ length (compact (place_of w)) =
-    ap length (c.as_str-in-loop-count.ensures.value ∙ c.in_ok-spelling.ensures.text ∙ ap (λ s. compact (string s)) (c.as_str.ensures.value ∙ c.in_ok-print.ensures)) in
     let longer : spelled (take (k + 1) places) ≡ spelled (take k places ++ w ∷ []) = ap spelled (more places k w c.loop-count-test.true c.index-places-count.is) in
-    omega (arith, longer, spelled-append (take k places) (w ∷ []), spelling, c.in-Some.ensures, c.loop-count.invariant)
+    omega (arith, longer, spelled-append (take k places) (w ∷ []), c.in-Some.ensures, c.loop-count.invariant)
 
 pub returns-clause-within : goal.returns-clause-within
 returns-clause-within c =

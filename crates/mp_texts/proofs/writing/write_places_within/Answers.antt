@@ -6,8 +6,8 @@ use Rattle.mp_texts.proofs.writing.write_places_within.Goals as goal
 pub returns-clause-first : goal.returns-clause-first
 returns-clause-first c =
     let two : 2 ≤ c.args.limit = omega (arith, c.if-limit-lt2.false) in
-    let n = c.in_ok-count.count in
-    IfOk-weaker c.write_places-2.result _ _ (λ text is. first_text c.args.limit n c.args.places.now (string_bytes text) two c.in_ok-count.ensures.within.1 c.in_ok-count.ensures.longest is.is) c.write_places-2.ensures
+    let n = c.count_within-count.result in
+    IfOk-weaker c.write_places-2.result _ _ (λ text is. first_text c.args.limit n c.args.places.now (string_bytes text) two c.count_within-count.ensures.within.1 c.count_within-count.ensures.longest is.is) c.write_places-2.ensures
 
 pub returns-clause-reads_back : goal.returns-clause-reads_back
-returns-clause-reads_back c = IfOk-weaker c.write_places-2.result _ _ (λ text is two. (take c.in_ok-count.count c.args.places.now, is)) c.write_places-2.ensures
+returns-clause-reads_back c = IfOk-weaker c.write_places-2.result _ _ (λ text is two. (take c.count_within-count.result c.args.places.now, is)) c.write_places-2.ensures
