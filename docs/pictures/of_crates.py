@@ -20,7 +20,7 @@ PLACES = {
 # The bindings, which are in the first row, above the crate that each uses.
 BINDINGS, BELOW = ("C", "Rust", "Python", "PostgreSQL", "SQLite"), "mp_c"
 # Where a line is if it is not in the middle of what the two boxes have in common.
-LINES = {("test_vectors", "mp_cli"): 156, ("allocation_failures", "mp_cli"): 180, ("test_vectors", "library_example"): 495}
+LINES = {("test_vectors", "mp_cli"): 156, ("test_vectors", "library_example"): 495}
 
 
 def depends_on():

@@ -83,9 +83,7 @@ def takes_memory(call):
 
 
 def ways_of(call):
-    """Gives the ways in which requests are refused: a call that is made again is to be refused nothing the second time."""
-    if call.endswith("_again"):
-        return ["REFUSE_AT"]
+    """Gives the ways in which requests are refused."""
     return ["REFUSE_AT", "REFUSE_FROM"] if takes_memory(call) else ["REFUSE_FROM"]
 
 

@@ -1,5 +1,5 @@
-"""Each public call under a failing allocator. The program crates/allocation_failures makes the call that its word names once, and makes
-no request to the heap of its own.
+"""Each public call that neither the program nor the library makes, under a failing allocator. The program crates/allocation_failures
+makes the call that its word names once, and makes no request to the heap of its own.
 
 It prints what it saw of the call: `answer`, the one that is wanted; `out of memory`, with what was borrowed as it was; or `unprepared`,
 if memory for what the call is given was refused and nothing was seen. For N = 1, 2, .. to the first request that is not reached,
@@ -35,4 +35,4 @@ def test_a_mutant_is_noticed(heap, caller, call):
 
 
 def test_a_heap_that_refuses_nothing_is_noticed(heap, caller):
-    assert WANT not in refused_in_turn(heap, "documents::copy", "REFUSE_NOTHING")[0]
+    assert WANT not in refused_in_turn(heap, "documents::read_docs", "REFUSE_NOTHING")[0]

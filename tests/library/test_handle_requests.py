@@ -1,6 +1,7 @@
 #!/usr/bin/python3
-"""How often each call on a handle asks the heap, of each size from 0 to 20. handle_requests.txt keeps the numbers, so that a body that
-makes an answer twice, or a copy, shows; and `tests/library/test_handle_requests.py --write` makes it anew.
+"""How often each call on a handle, and each of the six calls within a limit, asks the heap, of each size from 0 to 20.
+handle_requests.txt keeps the numbers, so that a body that makes an answer twice, or a copy, shows; and
+`tests/library/test_handle_requests.py --write` makes it anew.
 """
 
 import pathlib
@@ -13,10 +14,10 @@ HERE = pathlib.Path(__file__).resolve().parent
 sys.path[:0] = [str(HERE.parent / "common"), str(HERE)]
 import driving
 from calls import has_library
-from driving import CONFLICT, RESULT, call, last
+from driving import CONFLICT, RESULT, call, call_of, last
 
 KEPT = HERE / "handle_requests.txt"
-HEAD = "# Of each call on a handle, how often it asks the heap on sizes from 0 to 20. Made by tests/library/test_handle_requests.py --write.\n"
+HEAD = "# Of each call, how often it asks the heap on sizes from 0 to 20. Made by tests/library/test_handle_requests.py --write.\n"
 SIZES = range(21)
 
 
@@ -72,8 +73,22 @@ def logs(size):
     yield "log_decide in conflict", conflicting, call("log_decide", 0, b"", 0, [*identities, 2, 0])
 
 
+def limited(size):
+    """The six calls, within a limit that is not reached, and that half of the places of a conflict weigh."""
+    old, new, other = names(size, "old"), names(size, ["new"]), names(size, ["new"], "m")
+    copies = [{"op": "copy", "from": "/l", "path": "/c"}] * size
+    within = ["limit 1000000"]
+    yield "join within a limit", within, call_of("join", [old, other])
+    yield "replay within a limit", within, call_of("replay", [{}, old, other])
+    yield "merge within a limit", within, call_of("merge", [old, other])
+    yield "rewrite within a limit", within, call_of("rewrite", [old, new])
+    yield "patch within a limit", within, call_of("patch", [{"l": [old]}, copies])
+    yield "get within a limit", within, call_of("get", [old, b""])
+    yield "join in conflict within a limit", [f"limit {size // 2 * 140}"], call_of("join", [old, new])
+
+
 def calls(size):
-    return [*replicas(size), *patches(size), *logs(size)]
+    return [*replicas(size), *patches(size), *logs(size), *limited(size)]
 
 
 TITLES = [title for title, *_ in calls(0)]

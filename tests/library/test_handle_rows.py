@@ -244,6 +244,9 @@ def decides():
     for chosen in ([], [one], [none]):
         yield full, decision(*chosen), REFUSED, 0, 0, 0, "no number is left for a start"
     yield [*full, decision(one)], call("log_document"), RESULT, 0, 0, 0, SHOWN
+    last_start = [call("log_start", 0, START, numbers=[MOST - 1]), decision()]
+    yield last_start, message(ONE, MOST, 1, 1), RESULT, 0, 0, 0, "stored"
+    yield last_start, decision(), REFUSED, 0, 0, 0, "no number is left for a start"
 
 
 ROWS = list(rows())
@@ -355,6 +358,12 @@ def test_the_helpers_give_a_long_text_as_a_whole(driver):
                [*patches, call("kept")], [*log, call("log_document")]]
     seen = [(it.status, it.length, it.text) for it in last([driver, "new"], scripts)]
     assert seen == [(RESULT, len(it), it) for it in (shown, f'{{"long":{text}}}', text, part, part, shown)] and len(text) > 100_000
+
+
+def test_three_hundred_names_are_set(driver):
+    old, new = ({str(number): value for number in range(300)} for value in (0, [1]))
+    reply, = last([driver, "new"], [[call("start", 0, old), call("receive", 0, new), call("document")]])
+    assert reply.said() == [RESULT, 0, 0, 0, driving.written(new)]
 
 
 @pytest.mark.parametrize("way", ["buffer", "new"])

@@ -1,6 +1,6 @@
 """The six calls that keep nothing. They answer each row of tests/common/rows.py, and rows of 33 and of 40 patches, in buffers from
-none to more than the text, within limits, by the header's helpers, with each request to the heap refused in turn, in four threads,
-and under valgrind in blocks of their own; and the deepest documents, on a stack that is measured.
+none to more than the text, within limits, by the header's helpers, with each request to the heap refused in turn, within limits too, in
+four threads, and under valgrind in blocks of their own; and the deepest documents, on a stack that is measured.
 """
 
 import concurrent.futures
@@ -8,7 +8,7 @@ import concurrent.futures
 import pytest
 
 import driving
-from calling import Six
+from calling import SIZE_MAX, Six
 from deepest import ARRAYS, DEEPEST, OBJECTS, PLACE, WIDE, apart, stack_of_the_header
 from driving import MEMCHECK, NO_MEMORY, REFUSED, RESULT, TOO_LARGE, call_of, compare, compare_in_buffers, last, weight_of, within
 from rows import ROWS, many, text_of, total_of, vector_rows
@@ -30,6 +30,15 @@ def many_rows():
             yield export, status, first, second, text_of(document), texts
             if status == 1:
                 yield export, 6, count, 0, "not JSON", [*texts, b"["]
+
+
+def wide_rows():
+    """Gives calls that copy an object of more names than are inserted one by one."""
+    wide = {f"n{number}": {"a": ["text"]} for number in range(9)}
+    text, beside = text_of(wide), text_of({"n8": wide["n8"]}).encode()
+    yield "join", 0, 0, 0, text, [text.encode(), beside]
+    yield "rewrite", 0, 0, 0, f'[{{"op":"add","path":"/w","value":{text}}}]', [b"{}", f'{{"w":{text}}}'.encode()]
+    yield "patch", 0, 0, 0, f'{{"a":{text},"b":{text}}}', [f'{{"a":{text}}}'.encode(), b'[{"op":"copy","from":"/a","path":"/b"}]']
 
 
 def deep_rows():
@@ -70,7 +79,7 @@ def lines_of(rows):
             for export, status, first, second, text, texts in rows]
 
 
-TABLES = [list(vector_rows()), ROWS, list(growing_rows()), list(many_rows())]
+TABLES = [list(vector_rows()), ROWS, list(growing_rows()), list(many_rows()), list(wide_rows())]
 GIVEN = [row for table in TABLES for row in table]
 LINES = lines_of(GIVEN)
 
@@ -113,19 +122,26 @@ def runs_of(found):
             made = []
 
 
+# A limit that no row reaches: then what is made is weighed.
+FAR = 1_000_000
+
+
 @pytest.mark.parametrize("way", ["buffer", "new"])
 def test_each_request_is_refused_in_turn(driver, way):
-    """Alone, and with all after it: the call is out of memory, with the buffer as it was, or it answers; and it gives back all."""
-    tried = [(how, row) for how in (0, 1) for row in LINES]
+    """Alone, and with all after it; with no limit, with one that is not reached, and with half of the text: the call is out of memory, with
+    the buffer as it was, or it answers; and it gives back all."""
+    sizes = [(len(row[-1].encode()), row) for row in LINES]
+    tried = [(how, size, limit, row) for how in (0, 1) for size, row in sizes for limit in (SIZE_MAX, FAR, size // 2)]
     found, heaps = driving.replies([driver, way], [
-        line for how, row in tried for line in (f"capacity {len(row[-1].encode())}", f"each {how}", row[1], "heap")])
+        line for how, size, limit, row in tried for line in (f"capacity {size}", f"limit {limit}", f"each {how}", row[1], "heap")])
     runs, refusal = list(runs_of(found)), [NO_MEMORY, 0, 0, 0, ""]
-    for (how, (_, line, *wanted)), run, heap in zip(tried, runs, heaps, strict=True):
-        assert run[-1].said() == wanted and all(it.said() in (wanted, refusal) for it in run), (line, how)
-        assert all(it.length == len(it.text.encode()) for it in run) and not heap.blocks, (line, how, heap)
+    for (how, _, limit, (_, line, *wanted)), run, heap in zip(tried, runs, heaps, strict=True):
+        answer = run[-1].said()
+        assert (answer == wanted or limit < FAR) and all(it.said() in (answer, refusal) for it in run), (line, how, limit)
+        assert all(it.length == len(it.text.encode()) for it in run) and not heap.blocks, (line, how, limit, heap)
     reported = sum(it.status == NO_MEMORY for it in found)
     print(f"{len(found) - len(runs)} calls with requests refused, {reported} of them reported")
-    assert reported >= len(LINES)
+    assert reported >= 3 * len(LINES)
 
 
 def test_each_row_in_four_threads(library):

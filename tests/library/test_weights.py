@@ -1,4 +1,4 @@
-"""No shape of a document takes more memory than its weight, which is what a limit counts."""
+"""No shape of a document takes more memory than its weight, which is what a limit counts, exactly."""
 
 import pytest
 
@@ -69,3 +69,12 @@ def test_a_document_takes_at_most_its_weight(driver, shape):
     assert (start.status, get.status, freed.held) == (driving.RESULT, driving.MISSING, 0)
     assert held.held <= weight(document) + BESIDES
     assert read.peak <= READING * weight(document) + BESIDES
+
+
+@pytest.mark.parametrize("shape", [shape for shape in SHAPES if weight(SHAPES[shape]) < 20_000])
+def test_a_limit_counts_the_weight(driver, shape):
+    document = SHAPES[shape]
+    edits = [{"op": "replace", "path": "", "value": document}]
+    most = weight(document)
+    within, below = driving.last([driver], [[f"limit {limit}", call_of("patch", [None, edits])] for limit in (most, most - 1)])
+    assert (within.status, below.status) == (driving.RESULT, driving.TOO_LARGE)

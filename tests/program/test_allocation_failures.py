@@ -41,6 +41,8 @@ ROWS = [
     (["merge"], "[" * 127 + "]" * 127, 0, "[" * 126 + "]" * 126 + "\n"),
     (["patch"], "[" + "[" * 126 + "]" * 126 + ',[{"op":"copy","from":"","path":"/-"}]]', 1, "operation 0: too deep\n"),
     (["merge"], "[1][2]", 2, "input: not JSON\n"),
+    # As long as an input may be.
+    (["merge"], "[5" + " " * 1_048_573 + "]", 0, "5\n"),
 ]
 
 REFUSALS = [(3, "", "out of memory\n"), (3, "", "read failed\n")]

@@ -4,18 +4,13 @@
 #![tactic(auto)]
 
 mod documents;
-mod limits;
 mod live;
-mod logs;
 mod merges;
 mod patches;
 mod pointers;
 mod preparing;
-mod program;
 mod seeded;
 mod seen;
-mod texts;
-mod values;
 mod without_memory;
 
 use seen::{Seen, line_of};
@@ -59,16 +54,11 @@ fn watch(alloc: Global, name: &str) -> Option<Option<Seen>> {
     let (module, call) = name.split_once("::")?;
     match module {
         "documents" => documents::watch(alloc, call),
-        "limits" => limits::watch(alloc, call),
         "live" => live::watch(alloc, call),
-        "logs" => logs::watch(alloc, call),
         "merges" => merges::watch(alloc, call),
         "patches" => patches::watch(alloc, call),
         "seeded" => seeded::watch(alloc, call),
         "pointers" => pointers::watch(alloc, call),
-        "program" => program::watch(alloc, call),
-        "texts" => texts::watch(alloc, call),
-        "values" => values::watch(alloc, call),
         "without_memory" => without_memory::watch(alloc, call),
         _ => None,
     }
@@ -78,16 +68,11 @@ fn watch(alloc: Global, name: &str) -> Option<Option<Seen>> {
 fn list(rt: &impl Print) -> u8 {
     for (module, calls) in [
         ("documents", documents::CALLS),
-        ("limits", limits::CALLS),
         ("live", live::CALLS),
-        ("logs", logs::CALLS),
         ("merges", merges::CALLS),
         ("patches", patches::CALLS),
         ("seeded", seeded::CALLS),
         ("pointers", pointers::CALLS),
-        ("program", program::CALLS),
-        ("texts", texts::CALLS),
-        ("values", values::CALLS),
         ("without_memory", without_memory::CALLS),
     ] {
         if list_module(rt, module, calls).is_err() {

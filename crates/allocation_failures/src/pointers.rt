@@ -1,8 +1,8 @@
 //! The calls of mp_pointer that take memory.
 use crate::preparing::pointer_of;
 use crate::seen::{Seen, has_tokens};
-use mp_pointer::{Pointer, PointerFault};
-use std::alloc::Global;
+use mp_pointer::Pointer;
+use std::alloc::{AllocError, Global};
 
 const TEXT: &str = "/a~1b/~0";
 
@@ -11,51 +11,30 @@ const TOKENS: &[&str] = &["a/b", "~"];
 const LONGER: &[&str] = &["a/b", "~", "x/"];
 
 /// The names that `watch` takes.
-pub const CALLS: &[&str] = &["child", "copy", "front", "parse", "print", "push", "under"];
+pub const CALLS: &[&str] = &["child", "front", "push"];
 
 /// Watches the call of this name, if there is one.
 pub fn watch(alloc: Global, name: &str) -> Option<Option<Seen>> {
     Some(match name {
         "child" => watch_child(alloc),
-        "copy" => watch_copy(alloc),
         "front" => watch_front(alloc),
-        "parse" => Some(watch_parse(alloc)),
-        "print" => watch_print(alloc),
         "push" => watch_push(alloc),
-        "under" => watch_under(alloc),
         _ => return None,
     })
 }
 
-fn watch_parse(alloc: Global) -> Seen {
-    match Pointer::parse(alloc, TEXT) {
-        Ok(pointer) => Seen::answer_if(has_tokens(&pointer, TOKENS)),
-        Err(PointerFault::OutOfMemory) => Seen::NoMemory,
-        Err(_) => Seen::Wrong,
+/// Of a call that gives a pointer.
+fn of_pointer(given: Result<Pointer, AllocError>, wanted: &[&str]) -> Seen {
+    match given {
+        Ok(pointer) => Seen::answer_if(has_tokens(&pointer, wanted)),
+        Err(_) => Seen::NoMemory,
     }
-}
-
-fn watch_print(alloc: Global) -> Option<Seen> {
-    let pointer = pointer_of(alloc, TEXT)?;
-    let given = pointer.print(alloc);
-    Some(Seen::of_text(given, TEXT).with(has_tokens(&pointer, TOKENS)))
-}
-
-fn watch_copy(alloc: Global) -> Option<Seen> {
-    let pointer = pointer_of(alloc, TEXT)?;
-    let given = pointer.copy(alloc);
-    Some(Seen::of_pointer(given, TOKENS).with(has_tokens(&pointer, TOKENS)))
 }
 
 fn watch_child(alloc: Global) -> Option<Seen> {
     let pointer = pointer_of(alloc, TEXT)?;
     let given = pointer.child(alloc, "x/");
-    Some(Seen::of_pointer(given, LONGER).with(has_tokens(&pointer, TOKENS)))
-}
-
-fn watch_under(alloc: Global) -> Option<Seen> {
-    let pointer = pointer_of(alloc, TEXT)?;
-    Some(Seen::of_pointer(pointer.under(alloc, "x/"), &["x/", "a/b", "~"]))
+    Some(of_pointer(given, LONGER).with(has_tokens(&pointer, TOKENS)))
 }
 
 fn watch_front(alloc: Global) -> Option<Seen> {
@@ -64,7 +43,7 @@ fn watch_front(alloc: Global) -> Option<Seen> {
         return None;
     }
     let given = pointer.front(alloc, 1);
-    Some(Seen::of_pointer(given, &["a/b"]).with(has_tokens(&pointer, TOKENS)))
+    Some(of_pointer(given, &["a/b"]).with(has_tokens(&pointer, TOKENS)))
 }
 
 /// After a refusal the pointer is what it was.

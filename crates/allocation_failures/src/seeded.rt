@@ -17,6 +17,14 @@ pub fn watch(alloc: Global, name: &str) -> Option<Option<Seen>> {
     })
 }
 
+/// Of a call that gives a document.
+fn of_doc(given: Result<Doc, AllocError>, wanted: &Doc) -> Seen {
+    match given {
+        Ok(doc) => Seen::answer_if(doc.same(wanted)),
+        Err(_) => Seen::NoMemory,
+    }
+}
+
 /// Hides a refusal: a document that can't be copied is null.
 fn copy_or_null(alloc: Global, doc: &Doc) -> Result<Doc, AllocError> {
     Ok(doc.copy(alloc).unwrap_or(Doc::Null))
@@ -34,7 +42,7 @@ fn give_up(_alloc: Global, _doc: &Doc) -> Result<Doc, AllocError> {
 
 fn watch_copy_or_null(alloc: Global) -> Option<Seen> {
     let doc = doc_of(alloc, "[[1]]")?;
-    Some(Seen::of_doc(copy_or_null(alloc, &doc), &doc))
+    Some(of_doc(copy_or_null(alloc, &doc), &doc))
 }
 
 fn watch_same_as_copy(alloc: Global) -> Option<Seen> {
@@ -48,5 +56,5 @@ fn watch_same_as_copy(alloc: Global) -> Option<Seen> {
 
 fn watch_give_up(alloc: Global) -> Option<Seen> {
     let doc = doc_of(alloc, "[[1]]")?;
-    Some(Seen::of_doc(give_up(alloc, &doc), &doc))
+    Some(of_doc(give_up(alloc, &doc), &doc))
 }

@@ -1,8 +1,6 @@
 //! What was seen of a call, and the line of it.
-use mp_merge::Conflicts;
 use mp_pointer::Pointer;
 use mp_tree::Doc;
-use std::alloc::AllocError;
 
 /// What was seen of a call.
 #[derive(Clone, Copy, PartialEq, Eq)]
@@ -24,30 +22,6 @@ impl Seen {
     /// The same, if what the call borrowed is as it was.
     pub fn with(self, as_borrowed: bool) -> Seen {
         if as_borrowed { self } else { Seen::Wrong }
-    }
-
-    /// Of a call that gives a document.
-    pub fn of_doc(given: Result<Doc, AllocError>, wanted: &Doc) -> Seen {
-        match given {
-            Ok(doc) => Seen::answer_if(doc.same(wanted)),
-            Err(_) => Seen::NoMemory,
-        }
-    }
-
-    /// Of a call that gives a text.
-    pub fn of_text(given: Result<String, AllocError>, wanted: &str) -> Seen {
-        match given {
-            Ok(text) => Seen::answer_if(text.as_str() == wanted),
-            Err(_) => Seen::NoMemory,
-        }
-    }
-
-    /// Of a call that gives a pointer.
-    pub fn of_pointer(given: Result<Pointer, AllocError>, wanted: &[&str]) -> Seen {
-        match given {
-            Ok(pointer) => Seen::answer_if(has_tokens(&pointer, wanted)),
-            Err(_) => Seen::NoMemory,
-        }
     }
 }
 
@@ -85,11 +59,6 @@ pub fn are_pointers(pointers: &[Pointer], wanted: &[&[&str]]) -> bool {
         }
     }
     true
-}
-
-/// Whether these are the conflicts that are reported, and so many there are. It takes no memory.
-pub fn are_conflicts(conflicts: &Conflicts, wanted: &[&[&str]], total: usize) -> bool {
-    conflicts.total == total && are_pointers(conflicts.places.as_slice(), wanted)
 }
 
 /// Whether the documents are equal, one by one. It takes no memory.
