@@ -111,7 +111,7 @@ fn watch_log_conflicts_text(alloc: Global) -> Option<Seen> {
 
 fn watch_log_document_text(alloc: Global) -> Option<Seen> {
     let log = log_of(alloc)?;
-    Some(of_text(log.document_text(alloc), SHOWN_BEFORE))
+    Some(of_text(log.document_text(alloc, usize::MAX), SHOWN_BEFORE))
 }
 
 /// Whether it shows this document, as far as memory allows.
