@@ -18,7 +18,7 @@ WRAPPED = ["-Wl,--wrap=malloc,--wrap=realloc,--wrap=free", "-pthread"]
 MEMCHECK = ["valgrind", "-q", "--error-exitcode=9", "--leak-check=full", "--show-leak-kinds=all", "--errors-for-leak-kinds=all"]
 RESULT, CONFLICT, NO_PATCHES, REFUSED, MISSING, DOCUMENT, PATCH = range(7)
 POINTER, NO_MEMORY, PENDING, TOO_LARGE, NOT_STARTED = range(8, 13)
-MORE = 1
+MORE, SIZE_MAX = 1, 2**64 - 1
 
 
 class Reply(typing.NamedTuple):
@@ -140,6 +140,24 @@ def compare_in_buffers(words, rows, sizes=lambda length: range(length + 3)):
     print(f"{len(found)} calls in buffers")
 
 
+def nested(levels, inner, around):
+    """A value with so many levels around it."""
+    for _ in range(levels):
+        inner = around(inner)
+    return inner
+
+
+def weight(document):
+    """What a document weighs, as the header says it."""
+    if isinstance(document, str):
+        return 80 + len(document.encode())
+    if isinstance(document, list):
+        return 80 + sum(map(weight, document))
+    if isinstance(document, dict):
+        return 1000 + sum(128 + len(name.encode()) + weight(value) for name, value in document.items())
+    return 40
+
+
 def weight_of(place):
     """What a place weighs, as the header says it."""
     return 128 + 8 * place.count("/") + len(place.encode())
@@ -188,5 +206,5 @@ def count_within(limit, weights):
 # What a pair weighs beside its places.
 PAIR_WEIGHT = 64
 # What a script begins with, and what frees each handle that scripts use.
-PLAIN = ["capacity 4096", f"limit {2**64 - 1}"]
+PLAIN = ["capacity 4096", f"limit {SIZE_MAX}"]
 FREED = [call(name, number) for name in ("free", "drop", "log_free") for number in range(3)]

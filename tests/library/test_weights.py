@@ -1,32 +1,15 @@
-"""No shape of a document takes more memory than its weight, which is what a limit counts, exactly."""
+"""No shape of a document takes more memory than its weight, which is what a limit counts, exactly; and no handle more than the header says."""
 
 import pytest
 
 import driving
-from driving import call, call_of
+from driving import CONFLICT, RESULT, call, call_of, nested, weight
 
 # While an array grows, or moves to a block of its own size, it takes up to so many times its weight. So does what is read of a text, of
 # which a string or a name that is read last is there twice.
 READING = 2.4
 # What a replica takes besides its document, and a call besides what it reads.
 BESIDES = 600
-
-
-def weight(document):
-    """As the header says it."""
-    if isinstance(document, str):
-        return 80 + len(document.encode())
-    if isinstance(document, list):
-        return 80 + sum(map(weight, document))
-    if isinstance(document, dict):
-        return 1000 + sum(128 + len(name.encode()) + weight(value) for name, value in document.items())
-    return 40
-
-
-def nested(levels, inner, around):
-    for _ in range(levels):
-        inner = around(inner)
-    return inner
 
 
 def members(count, value):
@@ -78,3 +61,62 @@ def test_a_limit_counts_the_weight(driver, shape):
     most = weight(document)
     within, below = driving.last([driver], [[f"limit {limit}", call_of("patch", [None, edits])] for limit in (most, most - 1)])
     assert (within.status, below.status) == (driving.RESULT, driving.TOO_LARGE)
+
+
+# What a handle holds at most for each byte of its start and of its patches, and what the places weigh that patches hold of their conflict.
+FOR_A_BYTE, PLACES = 350, 65_536
+# Patches that are compatible, and patches of which each two conflict.
+COMPATIBLE = {
+    "one": [members(1_000, 0)],
+    "of a name each": [{f"{number:04}": 0} for number in range(1_000)],
+    "of a name each, from the end on": [{f"{number:04}": 0} for number in reversed(range(1_000))],
+    "of an object each": [{f"{number:x}": {"": 0}} for number in range(1_000)],
+    "of deep objects": [{f"{number:x}": nested(124, 0, lambda inner: {"": inner})} for number in range(30)],
+    "a deep object": [nested(126, 0, lambda inner: {"": inner})],
+    "of long strings": [{f"{number}": "x" * 10_000} for number in range(30)],
+    "of long arrays": [{f"{number}": [0] * 1_025} for number in range(30)],
+}
+CONFLICTING = {
+    "at one place": [{"a": number} for number in range(500)],
+    "at the root": list(range(500)),
+    "at a deep place": [nested(126, number, lambda inner: {"": inner}) for number in range(30)],
+    "at many places": [{f"{place:x}": number for place in range(6_000)} for number in range(2)],
+    "at long places": [{"~" * 500: {f"{place:x}": number for place in range(200)}} for number in range(2)],
+    "at deep places": [nested(120, {f"{place:x}": number for place in range(200)}, lambda inner: {"~": inner}) for number in range(2)],
+}
+TAKES = {
+    "replica": lambda patches: [call("start", 0, {}), *(call("receive", 0, patch) for patch in patches)],
+    "patches": lambda patches: [call("add", 0, patch) for patch in patches],
+    "log": lambda patches: [call("log_start", 0, {}, numbers=[0]),
+                            *(call("log_receive", 0, patch, numbers=[0, 1, number]) for number, patch in enumerate(patches))],
+}
+
+
+def held_by(driver, handle, patches):
+    """The last reply, and what the handle holds of the heap, with the heads of its blocks."""
+    found, (heap,) = driving.replies([driver], ["capacity 0", "limit 1000", *TAKES[handle](patches), "heap"])
+    return found[-1], heap.held + 8 * heap.blocks
+
+
+def allowed(patches):
+    return FOR_A_BYTE * sum(len(driving.bytes_of(patch)) for patch in patches) + BESIDES
+
+
+@pytest.mark.parametrize("handle", TAKES)
+@pytest.mark.parametrize("title", COMPATIBLE)
+def test_a_handle_holds_what_its_patches_say(driver, handle, title):
+    patches = COMPATIBLE[title]
+    reply, held = held_by(driver, handle, patches)
+    assert reply.status == RESULT
+    assert held <= allowed(patches)
+
+
+@pytest.mark.parametrize("handle", TAKES)
+@pytest.mark.parametrize("title", CONFLICTING)
+def test_a_conflict_is_held_within_its_bound(driver, handle, title):
+    """A replica has the first patch alone, patches have the first places, and a log has each patch."""
+    patches = CONFLICTING[title]
+    reply, held = held_by(driver, handle, patches)
+    assert reply.status == (RESULT if handle == "log" else CONFLICT)
+    bound = {"replica": held_by(driver, handle, patches[:1])[1], "patches": PLACES + BESIDES, "log": allowed(patches)}
+    assert held <= bound[handle]
