@@ -41,6 +41,32 @@ def wide_rows():
     yield "patch", 0, 0, 0, f'{{"a":{text},"b":{text}}}', [f'{{"a":{text}}}'.encode(), b'[{"op":"copy","from":"/a","path":"/b"}]']
 
 
+# Texts with a number that is not whole, and the place of the first: elements go by their indices, names by their bytes.
+NOT_WHOLE = [
+    ("[18446744073709551615,18446744073709551616]", "/1"),
+    ('{"a":-9223372036854775808,"b":-9223372036854775809}', "/b"),
+    ('{"":1.5}', "/"),
+    ('{"a~/b":[{"c":0.5}]}', "/a~0~1b/0/c"),
+    ("[0,1,0.5,3,4,5,6,7,8,9,1.5]", "/2"),
+    ("[[0,[1.5]],2.5]", "/0/1/0"),
+    ('{"b":1.5,"a":2.5}', "/a"),
+    ('{"a":1.5,"B":2.5}', "/B"),
+    ('{"10":1.5,"2":2.5}', "/10"),
+    (r'{"\ud83d\ude00":1.5,"\ue000":2.5}', "/\ue000"),
+    ('{"b":1.5,"a":{"z":2.5}}', "/a/z"),
+    *(("[" * levels + "1.5" + "]" * levels, "/0" * levels) for levels in (126, 127)),
+]
+
+
+def wrong_rows():
+    """Gives calls on texts that are no documents, and where the first value is for which they are none."""
+    for text, place in NOT_WHOLE:
+        yield "join", 6, 0, 0, f"number not whole at {place}", [text.encode()]
+    for text, said in (("[" * 128 + "]" * 128, "not JSON"), ("[" * 127 + "1" + "]" * 127, "too deep at " + "/0" * 126),
+                       ('{"a":' * 126 + "{}" + "}" * 126, "too deep at " + "/a" * 126)):
+        yield "join", 6, 0, 0, said, [text.encode()]
+
+
 def deep_rows():
     """Gives calls on the deepest documents: as each export meets them on its deepest way."""
     objects, other = OBJECTS.encode(), OBJECTS.replace("1", "2")
@@ -79,7 +105,7 @@ def lines_of(rows):
             for export, status, first, second, text, texts in rows]
 
 
-TABLES = [list(vector_rows()), ROWS, list(growing_rows()), list(many_rows()), list(wide_rows())]
+TABLES = [list(vector_rows()), ROWS, list(growing_rows()), list(many_rows()), list(wide_rows()), list(wrong_rows())]
 GIVEN = [row for table in TABLES for row in table]
 LINES = lines_of(GIVEN)
 

@@ -8,6 +8,8 @@ import pytest
 from counting import ENVIRONMENT, RUNS, of_patch
 
 MOST_INSTRUCTIONS = 40_000
+# The bytes that are held for each byte of the texts, for patches of so many bytes that nest two objects each, and how many.
+MOST_HELD, APART, PATCHES = 60, 33, 100_000
 
 
 def ran(*words):
@@ -36,6 +38,13 @@ def test_two_halves_that_are_combined_give_the_join_of_all(count):
 def test_no_job_that_is_not_there():
     with pytest.raises(subprocess.CalledProcessError):
         ran("no-job", 0, 1)
+
+
+def test_many_patches_hold_little(heap):
+    """Each is joined and dropped as it comes."""
+    seen = heap.run([RUNS, "apart", "0", str(PATCHES)], b"", "REFUSE_NOTHING", 0)
+    assert seen.ending == (0, f"{PATCHES}\n", "") and not seen.lost
+    assert seen.most <= MOST_HELD * APART * PATCHES
 
 
 def test_a_patch_of_40_bytes_costs_at_most_so_much_on_a_long_document(valgrind):

@@ -5,13 +5,10 @@
 //! `receive`: a replica. `agree`: a replica, whose text has to be the replay of all texts. `gather`: patches without a start.
 //! `join`: the same, whose text has to be the join of all texts. `apart`: patches of 33 bytes that nest two objects each. `log`:
 //! a patch log. `agree-log`: a patch log, whose text has to be the replay of all texts.
-//!
-//! Any other word names a call, which is made once if `COUNT` is above 0, on what `BYTES` is the size of.
 #![tactic(auto)]
 
 mod gathering;
 mod logging;
-mod one;
 mod receiving;
 mod texts;
 
@@ -59,8 +56,7 @@ fn report(rt: &impl Print, taken: u64) -> u8 {
     }
 }
 
-/// Does one job: how many patches were taken, or how many calls were made. None if no job has the name, or what is shown is not
-/// what it has to be.
+/// Does one job: how many patches were taken. None if no job has the name, or what is shown is not what it has to be.
 fn work(alloc: Global, job: &str, bytes: u64, count: u64) -> Result<Option<u64>, AllocError> {
     match job {
         "receive" => receiving::receive(alloc, bytes, count),
@@ -70,6 +66,6 @@ fn work(alloc: Global, job: &str, bytes: u64, count: u64) -> Result<Option<u64>,
         "apart" => gathering::gather(alloc, true, count),
         "log" => logging::log(alloc, bytes, count),
         "agree-log" => logging::agree(alloc, bytes, count),
-        call => one::one(alloc, call, bytes, count > 0),
+        _ => Ok(None),
     }
 }

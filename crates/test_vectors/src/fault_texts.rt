@@ -4,9 +4,10 @@ use mp_cli::{CommandFault, RunFault};
 use mp_merge::{Conflicts, ConvergeFault, JoinFault, ListFault, ListWithinFault, RewriteFault};
 use mp_patch::{ApplyFault, ApplyWithinFault, Cause, FormCause, FormFault};
 use mp_pointer::PointerFault;
-use mp_replica::{DecideFault, LiveFault};
+use mp_replica::{DecideFault, Identity, LiveFault};
 use mp_texts::TextsFault;
 use mp_tree::{DocsFault, ReadFault};
+use std::alloc::Global;
 use std::fmt::Display;
 use std::process::Abort;
 use std::test::Fail;
@@ -113,6 +114,16 @@ const LIVE_FAULTS: &[(LiveFault, &str)] = &[
     (LiveFault::OutOfMemory, "out of memory"),
 ];
 
+const ANN: Identity = Identity {
+    sender: 1,
+    number: 1,
+};
+
+const BOB: Identity = Identity {
+    sender: 2,
+    number: 1,
+};
+
 /// Each error is displayed as the text next to it.
 fn say<R: Abort + AllocGlobal, D: Display>(rt: &R, faults: &[(D, &str)]) -> Result<(), Fail> {
     for (fault, text) in faults {
@@ -130,7 +141,37 @@ fn of_reading(rt: HostRuntime) -> Result<(), Fail> {
 #[test]
 fn of_what_stays_in_memory(rt: HostRuntime) -> Result<(), Fail> {
     say(&rt, LIVE_FAULTS)?;
-    says(&rt, &DecideFault::OutOfMemory, "out of memory")
+    says(&rt, &DecideFault::OutOfMemory, "out of memory")?;
+    says(
+        &rt,
+        &DecideFault::LastEpoch,
+        "no number is left for a start",
+    )
+}
+
+#[test]
+fn of_what_was_chosen(rt: HostRuntime) -> Result<(), Fail> {
+    let missing = DecideFault::NotReceived(ANN);
+    says(
+        &rt,
+        &missing,
+        "Identity { sender: 1, number: 1 } has not arrived",
+    )?;
+    let clash = DecideFault::Conflict {
+        first: ANN,
+        second: BOB,
+        conflicts: no_conflicts(rt.alloc(), 2),
+    };
+    let wanted =
+        "conflict: Identity { sender: 1, number: 1 } and Identity { sender: 2, number: 1 }";
+    says(&rt, &clash, wanted)
+}
+
+fn no_conflicts(alloc: Global, total: usize) -> Conflicts {
+    Conflicts {
+        places: Vec::new(alloc),
+        total,
+    }
 }
 
 #[test]
@@ -168,10 +209,7 @@ fn of_merging_within_a_limit(rt: HostRuntime) -> Result<(), Fail> {
     let clash = ListWithinFault::ConflictOf {
         first: 1,
         second: 3,
-        conflicts: Conflicts {
-            places: Vec::new(rt.alloc()),
-            total: 2,
-        },
+        conflicts: no_conflicts(rt.alloc(), 2),
     };
     says(&rt, &clash, "conflict: patches 1 and 3")?;
     let fault = RewriteFault::TooLarge { fitting: 2 };

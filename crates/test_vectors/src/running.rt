@@ -1,13 +1,11 @@
-//! Runs over a reader and writers of which one call goes wrong: what was counted is what the stream saw. And runs on
-//! input at its longest.
+//! Runs over a reader and writers of which one call goes wrong: what was counted is what the stream saw.
 
 use crate::written::{equal, holds};
 use mp_cli::{Command, Counted, INPUT_LIMIT, READ_LIMIT, RunFault, run};
-use std::alloc::{AllocError, Global};
+use std::alloc::Global;
 use std::io;
 use std::io::{Read, Write};
 use std::process::Abort;
-use std::test::Fail;
 
 /// Of 46 bytes.
 const INPUT: &str = r#"[{"a":"b","c":{"d":1}},{"a":null,"c":{"e":2}}]"#;
@@ -420,33 +418,4 @@ fn a_refusal_may_fail_to_be_written(rt: HostRuntime) {
     equal(&rt, reported.out, UNTOUCHED);
     let line = "conflict: patches 0 and 1 at \"/a\"\n";
     expect_broken(&rt, reported.err, &reported.err_page, line, 1);
-}
-
-/// `[5`, spaces and `]`: `length` bytes in all.
-fn spaces_of_length(alloc: Global, length: usize) -> Result<Vec<u8>, AllocError> {
-    let mut bytes = Vec::new(alloc);
-    bytes.extend_from_slice(b"[5")?;
-    for _ in 3..length {
-        bytes.push(b' ')?;
-    }
-    bytes.push(b']')?;
-    Ok(bytes)
-}
-
-#[test]
-fn long_inputs_are_refused(rt: HostRuntime) -> Result<(), Fail> {
-    let longest = spaces_of_length(rt.alloc(), 1_048_576)?;
-    expect_line(&rt, &Command::Merge, longest.as_slice(), (0, "5\n"));
-    let longer = spaces_of_length(rt.alloc(), 1_048_577)?;
-    is_too_long(&rt, longer.as_slice());
-    Ok(())
-}
-
-fn is_too_long<R: Abort + AllocGlobal>(rt: &R, input: &[u8]) {
-    for piece in [1, 1000, usize::MAX] {
-        let reported = merged(rt.alloc(), feed_of(input, piece, NONE));
-        equal(rt, reported.status, Err(RunFault::TooLong));
-        equal(rt, reported.input.bytes, 1_048_577);
-        equal(rt, (reported.out, reported.err), (UNTOUCHED, UNTOUCHED));
-    }
 }

@@ -1,7 +1,6 @@
 //! How what a call gives is compared with what is wanted. Each stands in a function of its own, so that no test drops what
 //! it holds if a comparison fails, since a test is proved as any function is.
 use mp_pointer::Pointer;
-use mp_replica::LiveFault;
 use mp_tree::{Doc, write_doc};
 use std::fmt::{Debug, Display};
 use std::process::Abort;
@@ -44,19 +43,4 @@ pub fn says<R: Abort + AllocGlobal, D: Display>(
     let found = format!(in rt.alloc(); "{reported}")?;
     equal(rt, found.as_str(), wanted);
     Ok(())
-}
-
-/// The call answers this text, or an error that says it.
-pub fn answers<R: Abort + AllocGlobal>(
-    rt: &R,
-    given: Result<String, LiveFault>,
-    wanted: &str,
-) -> Result<(), Fail> {
-    match given {
-        Ok(text) => {
-            equal(rt, text.as_str(), wanted);
-            Ok(())
-        }
-        Err(fault) => says(rt, &fault, wanted),
-    }
 }
