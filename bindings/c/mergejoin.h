@@ -13,7 +13,7 @@
  * places. So call with the texts of strangers under a limit, which is the last argument of each call: no result of an operation,
  * no rewriting, no list of places or of pairs and no answer then takes more, as MERGEJOIN_TOO_LARGE, MERGEJOIN_CONFLICT and
  * MERGEJOIN_MORE say. What a call takes to read its texts is bounded by their lengths, which the caller knows: see "owns" below. What
- * a patch log takes is bounded by the number of its patches, which mergejoin_patch_log_count returns.
+ * a patch log takes is bounded by the lengths of its patches and by their number, which mergejoin_patch_log_count returns.
  *
  * What a call
  *
@@ -25,12 +25,13 @@
  *   owns     nothing when it returns, but for what a handle holds. It takes memory by malloc and realloc, and gives it back by
  *            free: for each byte that is read mostly 10 to 100 bytes at the peak, up to 175 for many small objects, and up to
  *            360 while the worst patches that were tried are joined or rewritten; and in addition what copies and the answer
- *            take: up to four times the limit, and up to eight if nearly each character of the answer has to be escaped. Without a
- *            limit, for n bytes that are read, the places of a conflict and the edits of a rewriting may have n * n / 15
- *            bytes. If malloc or realloc fails, the status is MERGEJOIN_NO_MEMORY or MERGEJOIN_PENDING, or a conflict on a
- *            handle has no text. A handle holds mostly 1 to 50 bytes for each byte of its start
- *            and of its patches, and up to 350 for many small objects, of which it has each twice: a replica in the join and in
- *            the document, a patch log by itself, and in the join if it conflicts with no other.
+ *            take: up to four times the limit, and for the pairs of a patch log up to sixteen times if nearly each character
+ *            has to be escaped. The document, the pairs and a decision of a patch log take besides up to what the log holds,
+ *            whatever the limit. Without a limit, for n bytes that are read, the places of a conflict and the edits of a
+ *            rewriting may have n * n / 15 bytes. If malloc or realloc fails, the status is MERGEJOIN_NO_MEMORY or
+ *            MERGEJOIN_PENDING, or a conflict on a handle has no text. A handle holds mostly 1 to 50 bytes for each byte of its
+ *            start and of its patches, and up to 350 for many small objects, of which it has each twice: a replica in the join
+ *            and in the document, a patch log by itself, and in the join if it conflicts with no other.
  *   needs    256 KiB of stack: the deepest documents take up to 176 KiB of them.
  *
  * To call again is safe. Of the six, and of a call that reads a handle, the same arguments give the same reply and the same
@@ -88,13 +89,14 @@ extern "C" {
 enum mergejoin_status {
   /** The result. It is empty if a call has none but to have succeeded. */
   MERGEJOIN_RESULT = 0,
-  /** A JSON array of the first places at which patches conflict, as JSON Pointers, in order; `total` is how many there are in all.
-   * The array has all of them if they weigh at most the limit together and it has at most so many bytes; else as many as do. If the
-   * limit is less than the 2 bytes of an array there is no text, nor is there one on a handle if memory ran out for it. A
-   * mergejoin_patches holds the first places of its conflict that weigh at most 65,536 together: `total` is how many these are, and
-   * MERGEJOIN_MORE says if there are more. A place weighs 128, 8 for each token, and the bytes of its
-   * spelling. Of join and replay these are the places of the patches `first` < `second`. Of a decision they are those of the
-   * patches with the identities `first` and `second` of those that are chosen; of each other call of a handle the numbers are 0. */
+  /** A JSON array of the first places at which patches conflict, as JSON Pointers, in order; `total` is how many there are in
+   * all. The array has all of them if they weigh at most the limit together and it has at most so many bytes; else as many as
+   * do. If the limit is less than the 2 bytes of an array there is no text, nor is there one on a handle if memory ran out for
+   * it. A mergejoin_patches holds the first places of its conflict that weigh at most 65,536 together, or those of a kept form.
+   * Then the limit bounds the bytes of the array alone, `total` is how many places are held, and MERGEJOIN_MORE says if there
+   * are more. A place weighs 128, 8 for each token, and the bytes of its spelling. Of join and replay these are the places of
+   * the patches `first` < `second`. Of a decision they are those of the patches with the identities `first` and `second` of
+   * those that are chosen; of each other call of a handle the numbers are 0. */
   MERGEJOIN_CONFLICT = 1,
   /** "no patches": there are none to join. */
   MERGEJOIN_NO_PATCHES = 2,
@@ -123,10 +125,11 @@ enum mergejoin_status {
    * need not be given again: each later call that reads the handle, or gives it a patch, goes on with it first. */
   MERGEJOIN_PENDING = 10,
   /** The result, or something on the way to it, is larger than the limit: no text, and the buffer is unchanged. Of a JSON Patch
-   * `first` is the number of the operation whose result weighs more; of a rewriting, how many of its operations fit; and 0 if the
-   * text of the result is longer. A weight is about what a document takes in memory, in bytes: 40 for null, true, false or a
-   * number; 80 and its bytes for a string; 80 and its elements for an array; 1,000 for an object, and for each name 128, its bytes
-   * and its value. An operation weighs its places and its value. */
+   * `first` is the number of the operation whose result weighs more, or by which the work is more than 16 times the limit: the
+   * weight of each value that a copy copies, and 1 for each element of an array that shifts. Of a rewriting it is how many of
+   * its operations fit; and it is 0 if the text of the result is longer. A weight is about what a document takes in memory, in
+   * bytes: 40 for null, true, false or a number; 80 and its bytes for a string; 80 and its elements for an array; 1,000 for an
+   * object, and for each name 128, its bytes and its value. An operation weighs its places and its value. */
   MERGEJOIN_TOO_LARGE = 11,
   /** "not started": the replica or the patch log is {0}. A call looks for this first. */
   MERGEJOIN_NOT_STARTED = 12
@@ -175,9 +178,10 @@ typedef struct mergejoin_identity {
 } mergejoin_identity;
 
 /*
- * Each call ends with the buffer, its capacity and a limit in bytes: of the text of a result, and of the six functions also of
- * what they make on the way, by its weight. SIZE_MAX is no limit. The words of an error are not limited: they have a few bytes, and
- * a place. On a handle the limit bounds the reply alone: a handle takes what its patches take.
+ * Each call ends with the buffer, its capacity and a limit in bytes: of the text of a result; of the places of a conflict and
+ * of the pairs of a patch log, also by their weight; and of mergejoin_patch and mergejoin_rewrite also of what they make on the
+ * way, by its weight. SIZE_MAX is no limit. The words of an error are not limited: they have a few bytes, and a place. On a
+ * handle the limit bounds the reply alone: a handle takes what its patches take.
  *
  * Below, each call lists its statuses in the order in which it looks for them.
  */

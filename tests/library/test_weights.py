@@ -1,4 +1,6 @@
-"""No shape of a document takes more memory than its weight, which is what a limit counts, exactly; and no handle more than the header says."""
+"""No shape of a document takes more memory than its weight, which is what a limit counts exactly; and no handle more than the
+header says.
+"""
 
 import pytest
 
@@ -61,6 +63,27 @@ def test_a_limit_counts_the_weight(driver, shape):
     most = weight(document)
     within, below = driving.last([driver], [[f"limit {limit}", call_of("patch", [None, edits])] for limit in (most, most - 1)])
     assert (within.status, below.status) == (driving.RESULT, driving.TOO_LARGE)
+
+
+# What a call takes at most for each byte that it reads: to read it, and where it joins or rewrites.
+READ, JOINED = 175, 360
+WORST = {
+    "deep objects": [nested(122, 0, lambda inner: {"": inner})] * 100,
+    "a name for each deep object": {f"{number:x}": nested(122, 0, lambda inner: {"": inner}) for number in range(100)},
+    "objects of one empty name": [{"": 0}] * 5_000,
+    "zeros": [0] * 40_000,
+}
+CALLS = [("get", lambda it: [it, b"/~0"], READ), ("merge", lambda it: [it, it], READ), ("patch", lambda it: [it, []], READ),
+         ("join", lambda it: [it], JOINED), ("join", lambda it: [it, it], JOINED), ("replay", lambda it: [it, it], JOINED),
+         ("rewrite", lambda it: [it, {"": 1}], JOINED), ("rewrite", lambda it: [{}, it], JOINED)]
+
+
+@pytest.mark.parametrize("title", WORST)
+def test_a_call_takes_what_it_reads_says(driver, title):
+    for export, given, most in CALLS:
+        texts = given(WORST[title])
+        _, (heap,) = driving.replies([driver], ["capacity 0", call_of(export, texts), "heap"])
+        assert heap.peak <= most * sum(len(driving.bytes_of(text)) for text in texts), export
 
 
 # What a handle holds at most for each byte of its start and of its patches, and what the places weigh that patches hold of their conflict.
