@@ -17,7 +17,7 @@ SKIPPED = "import pytest\n\ndef test_it():\n    pytest.skip('a tool is not insta
 BROKEN = "import pytest\n\n@pytest.fixture\ndef broken():\n    raise OSError\n\ndef test_it(broken):\n    pass\n"
 BEGUN = """\
 The whole check: rt ci proves each crate and tries its mutants, then come all tests, and last their mutants.
-From nothing it takes an hour and a half on four processors, and up to three hours on two.
+From nothing it takes more than two hours on four processors, and longer on two.
 proving ..
 rt ci took N s on 1 processors
 """
