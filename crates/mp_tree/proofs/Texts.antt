@@ -1,5 +1,6 @@
 -- Texts: what is written of a document, and what a reader makes of it.
 pub mod Arrays
+pub mod ByName
 pub mod FromData
 pub mod IntoData
 pub mod Lengths

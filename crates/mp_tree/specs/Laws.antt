@@ -2,7 +2,9 @@
 use Rattle.std.specs.Prelude.{◌≡◌, ◌≢◌, ◌≤◌, ◌↔◌, ℕ, List, map, true, None, Some, Ok, Err, IsUtf8}
 use Rattle.std.specs.List.{All}
 use Rattle.serde_json.specs.declared.value.Value.{Value}
+use Rattle.serde_json.specs.Read.{max_depth}
 use Rattle.mp_tree.specs.Arrays.{IsArrayOf}
+use Rattle.mp_tree.specs.ByName.{by_name}
 use Rattle.mp_tree.specs.Document.{Document, Items, Members, IsDocument, IsMap, HasTexts, IsInRange, IsReadable}
 use Rattle.mp_tree.specs.Document.{depth, depth_limit, find, is_name, put, without}
 use Rattle.mp_tree.specs.Elements.{items_of, list_of}
@@ -56,6 +58,24 @@ ArraysReadBack = (ds : List Document) (bytes : List ℕ) → All IsReadable ds �
 abbrev pub ReadsUtf8Back : Type 0
 ReadsUtf8Back = (d : Document) → IsDocument d → IsInRange d → depth d ≤ depth_limit → IsUtf8 (text d)
     → read (text d) ≡ Some d
+
+-- if the members of an object stand in any order, some names more than once, the document is read that has them by name; what
+-- is read nests at most 127 deep
+abbrev pub ReadsAnyOrder : Type 0
+ReadsAnyOrder = (d : Document) → IsInRange d → HasTexts d → depth d ≤ max_depth → read (text d) ≡ Some (by_name d)
+
+-- here too it is enough that what is written is UTF-8
+abbrev pub ReadsUtf8AnyOrder : Type 0
+ReadsUtf8AnyOrder = (d : Document) → IsInRange d → depth d ≤ max_depth → IsUtf8 (text d)
+    → read (text d) ≡ Some (by_name d)
+
+-- that document has its names once and in order
+abbrev pub ByNameIsDocument : Type 0
+ByNameIsDocument = (d : Document) → IsDocument (by_name d)
+
+-- and a document, whose names are so already, is the same by name
+abbrev pub DocumentIsByName : Type 0
+DocumentIsByName = (d : Document) → IsDocument d → by_name d ≡ d
 
 -- two documents that can be read are equal exactly if their texts are
 abbrev pub EqualTexts : Type 0

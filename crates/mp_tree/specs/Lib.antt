@@ -1,4 +1,5 @@
 pub mod Arrays
+pub mod ByName
 pub mod Document
 pub mod Elements
 pub mod Laws

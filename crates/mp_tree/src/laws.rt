@@ -1,5 +1,5 @@
 //! Laws over documents alone: each function runs nothing, and its contract is the law.
-ghost use Rattle.mp_tree.specs.Laws.{DocsAreDocuments, ValuesAreDocuments, ReadsReadable, ReadsReadables, FaultsAreOfBytes, FaultsAreOfArrays, ReadsBack, ReadsUtf8Back, ArraysReadBack, EqualTexts, EqualLooks, EqualNumbers, SameNames, SetsOneName, RemovesOneName, EqualMaps};
+ghost use Rattle.mp_tree.specs.Laws.{DocsAreDocuments, ValuesAreDocuments, ReadsReadable, ReadsReadables, FaultsAreOfBytes, FaultsAreOfArrays, ReadsBack, ReadsUtf8Back, ReadsAnyOrder, ReadsUtf8AnyOrder, ByNameIsDocument, DocumentIsByName, ArraysReadBack, EqualTexts, EqualLooks, EqualNumbers, SameNames, SetsOneName, RemovesOneName, EqualMaps};
 
 /// Each `Doc` means a document: each object in it is a finite map, its texts and names are UTF-8, and its numbers are
 /// from -2^63 to 2^64 - 1. So the laws over documents speak of every `Doc`.
@@ -36,6 +36,16 @@ pub fn bytes_have_faults()
 pub fn texts_read_back()
     ensures readable { ReadsBack }
     ensures utf8 { ReadsUtf8Back }
+{}
+
+/// A text may have the members of an object in any order, and a name more than once: the document is read in which each name
+/// stands once, in the order of names, with its last value. Texts and numbers are as for `texts_read_back`, and the text is at
+/// most 127 deep. A document, whose names are in order, is itself by name.
+pub fn any_order_reads_back()
+    ensures readable { ReadsAnyOrder }
+    ensures utf8 { ReadsUtf8AnyOrder }
+    ensures document { ByNameIsDocument }
+    ensures same { DocumentIsByName }
 {}
 
 /// The texts of such documents in an array, with commas between them and white space around each, are read as these

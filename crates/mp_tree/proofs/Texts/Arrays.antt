@@ -17,6 +17,7 @@ use Rattle.mp_tree.specs.Document.{Document, null as no_value, flag, whole, stri
 use Rattle.mp_tree.specs.Elements.{items_of}
 use Rattle.mp_tree.specs.Laws.{ArraysReadBack}
 use Rattle.mp_tree.specs.Text.{text, data_of, items_data, members_data, data_in}
+use Rattle.mp_tree.proofs.Texts.ByName.{by_name-same}
 use Rattle.mp_tree.proofs.Texts.RoundTrip.{IsUtf8-text, has_number, reads_same_tokens}
 use Rattle.mp_tree.proofs.Texts.Written.{from_data-data_of}
 
@@ -230,5 +231,6 @@ arrays_read_back ds bytes readable array =
     ap (lex between) array.is.is ∙ lex-spaces array.is.before _ array.is.space_before ∙ lex-in_brackets ds array.spaced array.is.after readable array.are array.is.space_after in
     let utf8 = IsUtf8-spaced inside bytes (IsUtf8-in_brackets ds array.spaced readable array.are) array.is in
     let is : data_in bytes ≡ Some (data_of d) =
-    reads_same_tokens bytes d utf8 (ap (punctuate fresh) lexemes) (all_in_range ds readable) (all_documents ds readable) (omega (arith, all_within ds readable)) in
+    reads_same_tokens bytes d utf8 (ap (punctuate fresh) lexemes) (all_in_range ds readable) (omega (arith, all_within ds readable))
+    ∙ ap (λ e. Some (data_of e)) (by_name-same d (all_documents ds readable)) in
     rw (is, from_data-data_of d (all_documents ds readable)) refl

@@ -1,5 +1,5 @@
 -- A text that was written is read back.
-use Rattle.std.proofs.Common.{◌≡◌, ◌≤◌, ◌<◌, ◌^◌, ◌-◌, ◌≤ℤ◌, inl, inr, ℕ, ℤ, pos, negsuc, suc, max, List, [], ◌∷◌, Bool, true, false, Some, option_and_then, option_map, IsUtf8, Less, decimal, refl, sym, ap, ap₂, ◌∙◌, subst, arith, append-nil}
+use Rattle.std.proofs.Common.{◌≡◌, ◌≤◌, ◌<◌, ◌^◌, ◌-◌, ◌≤ℤ◌, inl, inr, ℕ, ℤ, pos, negsuc, suc, max, List, [], ◌∷◌, Bool, true, false, Some, option_and_then, option_map, IsUtf8, decimal, refl, sym, ap, ap₂, ◌∙◌, subst, arith, append-nil}
 use Rattle.std.proofs.lemmas.Bool.{cases_eq}
 use Rattle.std.proofs.lemmas.Fmt.{IsAscii-decimal}
 use Rattle.std.proofs.lemmas.Int.{ints}
@@ -23,10 +23,11 @@ use Rattle.serde_json.specs.Read.{number_of, of_json, of_items, of_members, max_
 use Rattle.serde_json.specs.Written.{number_text, outline, items_outline, members_outline, comma_if, items_text, members_text}
 use Rattle.serde_json.proofs.Numbers.{number_of-decimal, number_of-negative}
 use Rattle.serde_json.proofs.Texts.{print-outline}
-use Rattle.mp_tree.specs.Document.{Document, null, flag, whole, string, list, object, Items, no_items, item, Members, no_members, member, name_cmp, IsWhole, IsInRange, IsDocument, AreDocuments, IsMap, IsBelow, HasTexts, ThroughoutItems, ThroughoutMembers, depth}
-use Rattle.mp_tree.specs.Laws.{ReadsBack, ReadsUtf8Back, EqualTexts}
+use Rattle.mp_tree.specs.ByName.{by_name, items_by_name, members_by_name}
+use Rattle.mp_tree.specs.Document.{Document, null, flag, whole, string, list, object, Items, no_items, item, Members, no_members, member, put, IsWhole, IsInRange, HasTexts, ThroughoutItems, ThroughoutMembers, depth}
+use Rattle.mp_tree.specs.Laws.{ReadsBack, ReadsUtf8Back, ReadsAnyOrder, ReadsUtf8AnyOrder, EqualTexts}
 use Rattle.mp_tree.specs.Text.{from_data, data_of, items_data, members_data, text, read, data_in}
-use Rattle.mp_tree.proofs.Maps.Names.{below_is_above}
+use Rattle.mp_tree.proofs.Texts.ByName.{by_name-document, by_name-same, members_data-put}
 use Rattle.mp_tree.proofs.Texts.Written.{depth-data_of, from_data-data_of}
 use Rattle.mp_tree.proofs.Options.{some_same}
 
@@ -95,64 +96,26 @@ mutual
   members_have_numbers no_members h = tt
   members_have_numbers (member n d ms) h = (has_numbers d h.1, members_have_numbers ms h.2)
 
--- ---- members that are read one after another, each above those before it
-
-abbrev append : json.Members → json.Members → json.Members
-append json.no_members rest = rest
-append (json.member n x xs) rest = json.member n x (append xs rest)
-
-append_one : (found : json.Members) (n : List ℕ) (x : Data) (rest : json.Members) → append (append found (json.member n x json.no_members)) rest ≡ append found (json.member n x rest)
-append_one json.no_members n x rest = refl
-append_one (json.member m y found) n x rest = ap (json.member m y) (append_one found n x rest)
-
-append-none : (found : json.Members) → append found json.no_members ≡ found
-append-none json.no_members = refl
-append-none (json.member n x xs) = ap (json.member n x) (append-none xs)
-
-abbrev Under : json.Members → List ℕ → Type 0
-Under json.no_members n = Unit {0}
-Under (json.member m x xs) n = (name_cmp m n ≡ Less) × Under xs n
-
-abbrev AllUnder : json.Members → Members → Type 0
-AllUnder found no_members = Unit {0}
-AllUnder found (member n d ms) = Under found n × AllUnder found ms
-
-put_last : (found : json.Members) (n : List ℕ) (x : Data) → Under found n → json.put n x found ≡ append found (json.member n x json.no_members)
-put_last json.no_members n x under = refl
-put_last (json.member m y found) n x under = rw (below_is_above m n under.0) (ap (json.member m y) (put_last found n x under.1))
-
-under_more : (found : json.Members) (n k : List ℕ) (x : Data) → Under found k → name_cmp n k ≡ Less → Under (append found (json.member n x json.no_members)) k
-under_more json.no_members n k x under less = (less, tt)
-under_more (json.member m y found) n k x under less = (under.0, under_more found n k x under.1 less)
-
-all_under_more : (found : json.Members) (n : List ℕ) (x : Data) (ms : Members) → AllUnder found ms → IsBelow n ms → AllUnder (append found (json.member n x json.no_members)) ms
-all_under_more found n x no_members under below = tt
-all_under_more found n x (member k d ms) under below = (under_more found n k x under.0 below.0, all_under_more found n x ms under.1 below.1)
-
-none_under : (ms : Members) → AllUnder json.no_members ms
-none_under no_members = tt
-none_under (member n d ms) = (tt, none_under ms)
+-- ---- members are read one after another, each put among those before it
 
 mutual
-  reads_outline : (d : Document) → IsInRange d → IsDocument d → of_json (outline (data_of d)) ≡ Some (data_of d)
-  reads_outline null range good = refl
-  reads_outline (flag b) range good = refl
-  reads_outline (whole z) range good = ap (option_map number) (reads_number z range)
-  reads_outline (string s) range good = refl
-  reads_outline (list ds) range good = ap (option_map json.array) (reads_items ds range good)
-  reads_outline (object ms) range good = ap (option_map json.object) (reads_members ms json.no_members range good (none_under ms))
+  reads_outline : (d : Document) → IsInRange d → of_json (outline (data_of d)) ≡ Some (data_of (by_name d))
+  reads_outline null range = refl
+  reads_outline (flag b) range = refl
+  reads_outline (whole z) range = ap (option_map number) (reads_number z range)
+  reads_outline (string s) range = refl
+  reads_outline (list ds) range = ap (option_map json.array) (reads_items ds range)
+  reads_outline (object ms) range = ap (option_map json.object) (reads_members ms no_members range)
 
-  reads_items : (ds : Items) → ThroughoutItems IsWhole (λ s. Unit {0}) ds → AreDocuments ds → of_items (items_outline (items_data ds)) ≡ Some (items_data ds)
-  reads_items no_items range good = refl
-  reads_items (item d ds) range good = rw (reads_outline d range.0 good.0, reads_items ds range.1 good.1)
+  reads_items : (ds : Items) → ThroughoutItems IsWhole (λ s. Unit {0}) ds → of_items (items_outline (items_data ds)) ≡ Some (items_data (items_by_name ds))
+  reads_items no_items range = refl
+  reads_items (item d ds) range = rw (reads_outline d range.0, reads_items ds range.1)
 
-  reads_members : (ms : Members) (found : json.Members) → ThroughoutMembers IsWhole (λ s. Unit {0}) ms → IsMap ms → AllUnder found ms → of_members (members_outline (members_data ms)) found ≡ Some (append found (members_data ms))
-  reads_members no_members found range good under = ap Some (sym (append-none found))
-  reads_members (member n d ms) found range good under =
-      let x = data_of d in
-      let last = put_last found n x under.0 in
-      let rest = reads_members ms (append found (json.member n x json.no_members)) range.2 good.2 (all_under_more found n x ms under.1 good.1) in
-      rw (reads_outline d range.1 good.0, last) (rest ∙ ap Some (append_one found n x (members_data ms)))
+  reads_members : (ms found : Members) → ThroughoutMembers IsWhole (λ s. Unit {0}) ms → of_members (members_outline (members_data ms)) (members_data found) ≡ Some (members_data (members_by_name ms found))
+  reads_members no_members found range = refl
+  reads_members (member n d ms) found range =
+      let next : json.put n (data_of (by_name d)) (members_data found) ≡ members_data (put n (by_name d) found) = sym (members_data-put n (by_name d) found) in
+      rw (reads_outline d range.1) (ap (of_members (members_outline (members_data ms))) next ∙ reads_members ms (put n (by_name d) found) range.2)
 
 -- ---- the text is UTF-8
 
@@ -185,18 +148,24 @@ mutual
 -- ---- the round trip
 
 -- the tokens are all that is read of bytes that are UTF-8
-pub reads_same_tokens : (bytes : List ℕ) (d : Document) → IsUtf8 bytes → tokens bytes ≡ tokens (text d) → IsInRange d → IsDocument d → depth d ≤ max_depth → data_in bytes ≡ Some (data_of d)
-reads_same_tokens bytes d utf8 same range good within =
+pub reads_same_tokens : (bytes : List ℕ) (d : Document) → IsUtf8 bytes → tokens bytes ≡ tokens (text d) → IsInRange d → depth d ≤ max_depth → data_in bytes ≡ Some (data_of (by_name d))
+reads_same_tokens bytes d utf8 same range within =
     let j = outline (data_of d) in
     let printed : tokens (text d) ≡ json_tokens j = ap tokens (sym (print-outline (data_of d))) ∙ tokens-print (json_tokens j) (ArePrintable-json_tokens j (has_numbers d range)) in
     let nests : tree.depth j ≤ max_depth = omega (arith, depth-outline (data_of d), depth-data_of d) in
-    let whole_text : serde_json.read bytes ≡ Some (data_of d) =
+    let whole_text : serde_json.read bytes ≡ Some (data_of (by_name d)) =
     ap (λ o. option_and_then of_json (option_and_then (λ p. json_text.if_last p.0 p.1) o)) (ap (json_text.value max_depth) (same ∙ printed ∙ sym (append-nil (json_tokens j))) ∙ value-json_tokens j max_depth [] nests)
-    ∙ reads_outline d range good in
+    ∙ reads_outline d range in
     rw (is_utf8-from_IsUtf8 bytes utf8) whole_text
 
+pub read-any_utf8 : ReadsUtf8AnyOrder
+read-any_utf8 d range within utf8 = ap (option_and_then from_data) (reads_same_tokens (text d) d utf8 refl range within) ∙ from_data-data_of (by_name d) (by_name-document d)
+
+pub read-any_order : ReadsAnyOrder
+read-any_order d range texts within = read-any_utf8 d range within (IsUtf8-text d range texts)
+
 pub read-utf8 : ReadsUtf8Back
-read-utf8 d good range within utf8 = ap (option_and_then from_data) (reads_same_tokens (text d) d utf8 refl range good (omega arith)) ∙ from_data-data_of d good
+read-utf8 d good range within utf8 = read-any_utf8 d range (omega arith) utf8 ∙ ap Some (by_name-same d good)
 
 pub read-text : ReadsBack
 read-text d can = read-utf8 d can.is_document can.in_range can.within (IsUtf8-text d can.in_range can.has_texts)
