@@ -8,6 +8,7 @@ pub mod Keeping
 pub mod Listing
 pub mod PairTexts
 pub mod PairsFound
+pub mod PairsReadBack
 pub mod Reporting
 pub mod Shown
 pub mod Slices

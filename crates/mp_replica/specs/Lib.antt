@@ -5,6 +5,7 @@ pub mod Kept
 pub mod Laws
 pub mod LogTexts
 pub mod Messages
+pub mod PairsRead
 pub mod PatchLog
 pub mod Private
 pub mod Taking

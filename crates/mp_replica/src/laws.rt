@@ -1,5 +1,6 @@
 //! Laws over runs of calls: each function runs nothing, and its contract is the law.
 ghost use Rattle.mp_replica.specs.Laws.{AlikeBeginTheSame, AlikeRefuseTheSame, AlikeReportTheSame, AlikeShowTheSame, FollowersAgree, FollowsSame, HoldsJoin, LogsAreAlike, ShowsOutcome, ShowsReadable, TakenSame, TakersAgree};
+ghost use Rattle.mp_replica.specs.PairsRead.{PairsReadBack, PairsReadUtf8Back, TextIsOfOnePairs};
 ghost use Rattle.mp_replica.specs.Private.LawsBelow.{MergeLaws, TextLaws};
 
 use mp_merge::laws as merge;
@@ -70,6 +71,18 @@ pub fn alike_logs_agree()
 {
     merge_laws();
     tree::docs_are_documents();
+}
+
+/// The text that `PatchLog::conflicts_text` or `conflicts_text_within` gives of pairs is read as an array of objects: `first` and
+/// `second` are arrays of the sender and the number, and `places` is the array of the places' spellings. So it is the text of these
+/// pairs alone. The premises hold of what such a call gives, since an identity has two `u64`, and a `String` is UTF-8.
+pub fn conflicts_text_reads_back()
+    ensures readable { PairsReadBack }
+    ensures utf8 { PairsReadUtf8Back }
+    ensures one { TextIsOfOnePairs }
+{
+    tree::any_order_reads_back();
+    pointer::one_spelling();
 }
 
 pub(crate) fn merge_laws()
