@@ -25,13 +25,13 @@
  *   owns     nothing when it returns, but for what a handle holds. It takes memory by malloc and realloc, and gives it back by
  *            free: for each byte that is read mostly 10 to 100 bytes at the peak, up to 175 for many small objects, and up to
  *            360 while the worst patches that were tried are joined or rewritten; and in addition what copies and the answer
- *            take: up to four times the limit, and for the pairs of a patch log up to sixteen times if nearly each character
- *            has to be escaped. The document, the pairs and a decision of a patch log take besides up to what the log holds,
- *            whatever the limit. Without a limit, for n bytes that are read, the places of a conflict and the edits of a
+ *            take: up to four times the limit. The document and a decision of a patch log take besides up to what the log
+ *            holds, whatever the limit. Without a limit, for n bytes that are read, the places of a conflict and the edits of a
  *            rewriting may have n * n / 15 bytes. If malloc or realloc fails, the status is MERGEJOIN_NO_MEMORY or
  *            MERGEJOIN_PENDING, or a conflict on a handle has no text. A handle holds mostly 1 to 50 bytes for each byte of its
  *            start and of its patches, and up to 350 for many small objects, of which it has each twice: a replica in the join
- *            and in the document, a patch log by itself, and in the join if it conflicts with no other.
+ *            and in the document, a patch log by itself, and in the join if it conflicts with no other. A patch log holds
+ *            besides at most 80 bytes for each two patches that conflict, and, once its document was asked for, that document.
  *   needs    256 KiB of stack: the deepest documents take up to 176 KiB of them.
  *
  * To call again is safe. Of the six, and of a call that reads a handle, the same arguments give the same reply and the same

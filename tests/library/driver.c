@@ -8,7 +8,7 @@
 //   refuse N ON                 request N of the next call is refused; if ON is not 0, each after it too
 //   each ON                     the next call is made with request 1 refused so, with request 2, .. to the first not reached
 //   heap                        prints how many blocks were taken and not given back, their bytes, the most bytes since the last
-//                               such command, and the most memory of the process in kB
+//                               such command, the most memory of the process in kB, and what is in use by mallinfo2
 //
 // With the argument `new` the calls are made by the header's helpers, with `stack` each is made on a stack of its own, with `exact` the
 // buffer ends where its block does, as each text does, and with `asked` all requests to the heap are counted, and not those refused.
@@ -171,8 +171,9 @@ static void answer(call it) {
 
 static int show_heap(void) {
   struct rusage used;
+  struct mallinfo2 said = mallinfo2();
   getrusage(RUSAGE_SELF, &used);
-  printf("heap %ld %zu %zu %ld\n", live, held, peak, used.ru_maxrss);
+  printf("heap %ld %zu %zu %ld %zu\n", live, held, peak, used.ru_maxrss, said.uordblks + said.hblkhd);
   return peak = held, 1;
 }
 

@@ -41,12 +41,15 @@ class Reply(typing.NamedTuple):
 
 
 class Heap(typing.NamedTuple):
-    """The blocks and the bytes that were not given back, the most bytes since it was asked before, and the most memory in kB."""
+    """The blocks and the bytes that were not given back, the most bytes since it was asked before, the most memory in kB, and what is in use
+    by mallinfo2.
+    """
 
     blocks: int
     held: int
     peak: int
     resident: int
+    in_use: int
 
 
 def run(words, setting=None, given=""):

@@ -33,6 +33,9 @@ UNPOINTED = [(b"foo", "no slash", 0), (b"/a~2", "bad tilde", 2), (b"/a~", "bad t
 UNKEPT = [(b"!", "not JSON"), (b"![1.5]", "number not whole"), (b"!" + DEEP, "too deep"), *((text, words) for text, words, _ in UNREAD[1:])]
 UNKEPT += [(b"!+", "not JSON"), (b'! +["/a"]', "not JSON"), (b'!++["/a"]', "not JSON"), (b"!+[1.5]", "number not whole"), (b"!+" + DEEP, "too deep")]
 UNKEPT += [(text, "not kept patches") for text in (b"![]", b"!5", b'!"/a"', b'!["a"]', b'!["/a",5]', b'!{"/a":1}', b'!["/~2"]', b"!+5", b'!+["/a",5]')]
+# Places that no conflict has: out of order, one of them twice, one within another, beside the whole document.
+UNKEPT += [(text, "not kept patches") for text in (b'!["/b","/a"]', b'!["/a","/a"]', b'!["/a","/a/b"]', b'!["/a/b","/a"]', b'!["","/a"]', b'!+[""]',
+                                                  b'!["/a~0","/a/b"]')]
 
 
 def rows():
@@ -143,6 +146,8 @@ def keeps():
     yield [*ADDED, call("from", 0, b'!["/a"]')], call("kept"), RESULT, 0, 0, 0, '!["/a"]'
     yield [*ADDED, call("from", 0, b'!["/a"]')], call("add", 0, {"z": 1}), CONFLICT, 0, 0, 1, '["/a"]'
     yield [call("from", 0, b'!["/a"]')], call("text"), CONFLICT, 0, 0, 1, '["/a"]'
+    for places in ([""], ["/", "/a"], ["/a/b", "/a/c", "/a~0"]):
+        yield ADDED, call("from", 0, b"!" + driving.written(places).encode()), CONFLICT, 0, 0, len(places), driving.written(places)
     for text, total, array in ((b'!+["/a"]', 1, '["/a"]'), (b'!+ ["/a" , "/b"]', 2, '["/a","/b"]'), (b"!+[]", 0, "[]")):
         yield ADDED, call("from", 0, text), CONFLICT, 0, 0, total, MORE, array
         held = [*ADDED, call("from", 0, text)]

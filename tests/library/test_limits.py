@@ -73,6 +73,8 @@ LONG = {"a": "\x01" * 990_000}
 # 8 kB that double a document 180 times, 6 MB that are too deep at a place of 11 MB, and a place of 90 kB.
 COPIES = [{"op": "copy", "from": "", "path": "/a"}, {"op": "copy", "from": "", "path": "/b"}] * 90
 SUNK, PLACE = nested(127, 0, lambda inner: {"~" * 45_000: inner}), "/" + "~0" * 45_000
+# One that a kept form may have.
+KEPT = "/" + "~0" * 30_000
 
 
 def later(*given, **more):
@@ -90,10 +92,8 @@ MANY = [*LOG, *(later("log_receive", 0, {"a": number}, numbers=[0, 1, number]) f
 # A call takes so many times its limit at most, as the header says, so many times the weight of what it reads, and little else, as two
 # copies of a long place.
 FACTOR, READING, BESIDES = 4, 1.3, 300_000
-# One that writes all pairs before it counts which fit, of which each character may be escaped.
-FACTORS = {"patch_log_conflicts": 16}
-# The calls that make a document, or a list of patches, in addition: it takes at most what the log holds.
-MAKES = {"patch_log_document", "patch_log_conflicts", "patch_log_decide"}
+# The calls that make a document in addition: it takes at most what the log holds.
+MAKES = {"patch_log_document", "patch_log_decide"}
 
 
 class Said(typing.NamedTuple):
@@ -164,7 +164,7 @@ def by_place():
     yield "join", [], of_six("join", [SUNK]), Said(PATCH, words)
     yield "replica_start", [], later("start", 0, SUNK), Said(DOCUMENT, words)
     yield "replica_receive", [later("start", 0, b"{}")], later("receive", 0, SUNK), Said(PATCH, words)
-    yield "patches_from_kept", [], later("from", 0, f'!["{PLACE}"]'.encode()), Said(CONFLICT, 1)
+    yield "patches_from_kept", [], later("from", 0, f'!["{KEPT}"]'.encode()), Said(CONFLICT, 1)
 
 
 def by_number():
@@ -201,7 +201,7 @@ def test_a_call_takes_little_more_than_its_limit(driver, title, limit):
     assert (reply.status, reply.total, reply.flags) == said.within(limit)
     assert reply.length <= limit or reply.status in (DOCUMENT, PATCH)
     export = title.split()[0]
-    allowed = FACTORS.get(export, FACTOR) * max(limit, reply.length) + (held if export in MAKES else 0) + read_by(line()) + BESIDES
+    allowed = FACTOR * max(limit, reply.length) + (held if export in MAKES else 0) + read_by(line()) + BESIDES
     print(f"{title}, {limit}: {peak} of {allowed:.0f}")
     assert peak <= allowed
 
@@ -224,10 +224,17 @@ def test_each_call_that_takes_a_limit_is_attacked():
 
 
 def test_a_kept_form_of_many_places_takes_what_its_length_says(driver):
-    kept = b"![" + b",".join([b'"/"'] * 28_000) + b"]"
-    (reply,), (heap,) = driving.replies([*WITHIN, driver], ["limit 1000", call("from", 0, kept), "heap"])
-    assert (reply.status, reply.total) == (CONFLICT, 28_000) and reply.length <= 1_000
-    assert heap.peak <= FOR_A_BYTE * len(kept)
+    for many, said in ((400, (CONFLICT, 400)), (28_000, (DOCUMENT, 0))):
+        kept = b"![" + b",".join(b'"/%05d"' % number for number in range(many)) + b"]"
+        (reply,), (heap,) = driving.replies([*WITHIN, driver], ["limit 1000", call("from", 0, kept), "heap"])
+        assert (reply.status, reply.total if reply.status == CONFLICT else 0) == said and reply.length <= 1_000
+        assert heap.peak <= FOR_A_BYTE * len(kept)
+
+
+def test_a_kept_form_has_no_place_of_more_weight_than_is_held(driver):
+    for length, status in ((65_399, CONFLICT), (65_400, DOCUMENT)):
+        (reply,), _ = driving.replies([driver], ["capacity 0", call("from", 0, b'!["/%s"]' % (b"a" * length))])
+        assert reply.status == status
 
 
 # What an operation of a few bytes does to all of a long array, or of an object, which is a part of so many bytes.

@@ -2,6 +2,7 @@
 has for nothing, and what CMake and pkg-config find.
 """
 
+import itertools
 import re
 import shutil
 
@@ -123,11 +124,14 @@ HELD = {"apart": [f'{{"{number}":{it}}}' for number in range(200) for it in NEST
 def test_a_handle_holds_what_the_header_says(driver, title):
     words = re.sub(r"\s+\*\s+", " ", driving.HEADER.read_text("utf-8"))
     most, = map(int, re.findall(r"of its patches, and up to (\d+) for many small objects", words))
+    for_a_pair, = map(int, re.findall(r"at most (\d+) bytes for each two patches that conflict", words))
     texts = [it.encode() for it in HELD[title]]
+    pairs = sum(one != other for one, other in itertools.combinations(texts, 2)) if "conflicting" in title else 0
     of_log = [call("log_receive", 0, it, numbers=[0, 0, number]) for number, it in enumerate(texts)]
-    for start, lines in ((call("start", 0, b"0"), [call("receive", 0, it) for it in texts]), (call("log_start", 0, b"0"), of_log)):
+    of_replica = [call("receive", 0, it) for it in texts]
+    for start, lines, besides in ((call("start", 0, b"0"), of_replica, 0), (call("log_start", 0, b"0"), of_log, for_a_pair * pairs)):
         _, (before, after) = replies([driver], [start, "heap", *lines, "heap"])
-        assert after.held - before.held <= most * sum(map(len, texts))
+        assert after.held - before.held <= most * sum(map(len, texts)) + besides
 
 
 # How header.c is compiled, which gives null: with a length of 0, and as what C++ has for nothing.

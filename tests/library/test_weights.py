@@ -86,8 +86,9 @@ def test_a_call_takes_what_it_reads_says(driver, title):
         assert heap.peak <= most * sum(len(driving.bytes_of(text)) for text in texts), export
 
 
-# What a handle holds at most for each byte of its start and of its patches, and what the places weigh that patches hold of their conflict.
-FOR_A_BYTE, PLACES = 350, 65_536
+# What a handle holds at most for each byte of its start and of its patches, what the places weigh that patches hold of their conflict, and
+# what a log holds for each two patches that conflict.
+FOR_A_BYTE, PLACES, PAIR = 350, 65_536, 80
 # Patches that are compatible, and patches of which each two conflict.
 COMPATIBLE = {
     "one": [members(1_000, 0)],
@@ -115,10 +116,16 @@ TAKES = {
 }
 
 
+# What else of the process may be in use for a while: the buffers of its streams.
+BUFFERS = 64_000
+
+
 def held_by(driver, handle, patches):
-    """The last reply, and what the handle holds of the heap, with the heads of its blocks."""
-    found, (heap,) = driving.replies([driver], ["capacity 0", "limit 1000", *TAKES[handle](patches), "heap"])
-    return found[-1], heap.held + 8 * heap.blocks
+    """The last reply, and what the handle holds of the heap, with the heads of its blocks: as mallinfo2 says."""
+    found, (before, heap) = driving.replies([driver], ["capacity 0", "limit 1000", "heap", *TAKES[handle](patches), "heap"])
+    held = heap.held + 8 * heap.blocks
+    assert abs(heap.in_use - before.in_use - held) <= BUFFERS
+    return found[-1], held
 
 
 def allowed(patches):
@@ -137,9 +144,10 @@ def test_a_handle_holds_what_its_patches_say(driver, handle, title):
 @pytest.mark.parametrize("handle", TAKES)
 @pytest.mark.parametrize("title", CONFLICTING)
 def test_a_conflict_is_held_within_its_bound(driver, handle, title):
-    """A replica has the first patch alone, patches have the first places, and a log has each patch."""
+    """A replica has the first patch alone, patches have the first places, and a log has each patch and each pair."""
     patches = CONFLICTING[title]
+    pairs = len(patches) * (len(patches) - 1) // 2
     reply, held = held_by(driver, handle, patches)
     assert reply.status == (RESULT if handle == "log" else CONFLICT)
-    bound = {"replica": held_by(driver, handle, patches[:1])[1], "patches": PLACES + BESIDES, "log": allowed(patches)}
+    bound = {"replica": held_by(driver, handle, patches[:1])[1], "patches": PLACES + BESIDES, "log": allowed(patches) + PAIR * pairs}
     assert held <= bound[handle]

@@ -110,12 +110,12 @@ fn watch_log_conflicts_text(alloc: Global) -> Option<Seen> {
 }
 
 fn watch_log_document_text(alloc: Global) -> Option<Seen> {
-    let log = log_of(alloc)?;
+    let mut log = log_of(alloc)?;
     Some(of_text(log.document_text(alloc, usize::MAX), SHOWN_BEFORE))
 }
 
 /// Whether it shows this document, as far as memory allows.
-fn shows(alloc: Global, log: &PatchLog, wanted: &Doc) -> bool {
+fn shows(alloc: Global, log: &mut PatchLog, wanted: &Doc) -> bool {
     match log.document(alloc) {
         Ok(doc) => doc.same(wanted),
         Err(_) => true,
@@ -128,8 +128,8 @@ fn watch_log_receive_text(alloc: Global) -> Option<Seen> {
     let [after, before] = &wanted;
     let arrival = log.receive_text(alloc, EPOCH, SECOND, PATCH.as_bytes());
     Some(match arrival {
-        Ok(Arrival::Stored) => Seen::answer_if(shows(alloc, &log, after)),
-        Err(LiveFault::OutOfMemory) => Seen::NoMemory.with(shows(alloc, &log, before)),
+        Ok(Arrival::Stored) => Seen::answer_if(shows(alloc, &mut log, after)),
+        Err(LiveFault::OutOfMemory) => Seen::NoMemory.with(shows(alloc, &mut log, before)),
         _ => Seen::Wrong,
     })
 }

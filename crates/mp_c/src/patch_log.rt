@@ -142,16 +142,16 @@ pub extern "C" fn mergejoin_patch_log_document(
         log.new.value)
         result out.old out.new }
 {
-    let Some(held) = log.take(alloc) else {
+    let Some(mut held) = log.take(alloc) else {
         return report_live(Err(Stop::NotStarted), DOCUMENT, out, limit);
     };
-    let answer = document(alloc, &held, limit);
+    let answer = document(alloc, &mut held, limit);
     log.put(alloc, held);
     report_live(answer, DOCUMENT, out, limit)
 }
 
-fn document(alloc: Global, log: &PatchLog, limit: usize) -> Result<String, Stop>
-    ensures { GivesLogDocument limit log.now (handle_answer result) }
+fn document(alloc: Global, log: &mut PatchLog, limit: usize) -> Result<String, Stop>
+    ensures { OnlyReads (GivesLogDocument limit) log.old (handle_answer result) log.new }
 {
     Ok(log.document_text(alloc, limit)?)
 }

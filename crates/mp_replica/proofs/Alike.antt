@@ -153,7 +153,7 @@ module _ (laws : MergeLaws) where
   reported_there : (stored there : Stored) (pairs others : List Pair) → Same stored there → AreAllPairs stored pairs → AreAllPairs there others → (a : Pair) → Contains pairs a → Contains others a
   reported_there stored there pairs others same are also a at =
       let is = All-contains (IsClashing stored) pairs a are.each at in
-      let found = unmapped identities_of others (identities_of a) (also.all a.first a.second is.in_order (clash_there stored there a same is)) in
+      let found = unmapped identities_of others (identities_of a) (also.all a.first a.second is.in_order tt (clash_there stored there a same is)) in
       subst (Contains others) (sym (one_clashing stored there a found.0 same (sym found.2) is (All-contains (IsClashing there) others found.0 also.each found.1))) found.1
 
   pub alike_report_the_same : AlikeReportTheSame

@@ -1,6 +1,7 @@
 -- The first places of a conflict, as many as may be held.
 use Rattle.std.proofs.lemmas.Bool.{lt-ltb, ltb-true}
-use Rattle.std.proofs.Common.{nat_lt, ◌≡◌, ◌≢◌, ◌↔◌, ◌<◌, ◌≤◌, ◌+◌, ◌*◌, ◌^◌, inl, inr, ℕ, Bool, true, IsTrue, List, [], ◌∷◌, length, take, get_or, zero, suc, Some, refl, ap, ◌∙◌, arith}
+use Rattle.std.proofs.Common.{nat_lt, ◌≡◌, ◌≢◌, ◌↔◌, ◌<◌, ◌≤◌, ◌+◌, ◌*◌, ◌^◌, inl, inr, ℕ, Bool, true, IsTrue, List, [], ◌∷◌, length, take, get_or, zero, suc, MatchOption, Option, None, Some, refl, ap, ◌∙◌, arith}
+use Rattle.std.specs.Option.{unwrap_or}
 use Rattle.std.proofs.lemmas.List.{length-append, take_more}
 use Rattle.std.proofs.lemmas.List.Sums.{sum_by-append, sum_by-cons}
 use Rattle.mp_tree.specs.Document.{Document, IsDocument}
@@ -74,6 +75,11 @@ held_nothing_of laws p k good clash [] none =
 held_nothing_of laws p k good clash (w ∷ places) none = absurd (let differ = none in cc)
 
 -- ---- the weight of a list of places
+
+-- what is left is there if they are within the budget
+pub left_if_within : (o : Option ℕ) (budget weight : ℕ) → weight ≤ budget → MatchOption o (budget < weight) (λ left. left + weight ≡ budget) → unwrap_or o 0 + weight ≡ budget
+left_if_within None budget weight within over = absurd (omega (arith, within, over))
+left_if_within (Some left) budget weight within is = is
 
 -- what is passed and the next weigh no more than all
 pub next_within : (places : List Path) (k : ℕ) (d : Path) → k < length places → places_weight (take k places) + place_weight (get_or places k d) ≤ places_weight places

@@ -1,9 +1,11 @@
 -- What is known of the stored patches that conflict, as one more is stored.
-use Rattle.std.proofs.Common.{◌≡◌, ◌≢◌, ◌↔◌, ◌⊎◌, inl, inr, List, [], ◌∷◌, ◌++◌, Option, None, Some, IfSome, option_map, refl, sym, ap, ◌∙◌, subst, append_assoc}
+use Rattle.std.proofs.Common.{◌≡◌, ◌≢◌, ◌↔◌, ◌⊎◌, ◌<◌, ◌+◌, inl, inr, ℕ, Bool, true, get_or, length, take, List, [], ◌∷◌, ◌++◌, Option, None, Some, IfSome, option_map, refl, sym, ap, ◌∙◌, subst, append_assoc}
+use Rattle.std.proofs.lemmas.List.{take_more}
 use Rattle.std.proofs.lemmas.List.Elements.{Contains-append_left, Contains-push, Contains-push_cases}
 use Rattle.std.specs.List.{Contains}
 use Rattle.std.specs.List.Sorted.{IsStrictlySortedBy}
 use Rattle.std.specs.Map.{keys_of}
+use Rattle.std.specs.declared.cmp.Ordering.TheVariants.{Less}
 use Rattle.mp_tree.specs.Document.{Document, IsDocument}
 use Rattle.mp_tree.specs.Look.{Path}
 use Rattle.mp_tree.specs.View.{document}
@@ -12,13 +14,16 @@ use Rattle.mp_tree.proofs.Facts.{Contains-cases, Contains-head, Contains-nil, Co
 use Rattle.mp_tree.proofs.Passed.{Passed, Passed-next}
 use Rattle.mp_merge.specs.Clash.{AreAllClashes, Compatible}
 use Rattle.mp_replica.specs.Held.{HasJoined, IsJoinOf}
-use Rattle.mp_replica.specs.PatchLog.{AreUnclashed, ClashesWithNone, HaveArrived, Stored, StoresAlso, identity_cmp, stored_in}
+use Rattle.mp_replica.specs.PatchLog.{AreUnclashed, ClashesWithNone, DoClash, HaveArrived, Stored, StoresAlso, identity_cmp, stored_in}
 use Rattle.mp_replica.specs.Private.LawsBelow.{MergeLaws}
+use Rattle.mp_replica.specs.Private.Pairs.{AreOrdered, HasBoth, Includes, KeptPairs, KnowsPairs, Notes}
 use Rattle.mp_replica.specs.Private.Steps.{HeldJoin, JoinsStay, SameJoins}
 use Rattle.mp_replica.specs.Private.StoredPatches.{AreConflictingWith, AreOthers, Conflicts, FitsAll, IsJoined, JoinsOthers, KnowsConflicts}
 use Rattle.mp_replica.specs.declared.message.Identity.{Identity}
 use Rattle.mp_replica.proofs.Growing.{documents, fits_each, itself, join_of, joined_none, joined_on, joined_still, symmetric}
 use Rattle.mp_replica.proofs.Identities.{decide_identity, entry_stored, stored_entry}
+use Rattle.mp_replica.proofs.PairsFound.{no_identity, same_less}
+use Rattle.mp_replica.proofs.Slices.{passed_on}
 
 none_ascending : IsStrictlySortedBy identity_cmp []
 unfolding IsStrictlySortedBy
@@ -44,6 +49,19 @@ one_fits stored ids i p agree each j q at here = elim (Contains-push_cases ids i
   | inl before ↦ each j q before here
   | inr same ↦ agree q (ap stored same ∙ here)
 ]
+
+-- the same of the identities that a loop has passed
+module _ (stored : Stored) (ids : List Identity) (k : ℕ) (p : Document) where
+  pub fits_on : (was now : Bool) → now ≡ was → k < length ids → ((q : Document) → stored (get_or ids k no_identity) ≡ Some q → Compatible p q) → (was ≡ true) ↔ FitsAll stored (take k ids) p
+      → (now ≡ true) ↔ FitsAll stored (take (k + 1) ids) p
+  fits_on was now same below agree before = (
+    λ so. passed_on (λ l. FitsAll stored l p) ids k no_identity below (one_fits stored (take k ids) (get_or ids k no_identity) p agree (before.0 (sym same ∙ so))),
+    λ all. same ∙ before.1 (λ j q at. all j q (subst (λ l. Contains l j) (sym (take_more ids k no_identity below)) (Contains-append_left (take k ids) (get_or ids k no_identity ∷ []) j at))),
+  )
+
+  pub never_fits_on : (q : Document) → k < length ids → stored (get_or ids k no_identity) ≡ Some q → ¬ Compatible p q → ¬ FitsAll stored (take (k + 1) ids) p
+  never_fits_on q below at differ all =
+      differ (all (get_or ids k no_identity) q (subst (λ l. Contains l (get_or ids k no_identity)) (sym (take_more ids k no_identity below)) (Contains-push (take k ids) (get_or ids k no_identity))) at)
 
 -- ---- one more patch p under i
 
@@ -81,7 +99,7 @@ module _ (es fs : Stored) (i : Identity) (p : Document) (absent : es i ≡ None)
       ],
     )
 
-    unclashed_more : (others : List Document) → AreUnclashed es others → AreUnclashed fs (others ++ p ∷ [])
+    pub unclashed_more : (others : List Document) → AreUnclashed es others → AreUnclashed fs (others ++ p ∷ [])
     unclashed_more others are q = (
       λ at. elim (Contains-push_cases others p q at) [
         | inl before ↦
@@ -202,11 +220,49 @@ module _ (laws : MergeLaws) (stored : Stored) (known : List Identity) (others : 
 pub fits_all_if_none : (stored : Stored) (known : List Identity) (p : Document) → ClashesWithNone stored p → FitsAll stored known p
 fits_all_if_none stored known p none j q here at = none j q at
 
+-- ---- the pairs, with one more patch p under i
+
+module _ (es fs : Stored) (i : Identity) (p : Document) (absent : es i ≡ None) (more : StoresAlso es i p fs) (others : List Identity) (before now : KeptPairs)
+    (there : (j : Identity) (q : Document) → es j ≡ Some q → ¬ Compatible p q → Contains others j) (noted : Notes i es p others now) where
+  with_new : (j : Identity) (q : Document) → j ≢ i → fs j ≡ Some q → ¬ Compatible p q → HasBoth now i j
+  with_new j q other at differ = let was : es j ≡ Some q = sym (more.others j other) ∙ at in noted j q (there j q was differ) was differ
+
+  less_differ : (j k : Identity) → identity_cmp j k ≡ Less → j ≢ k
+  less_differ j k less same = same_less j k same less
+
+  pub pairs_now : Includes before now → (AreOrdered before → AreOrdered now) → KnowsPairs es before → KnowsPairs fs now
+  pairs_now kept ordered knows = record { ordered = ordered knows.ordered; found = found }
+    where
+      found : (j k : Identity) → identity_cmp j k ≡ Less → DoClash fs j k → Contains now.keys (j, k)
+      found j k less clash = elim (decide_identity j i) [
+        | inl first ↦
+            let one = one_patch fs j i clash.one p first clash.at_first more.here in
+            let apart : k ≢ i = λ same. less_differ j k less (first ∙ sym same) in
+            subst (λ x. Contains now.keys (x, k)) (sym first) ((with_new k clash.other apart clash.at_second (subst (λ d. ¬ Compatible d clash.other) one clash.clash)).0 (subst (λ x. identity_cmp x k ≡ Less) first less))
+        | inr early ↦ elim (decide_identity k i) [
+          | inl second ↦
+              let one = one_patch fs k i clash.other p second clash.at_second more.here in
+              let differ : ¬ Compatible p clash.one = λ agree. clash.clash (subst (Compatible clash.one) (sym one) (symmetric p clash.one agree)) in
+              subst (λ x. Contains now.keys (j, x)) (sym second) ((with_new j clash.one early clash.at_first differ).1 (subst (λ x. identity_cmp j x ≡ Less) second less))
+          | inr late ↦ kept (j, k) (knows.found j k less (record {
+            one = clash.one;
+            other = clash.other;
+            at_first = sym (more.others j early) ∙ clash.at_first;
+            at_second = sym (more.others k late) ∙ clash.at_second;
+            clash = clash.clash;
+          }))
+        ]
+      ]
+
 -- ---- all that is known
 
-pub none_known : (laws : MergeLaws) (es : List (Identity × Doc)) (known : List Identity) (join : HeldJoin) → es ≡ [] → known ≡ [] → join.joined ≡ None → join.pending ≡ None → KnowsConflicts es known join
-none_known laws es known join no_patch none no_join settled = record {
+pub none_known : (laws : MergeLaws) (es : List (Identity × Doc)) (known : List Identity) (pairs : KeptPairs) (join : HeldJoin) → es ≡ [] → known ≡ [] → pairs.keys ≡ [] → join.joined ≡ None → join.pending ≡ None → KnowsConflicts es known pairs join
+none_known laws es known pairs join no_patch none no_pair no_join settled = record {
   ascending = rw no_patch none_ascending;
+  in_pairs = record {
+    ordered = λ i j at. absurd (Contains-nil (i, j) (subst (λ (l : List (Identity × Identity)). Contains l (i, j)) no_pair at));
+    found = λ i j less clash. absurd (let never : None ≡ Some clash.one = subst (λ l. stored_in l i ≡ Some clash.one) no_patch clash.at_first in cc);
+  };
   conflicting = λ i. (
     λ at. absurd (Contains-nil i (subst (λ (l : List Identity). Contains l i) none at)),
     λ is. absurd (let never : None ≡ Some is.0 = subst (λ l. stored_in l i ≡ Some is.0) no_patch is.1 in cc),
@@ -216,20 +272,32 @@ none_known laws es known join no_patch none no_join settled = record {
   joined = rw (no_join, settled) (joined_none laws);
 }
 
-pub knows_still : {es : List (Identity × Doc)} {known : List Identity} {before now : HeldJoin} → KnowsConflicts es known before → JoinsStay before now → KnowsConflicts es known now
+pub knows_still : {es : List (Identity × Doc)} {known : List Identity} {pairs : KeptPairs} {before now : HeldJoin} → KnowsConflicts es known pairs before → JoinsStay before now → KnowsConflicts es known pairs now
 knows_still knows stays = record {
   ascending = knows.ascending;
+  in_pairs = knows.in_pairs;
   conflicting = knows.conflicting;
   others = knows.others;
   unclashed = knows.unclashed;
   joined = joined_still knows.others knows.joined stays;
 }
 
-joined_now : {es : List (Identity × Doc)} {known : List Identity} {before : HeldJoin} → (knows : KnowsConflicts es known before) → before.pending ≡ None → HasJoined (option_map document before.joined) None knows.others
+-- a pair more does no harm
+pub knows_noted : {es : List (Identity × Doc)} {known : List Identity} {pairs now : KeptPairs} {join : HeldJoin} → Includes pairs now → (AreOrdered pairs → AreOrdered now) → KnowsConflicts es known pairs join → KnowsConflicts es known now join
+knows_noted kept ordered knows = record {
+  ascending = knows.ascending;
+  conflicting = knows.conflicting;
+  in_pairs = record { ordered = ordered knows.in_pairs.ordered; found = λ i j less clash. kept (i, j) (knows.in_pairs.found i j less clash) };
+  others = knows.others;
+  unclashed = knows.unclashed;
+  joined = knows.joined;
+}
+
+joined_now : {es : List (Identity × Doc)} {known : List Identity} {pairs : KeptPairs} {before : HeldJoin} → (knows : KnowsConflicts es known pairs before) → before.pending ≡ None → HasJoined (option_map document before.joined) None knows.others
 joined_now {before = before} knows settled = subst (λ o. HasJoined (option_map document before.joined) (option_map document o) knows.others) settled knows.joined
 
 -- what is known of a patch d before it is stored
-module _ (laws : MergeLaws) {es : List (Identity × Doc)} (d : Doc) {known : List Identity} {before : HeldJoin} (knows : KnowsConflicts es known before) (settled : before.pending ≡ None) where
+module _ (laws : MergeLaws) {es : List (Identity × Doc)} (d : Doc) {known : List Identity} {pairs : KeptPairs} {before : HeldJoin} (knows : KnowsConflicts es known pairs before) (settled : before.pending ≡ None) where
   -- a patch that does not fit the join clashes with one
   pub clashes_if_unfit : ¬ IfSome (option_map document before.joined) (Compatible (document d)) → ¬ ClashesWithNone (stored_in es) (document d)
   clashes_if_unfit unfit none = unfit (fits_if_none laws (stored_in es) known knows.others (option_map document before.joined) (document d) (documents before.joined) knows.conflicting knows.unclashed (joined_now knows settled) none)
@@ -240,31 +308,89 @@ module _ (laws : MergeLaws) {es : List (Identity × Doc)} (d : Doc) {known : Lis
       clash (fits_each laws knows.others (option_map document before.joined) (document d) (join_of laws knows.others (option_map document before.joined) (documents before.joined) (joined_now knows settled)) fits q
       ((knows.unclashed q).1 ((j, at), quiet_clash_with_none (stored_in es) known j q knows.conflicting at out)))
 
+  pub fits_none : IfSome (option_map document before.joined) (Compatible (document d)) → FitsAll (stored_in es) known (document d) → ClashesWithNone (stored_in es) (document d)
+  fits_none fits each = clashes_with_none laws (stored_in es) known knows.others (option_map document before.joined) (document d) (documents before.joined) knows.conflicting knows.unclashed (joined_now knows settled) fits each
+
+  clash_if_some : ¬ FitsAll (stored_in es) known (document d) → ¬ ClashesWithNone (stored_in es) (document d)
+  clash_if_some some none = some (fits_all_if_none (stored_in es) known (document d) none)
+
+  -- so they are known
+  clashing_known : IfSome (option_map document before.joined) (Compatible (document d)) → (j : Identity) (q : Document) → stored_in es j ≡ Some q → ¬ Compatible (document d) q → Contains known j
+  clashing_known fits j q at differ = elim (in_or_out known j) [ inl here ↦ here | inr out ↦ absurd (clashes_with_known fits j q at differ out) ]
+
+-- a patch d that fits the join is stored under i: it conflicts with those alone that conflict already
+module _ (laws : MergeLaws) {es : List (Identity × Doc)} (i : Identity) (d : Doc) {known : List Identity} {pairs : KeptPairs} {before : HeldJoin} (knows : KnowsConflicts es known pairs before)
+    (absent : stored_in es i ≡ None) (settled : before.pending ≡ None) (fits : IfSome (option_map document before.joined) (Compatible (document d))) where
+  listed : AreConflictingWith (stored_in es) i (document d) known (known ++ i ∷ [])
+  listed j = (
+    λ at. elim (Contains-push_cases known i j at) [
+      | inl before ↦ let is = (knows.conflicting j).0 before in inl (record { other = is.0; at = is.1; why = inl before })
+      | inr same ↦ inr (sym same)
+    ],
+    λ now. elim now [
+      | inl here ↦ elim here.why [
+        | inl before ↦ Contains-append_left known (i ∷ []) j before
+        | inr clash ↦ elim (in_or_out known j) [
+          | inl before ↦ Contains-append_left known (i ∷ []) j before
+          | inr out ↦ absurd (clashes_with_known laws d knows settled fits j here.other here.at clash out)
+        ]
+      ]
+      | inr same ↦ subst (Contains (known ++ i ∷ [])) (sym same) (Contains-push known i)
+    ],
+  )
+
+  listed_others : AreOthers (stored_in es) (known ++ i ∷ []) knows.others
+  listed_others p = (
+    λ at.
+        let has = (knows.unclashed p).0 at in (
+          has.0.0,
+          has.0.1,
+          λ there. elim (Contains-push_cases known i has.0.0 there) [
+            | inl before ↦
+                let is = (knows.conflicting has.0.0).0 before in
+                is.2 (subst (ClashesWithNone (stored_in es)) (one_patch (stored_in es) has.0.0 has.0.0 p is.0 refl has.0.1 is.1) has.1)
+            | inr same ↦ let never : None ≡ Some p = sym absent ∙ subst (λ j. stored_in es j ≡ Some p) (sym same) has.0.1 in cc
+          ],
+        ),
+    λ has. (knows.unclashed p).1 ((has.0, has.1), quiet_clash_with_none (stored_in es) known has.0 p knows.conflicting has.1 (λ before. has.2 (Contains-append_left known (i ∷ []) has.0 before))),
+  )
+
 -- one more patch d is stored under i
-module _ (laws : MergeLaws) {es fs : List (Identity × Doc)} {i : Identity} (d : Doc) {known : List Identity} {before : HeldJoin} (knows : KnowsConflicts es known before)
-    (absent : stored_in es i ≡ None) (more : StoresAlso (stored_in es) i (document d) (stored_in fs)) (ascending : IsStrictlySortedBy identity_cmp (keys_of fs)) where
+module _ (laws : MergeLaws) {es fs : List (Identity × Doc)} {i : Identity} (d : Doc) {known : List Identity} {pairs : KeptPairs} {before : HeldJoin} (knows : KnowsConflicts es known pairs before)
+    (absent : stored_in es i ≡ None) (more : StoresAlso (stored_in es) i (document d) (stored_in fs)) (ascending : IsStrictlySortedBy identity_cmp (keys_of fs))
+    {grown : KeptPairs} (kept : Includes pairs grown) (ordered : AreOrdered pairs → AreOrdered grown) where
   pub knows_conflict : {found : List Identity} {now : HeldJoin} → ¬ ClashesWithNone (stored_in es) (document d)
-      → AreConflictingWith (stored_in es) i (document d) known found → JoinsOthers (stored_in es) found now → KnowsConflicts fs found now
-  knows_conflict {found} clash found_are others =
+      → AreConflictingWith (stored_in es) i (document d) known found → KnowsPairs (stored_in fs) grown → JoinsOthers (stored_in es) found now → KnowsConflicts fs found grown now
+  knows_conflict {found} clash found_are in_pairs others =
       let p = document d in
       record {
         ascending = ascending;
+        in_pairs = in_pairs;
         conflicting = conflicts_found (stored_in es) (stored_in fs) i p absent more laws (IsDocument-document d) clash known found knows.conflicting found_are;
         others = others.0;
         unclashed = unclashed_now (stored_in es) (stored_in fs) i p absent more laws (IsDocument-document d) clash known found knows.conflicting found_are others.0 others.1;
         joined = others.2;
       }
 
-module _ (laws : MergeLaws) {es fs : List (Identity × Doc)} {i : Identity} (d : Doc) {known : List Identity} {before : HeldJoin} (knows : KnowsConflicts es known before)
-    (absent : stored_in es i ≡ None) (more : StoresAlso (stored_in es) i (document d) (stored_in fs)) (ascending : IsStrictlySortedBy identity_cmp (keys_of fs)) (settled : before.pending ≡ None) where
+  -- each of those is noted
+  pub knows_disputes : {found : List Identity} {now : HeldJoin} → ¬ ClashesWithNone (stored_in es) (document d) → AreConflictingWith (stored_in es) i (document d) known found
+      → Notes i (stored_in es) (document d) found grown → JoinsOthers (stored_in es) found now → KnowsConflicts fs found grown now
+  knows_disputes {found} clash found_are noted others =
+      let there = λ (j : Identity) (q : Document) (at : stored_in es j ≡ Some q) (differ : ¬ Compatible (document d) q). (found_are j).1 (inl (record { other = q; at = at; why = inr differ })) in
+      knows_conflict clash found_are (pairs_now (stored_in es) (stored_in fs) i (document d) absent more found pairs grown there noted kept ordered knows.in_pairs) others
+
+module _ (laws : MergeLaws) {es fs : List (Identity × Doc)} {i : Identity} (d : Doc) {known : List Identity} {pairs : KeptPairs} {before : HeldJoin} (knows : KnowsConflicts es known pairs before)
+    (absent : stored_in es i ≡ None) (more : StoresAlso (stored_in es) i (document d) (stored_in fs)) (ascending : IsStrictlySortedBy identity_cmp (keys_of fs)) (settled : before.pending ≡ None)
+    {grown : KeptPairs} (kept : Includes pairs grown) (ordered : AreOrdered pairs → AreOrdered grown) (noted : Notes i (stored_in es) (document d) known grown) where
   pub knows_more : {now : HeldJoin} → IfSome (option_map document before.joined) (Compatible (document d)) → FitsAll (stored_in es) known (document d)
-      → SameJoins (option_map document before.joined) (Some (document d)) (option_map document now.joined) (option_map document now.pending) → KnowsConflicts fs known now
+      → SameJoins (option_map document before.joined) (Some (document d)) (option_map document now.joined) (option_map document now.pending) → KnowsConflicts fs known grown now
   knows_more fits each stays =
       let p = document d in
       let held = option_map document before.joined in
-      let none = clashes_with_none laws (stored_in es) known knows.others held p (documents before.joined) knows.conflicting knows.unclashed (joined_now knows settled) fits each in
+      let none = fits_none laws d knows settled fits each in
       record {
         ascending = ascending;
+        in_pairs = pairs_now (stored_in es) (stored_in fs) i p absent more known pairs grown (λ j q at differ. absurd (differ (none j q at))) noted kept ordered knows.in_pairs;
         conflicting = λ j. (
           λ at. (conflicts_still (stored_in es) (stored_in fs) i p absent more none j).0 ((knows.conflicting j).0 at),
           λ is. (knows.conflicting j).1 ((conflicts_still (stored_in es) (stored_in fs) i p absent more none j).1 is),
@@ -275,42 +401,19 @@ module _ (laws : MergeLaws) {es fs : List (Identity × Doc)} {i : Identity} (d :
       }
 
   -- so it is listed, and the join stays
-  pub knows_listed : {found : List Identity} → IfSome (option_map document before.joined) (Compatible (document d)) → ¬ FitsAll (stored_in es) known (document d) → found ≡ known ++ i ∷ [] → KnowsConflicts fs found before
-  knows_listed {found} fits some is = subst (λ l. KnowsConflicts fs l before) (sym is) (knows_conflict laws d knows absent more ascending (λ none. some (fits_all_if_none (stored_in es) known (document d) none)) listed (knows.others, others, knows.joined))
-    where
-      listed : AreConflictingWith (stored_in es) i (document d) known (known ++ i ∷ [])
-      listed j = (
-        λ at. elim (Contains-push_cases known i j at) [
-          | inl before ↦ let is = (knows.conflicting j).0 before in inl (record { other = is.0; at = is.1; why = inl before })
-          | inr same ↦ inr (sym same)
-        ],
-        λ now. elim now [
-          | inl here ↦ elim here.why [
-            | inl before ↦ Contains-append_left known (i ∷ []) j before
-            | inr clash ↦ elim (in_or_out known j) [
-              | inl before ↦ Contains-append_left known (i ∷ []) j before
-              | inr out ↦ absurd (clashes_with_known laws d knows settled fits j here.other here.at clash out)
-            ]
-          ]
-          | inr same ↦ subst (Contains (known ++ i ∷ [])) (sym same) (Contains-push known i)
-        ],
-      )
+  module _ (fits : IfSome (option_map document before.joined) (Compatible (document d))) (some : ¬ FitsAll (stored_in es) known (document d)) where
+    pub knows_listed : {found : List Identity} → found ≡ known ++ i ∷ [] → KnowsConflicts fs found grown before
+    knows_listed is = subst (λ l. KnowsConflicts fs l grown before) (sym is)
+        (knows_conflict laws d knows absent more ascending kept ordered (clash_if_some laws d knows settled some) (listed laws i d knows absent settled fits) (pairs_now (stored_in es) (stored_in fs) i (document d) absent more known pairs grown (clashing_known laws d knows settled fits) noted kept ordered knows.in_pairs) (knows.others, listed_others laws i d knows absent settled fits, knows.joined))
 
-      others : AreOthers (stored_in es) (known ++ i ∷ []) knows.others
-      others p = (
-        λ at.
-            let has = (knows.unclashed p).0 at in (
-              has.0.0,
-              has.0.1,
-              λ there. elim (Contains-push_cases known i has.0.0 there) [
-                | inl before ↦
-                    let is = (knows.conflicting has.0.0).0 before in
-                    is.2 (subst (ClashesWithNone (stored_in es)) (one_patch (stored_in es) has.0.0 has.0.0 p is.0 refl has.0.1 is.1) has.1)
-                | inr same ↦ let never : None ≡ Some p = sym absent ∙ subst (λ j. stored_in es j ≡ Some p) (sym same) has.0.1 in cc
-              ],
-            ),
-        λ has. (knows.unclashed p).1 ((has.0, has.1), quiet_clash_with_none (stored_in es) known has.0 p knows.conflicting has.1 (λ before. has.2 (Contains-append_left known (i ∷ []) has.0 before))),
-      )
+-- and the patches that clash with none are those of before
+pub still_unclashed : (laws : MergeLaws) {es : List (Identity × Doc)} (fs : List (Identity × Doc)) (i : Identity) (d : Doc) {known : List Identity} {pairs : KeptPairs} {before : HeldJoin} → (knows : KnowsConflicts es known pairs before) → stored_in es i ≡ None
+    → StoresAlso (stored_in es) i (document d) (stored_in fs) → before.pending ≡ None → IfSome (option_map document before.joined) (Compatible (document d)) → ¬ FitsAll (stored_in es) known (document d)
+    → (patches : List Document) → AreUnclashed (stored_in es) patches → AreUnclashed (stored_in fs) patches
+still_unclashed laws {es} fs i d {known} knows absent more settled fits some patches are q =
+    let now = unclashed_now (stored_in es) (stored_in fs) i (document d) absent more laws (IsDocument-document d) (clash_if_some laws d knows settled some) known (known ++ i ∷ []) knows.conflicting (listed laws i d knows absent settled fits) knows.others
+    (listed_others laws i d knows absent settled fits) q in
+    (λ at. now.0 ((knows.unclashed q).1 ((are q).0 at)), λ is. (are q).1 ((knows.unclashed q).0 (now.1 is)))
 
 -- ---- walks over the entries
 

@@ -83,7 +83,7 @@ module _ (laws : MergeLaws) where
   -- ---- one patch
 
   -- once it is joined, what is joined is the join of before and the patch
-  grew_joins : (before now : Option Document) (p : Document) → IsDocument p → IfSome now IsDocument → GrewTo before p now → SameJoins before (Some p) now None
+  pub grew_joins : (before now : Option Document) (p : Document) → IsDocument p → IfSome now IsDocument → GrewTo before p now → SameJoins before (Some p) now None
   grew_joins None now p good other grew j is = (
     λ same. let first : p ≡ j = (let both : Some p ≡ Some j = sym grew ∙ same in cc) in subst (IsJoin (p ∷ [])) first (laws.join_of_one p),
     λ joined. grew ∙ ap Some (one_join (p ∷ []) p j good is (laws.join_of_one p) joined),

@@ -1,5 +1,5 @@
 -- What a kept form holds has taken what was taken where it was made.
-use Rattle.std.proofs.Common.{◌≡◌, ◌≢◌, ◌<◌, ◌++◌, inl, inr, ap₂, ℕ, zero, suc, length, take, drop, ◌-◌, ◌==◌, true≢false, slice_index_or, arith, Bool, true, false, List, [], ◌∷◌, map, Option, None, Some, MatchOption, Ok, option_map, if◌then◌else◌, refl, sym, ap, ◌∙◌, subst}
+use Rattle.std.proofs.Common.{◌≡◌, ◌≢◌, ◌<◌, ◌++◌, inr, ap₂, ℕ, zero, suc, length, take, drop, ◌-◌, ◌==◌, true≢false, slice_index_or, arith, Bool, true, false, List, [], ◌∷◌, map, Option, None, Some, MatchOption, Ok, option_map, if◌then◌else◌, refl, sym, ap, ◌∙◌, subst}
 use Rattle.std.proofs.lemmas.List.{take_all}
 use Rattle.std.specs.Str.{is_utf8}
 use Rattle.serde_json.specs.Read as serde_json
@@ -14,7 +14,7 @@ use Rattle.mp_pointer.specs.Laws.{HasOneSpelling}
 use Rattle.mp_pointer.specs.Spelling.{spell}
 use Rattle.mp_texts.specs.Answers.{IsTextOf, place_of, places_list}
 use Rattle.mp_replica.specs.Held.{AreFirstPlaces, HasJoined, HeldPatches, HeldPlaces}
-use Rattle.mp_replica.specs.Kept.{AreSomePlaces, IsHeldBy, IsKept, IsNoKept, KeepsPlaces, ReadsPlaces, mark, marks, more_mark}
+use Rattle.mp_replica.specs.Kept.{AreKeptPlaces, IsHeldBy, IsKept, IsNoKept, KeepsPlaces, ReadsPlaces, mark, marks, more_mark}
 use Rattle.mp_replica.specs.Private.Places.{AreMarkedRead, AreMarkedUnread, AreNotPlaces, AreUnread, IsNoPlace, second_mark}
 use Rattle.mp_replica.specs.Taking.{HasTaken}
 use Rattle.mp_replica.specs.declared.fault.LiveFault.{LiveFault}
@@ -118,22 +118,16 @@ unread_places live.Conflict more text ds read none = absurd none
 unread_places live.Pending more text ds read none = absurd none
 unread_places live.TooLarge more text ds read none = absurd none
 
-no_paths : (ws : List Path) → [] ≡ map place_of ws → ws ≡ []
-no_paths [] same = refl
-no_paths (w ∷ ws) same = cc
-
--- nor is an empty array
-pub unread_if_none : (text : List ℕ) (ds : List Doc) (ws : List Path) → document_in text ≡ Ok (list (items_of (map document ds))) → map document ds ≡ map place_of ws → ws ≡ [] → AreUnread live.NotKept false text
-unread_if_none text ds ws read are none = (
+-- nor is an array of places that no conflict has
+pub unread_unless_kept : HasOneSpelling → (more : Bool) (text : List ℕ) (ds : List Doc) (ws : List Path) → document_in text ≡ Ok (list (items_of (map document ds))) → map document ds ≡ map place_of ws
+    → ¬ AreKeptPlaces (record { places = ws; more = more }) → AreUnread live.NotKept more text
+unread_unless_kept one more text ds ws read are never = (
   list (items_of (map document ds)),
   read,
-  λ places some same.
-      let empty : map document ds ≡ [] = are ∙ ap (map place_of) none in
-      never places some (no_paths places (sym empty ∙ items_same (map document ds) (map place_of places) (let both = same in cc))),
+  λ places kept same.
+      let is = paths_same one places ws (sym (items_same (map document ds) (map place_of places) (let both = same in cc)) ∙ are) in
+      never (subst (λ l. AreKeptPlaces (record { places = l; more = more })) is kept),
 )
-  where
-    never : (places : List Path) → AreSomePlaces (record { places = places; more = false }) → places ≡ [] → ⊥
-    never places some empty = elim some [ inl more ↦ true≢false (sym more) | inr there ↦ there empty ]
 
 pub places_same : HasOneSpelling → (ws us : List Path) → places_list ws ≡ places_list us → ws ≡ us
 places_same one ws us same = paths_same one ws us (items_same (map place_of ws) (map place_of us) (let both = same in cc))

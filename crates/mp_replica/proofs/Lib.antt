@@ -1,10 +1,12 @@
 pub mod Alike
+pub mod Apart
 pub mod Bounded
 pub mod Conflicting
 pub mod Following
 pub mod Growing
 pub mod Identities
 pub mod Keeping
+pub mod KeptPlaces
 pub mod Listing
 pub mod PairTexts
 pub mod PairsFound

@@ -1,7 +1,13 @@
 -- The text of pairs that conflict, one more pair at a time.
-use Rattle.std.proofs.Common.{◌≡◌, ◌≢◌, ◌<◌, ◌≤◌, ◌+◌, ◌-◌, ◌⊎◌, ◌↔◌, inl, inr, ℕ, Bool, false, true≢false, IsTrue, List, [], ◌∷◌, ◌++◌, codes, drop, get_or, length, map, take, refl, sym, ap, ◌∙◌, subst, arith, append_assoc, append-nil, length-append}
+use Rattle.std.proofs.Common.{◌≡◌, ◌≢◌, ◌<◌, ◌≤◌, ◌+◌, ◌-◌, ◌⊎◌, ◌↔◌, inl, inr, ℕ, zero, suc, ◌==◌, MatchOption, Option, None, Some, Bool, true, false, true≢false, IsTrue, List, [], ◌∷◌, ◌++◌, codes, drop, get_or, length, map, take, refl, sym, ap, ◌∙◌, subst, arith, append_assoc, append-nil, length-append}
 use Rattle.std.proofs.lemmas.Bool.{cases_lt}
 use Rattle.std.proofs.lemmas.List.{drop_all, drop_more, length-map, length-take, map-append, take-append-drop, take_more}
+use Rattle.serde_json.specs.Written.{items_text}
+use Rattle.mp_tree.specs.Look.{Path}
+use Rattle.mp_tree.specs.Elements.{items_of}
+use Rattle.mp_tree.specs.Text.{text as compact, items_data}
+use Rattle.mp_texts.specs.Answers.{place_of}
+use Rattle.mp_texts.specs.PlacesTexts.{listed}
 use Rattle.mp_replica.specs.LogTexts.{IsTextOfFirstPairs, more_pairs_text, pair_text, pairs_text}
 use Rattle.mp_replica.specs.PatchLog.{Pair, seen}
 use Rattle.mp_replica.specs.declared.pairs.ConflictingPair.{ConflictingPair}
@@ -39,10 +45,17 @@ closed (pair ∷ pairs) some = refl
 
 -- ---- how long it is, and that of as many as fit
 
--- of each pair, with one byte more for what stands before it
+-- of each text, with one byte more for what stands before it
+abbrev pub spelled_by : {X : Type 0} → (X → List ℕ) → List X → ℕ
+spelled_by text [] = 0
+spelled_by text (x ∷ xs) = 1 + length (text x) + spelled_by text xs
+
+spelled_by-append : {X : Type 0} (text : X → List ℕ) (xs ys : List X) → spelled_by text (xs ++ ys) ≡ spelled_by text xs + spelled_by text ys
+spelled_by-append text [] ys = omega arith
+spelled_by-append text (x ∷ xs) ys = omega (arith, spelled_by-append text xs ys)
+
 abbrev pub spelled : List Pair → ℕ
-spelled [] = 0
-spelled (pair ∷ pairs) = 1 + length (pair_text pair) + spelled pairs
+spelled = spelled_by pair_text
 
 more_long : (pairs : List Pair) → length (more_pairs_text pairs) ≡ spelled pairs
 more_long [] = refl
@@ -53,8 +66,7 @@ pairs_long pair pairs =
     omega (arith, length-append (codes "[" ++ pair_text pair ++ more_pairs_text pairs) (codes "]"), length-append (codes "[" ++ pair_text pair) (more_pairs_text pairs), length-append (codes "[") (pair_text pair), more_long pairs)
 
 pub spelled-append : (pairs others : List Pair) → spelled (pairs ++ others) ≡ spelled pairs + spelled others
-spelled-append [] others = omega arith
-spelled-append (pair ∷ pairs) others = omega (arith, spelled-append pairs others)
+spelled-append = spelled_by-append pair_text
 
 pub fit_or_none : (pairs : List Pair) (limit left : ℕ) → left + spelled pairs ≡ limit - 1 → (pairs ≡ []) ⊎ (length (pairs_text pairs) ≤ limit)
 fit_or_none [] limit left is = inl refl
@@ -63,6 +75,37 @@ fit_or_none (pair ∷ pairs) limit left is = inr (omega (arith, is, pairs_long p
 pub long-push : (pairs : List Pair) (pair : Pair) → length (pairs_text (pairs ++ pair ∷ [])) ≡ 1 + (spelled pairs + (1 + length (pair_text pair)))
 long-push [] pair = omega (arith, pairs_long pair [])
 long-push (p ∷ pairs) pair = omega (arith, pairs_long p (pairs ++ pair ∷ []), spelled-append pairs (pair ∷ []))
+
+-- ---- how long the text of places is
+
+abbrev pub places_spelled : List Path → ℕ
+places_spelled = spelled_by (λ place. compact (place_of place))
+
+spelled_after : (places : List Path) → length (items_text true (items_data (items_of (map place_of places)))) ≡ places_spelled places + 1
+spelled_after [] = refl
+spelled_after (w ∷ places) = omega (arith, spelled_after places, length-append (compact (place_of w)) (items_text true (items_data (items_of (map place_of places)))))
+
+pub listed_of_some : (places : List Path) {empty : Bool} → empty ≡ (length places == 0) → empty ≡ false → listed places ≡ 1 + places_spelled places
+listed_of_some [] is none = absurd (true≢false (sym is ∙ none))
+listed_of_some (w ∷ places) is none = omega (arith, spelled_after places, length-append (compact (place_of w)) (items_text true (items_data (items_of (map place_of places)))))
+
+pub next_spelled : (places : List Path) (k : ℕ) (d : Path) → k < length places → places_spelled (take k places) + (1 + length (compact (place_of (get_or places k d)))) ≤ places_spelled places
+next_spelled [] k d below = absurd (omega (arith, below))
+next_spelled (w ∷ places) zero d below = omega arith
+next_spelled (w ∷ places) (suc k) d below = let rest = next_spelled places k d (omega arith) in omega (arith, rest)
+
+pub spelled_passed : (places : List Path) (k : ℕ) (d : Path) → k < length places → places_spelled (take (k + 1) places) ≡ places_spelled (take k places) + (1 + length (compact (place_of (get_or places k d))))
+spelled_passed places k d below =
+    omega (arith, ap places_spelled (take_more places k d below), spelled_by-append (λ place. compact (place_of place)) (take k places) (get_or places k d ∷ []))
+
+-- ---- what an answer says
+
+pub none_of_two : {P : Type 0} (Q : ℕ → Type 0) {o : Option ℕ} → ((x : ℕ) → o ≡ Some x → ⊥) → MatchOption o P Q → P
+none_of_two Q {o = None} never is = is
+none_of_two Q {o = Some x} never is = absurd (never x refl)
+
+pub some_of_two : (P : Type 0) (Q : ℕ → Type 0) {o : Option ℕ} (x : ℕ) → o ≡ Some x → MatchOption o P Q → Q x
+some_of_two P Q x is = subst (λ o. MatchOption o P Q) is
 
 -- one pair more
 pub seen_more : (pairs : List ConflictingPair) (k : ℕ) (pair : ConflictingPair) → k < length pairs → pair ≡ get_or pairs k pair → map seen (take (k + 1) pairs) ≡ map seen (take k pairs) ++ seen pair ∷ []

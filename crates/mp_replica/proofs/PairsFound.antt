@@ -1,25 +1,25 @@
 -- The pairs of patches that conflict, one more pair at a time.
-use Rattle.std.proofs.Common.{◌≡◌, ◌≢◌, ◌↔◌, ◌⊎◌, ◌<◌, ◌≤◌, ◌+◌, inl, inr, ℕ, List, [], ◌∷◌, ◌++◌, length, get_or, map, Bool, not, true, false, true≢false, Option, None, Some, MatchOption, slice_get, refl, sym, ap, ◌∙◌, subst, arith, rules}
-use Rattle.std.proofs.lemmas.Bool.{cases_lt}
+use Rattle.std.proofs.Common.{◌≡◌, ◌≢◌, ◌↔◌, ◌⊎◌, ◌<◌, inl, inr, List, [], ◌∷◌, ◌++◌, length, map, Bool, not, true, false, true≢false, IsTrue, Option, None, Some, MatchOption, refl, sym, ap, ◌∙◌, subst, arith}
 use Rattle.std.proofs.lemmas.Cmp.{on_total, then_total, tied_itself}
 use Rattle.std.proofs.lemmas.List.{get_or-map, length-map, map-append}
-use Rattle.std.proofs.lemmas.List.Elements.{All-push, All-weaker, All-contains, Contains-append_left, Contains-push, Contains-push_cases}
-use Rattle.std.proofs.lemmas.Map.Keys.{Less-from_sorted}
-use Rattle.std.proofs.lemmas.Option.{slice_get_read, slice_get_within, get_or_from_slice_get}
+use Rattle.std.proofs.lemmas.List.Elements.{All-nil, All-push, Contains-append_cases, Contains-append_left, Contains-append_right, Contains-push, Contains-push_cases}
+use Rattle.std.proofs.lemmas.Map.Lookups.{CmpEqualImpliesEq, exact_pairs}
+use Rattle.std.specs.BTreeSet.{BTreeSet, contains, insert_key}
 use Rattle.std.specs.Cmp.{IsTotalOrder}
-use Rattle.std.specs.List.{All, AllByRecursion, Contains}
+use Rattle.std.specs.List.{AllByRecursion, Contains}
 use Rattle.std.specs.List.Sorted.{IsStrictlySortedBy}
-use Rattle.std.specs.Ordering.{ordering_then}
+use Rattle.std.specs.Ordering.{match_ordering}
 use Rattle.std.specs.declared.cmp.Ordering.{Ordering}
-use Rattle.std.specs.declared.cmp.Ordering.TheVariants.{Less, Equal}
+use Rattle.std.specs.declared.cmp.Ordering.TheVariants.{Less, Equal, Greater}
 use Rattle.mp_tree.specs.Document.{Document}
 use Rattle.mp_merge.specs.Clash.{Compatible}
-use Rattle.mp_tree.proofs.Facts.{Contains-nil, Contains-head, Contains-tail, Contains-cases, some_same}
-use Rattle.mp_replica.specs.PatchLog.{DoClash, IsClashing, Pair, Stored, identities_of, identity_cmp, pair_cmp, seen}
-use Rattle.mp_replica.specs.Private.Pairs.{ArePairsBefore, IsBefore, IsFirstFrom, IsPlaced}
+use Rattle.mp_tree.proofs.Facts.{Contains-nil, Contains-one, Contains-head, Contains-tail, Contains-cases, some_same}
+use Rattle.mp_tree.proofs.Passed.{Passed, Passed-next}
+use Rattle.mp_replica.specs.PatchLog.{AreAllPairsOf, DoClash, IsAmong, IsClashing, Pair, Stored, identities_of, identity_cmp, pair_cmp, seen}
+use Rattle.mp_replica.specs.Private.Pairs.{AreOf, AreOrdered, HasBoth, Includes, KeptPairs, KnowsPairs, NoneAmong, Notes}
 use Rattle.mp_replica.specs.declared.message.Identity.{Identity}
 use Rattle.mp_replica.specs.declared.pairs.ConflictingPair.{ConflictingPair}
-use Rattle.mp_replica.proofs.Identities.{identities_total}
+use Rattle.mp_replica.proofs.Identities.{exact_identities, identities_total}
 
 -- ---- lists that rise
 
@@ -59,7 +59,7 @@ none_rising = tt
 
 -- ---- members of a list that is made of another
 
-mapped : {X Y : Type 0} (f : X → Y) (xs : List X) (x : X) → Contains xs x → Contains (map f xs) (f x)
+pub mapped : {X Y : Type 0} (f : X → Y) (xs : List X) (x : X) → Contains xs x → Contains (map f xs) (f x)
 mapped f xs x at =
     let below : at.0 < length (map f xs) = let inside = at.1 in omega (arith, length-map xs f) in
     (at.0, below, get_or-map f xs at.0 x (f x) at.1 ∙ ap f at.2)
@@ -113,244 +113,135 @@ module _ {X K : Type 0} (cmp : K → K → Ordering) (total : IsTotalOrder cmp) 
       let back_x : (z : X) → Contains (x ∷ ys) z → Contains (x ∷ xs) z = λ z at. back z (subst (λ k. Contains (k ∷ ys) z) same at) in
       ap (λ k. k ∷ xs) same ∙ ap (λ l. y ∷ l) (same_risen xs ys (tail_rises x xs one) (tail_rises x ys other_x) (tail_in x xs ys one there_x) (tail_in x ys xs other_x back_x))
 
--- ---- the order of identities
-
--- those of some identities that are in both lists, in order
-pub record AreIn (passed these those found : List Identity) : Type 0 where
-  pub rising : IsStrictlySortedBy identity_cmp found
-  pub members : (i : Identity) → Contains found i ↔ (Contains passed i × Contains these i × Contains those i)
-
-none_ascend : IsStrictlySortedBy identity_cmp []
-unfolding IsStrictlySortedBy
-none_ascend = tt
-
-pub none_in : (these those : List Identity) → AreIn [] these those []
-none_in these those = record { rising = none_ascend; members = λ i. (λ at. absurd (Contains-nil i at), λ has. absurd (Contains-nil i has.0)) }
-
-pub one_in : (these those : List Identity) (passed more found : List Identity) (i : Identity) → IsStrictlySortedBy identity_cmp (passed ++ i ∷ more) → Contains these i → Contains those i
-    → AreIn passed these those found → AreIn (passed ++ i ∷ []) these those (found ++ i ∷ [])
-one_in these those passed more found i sorted here there are = record {
-  rising = sorted_push identity_cmp found i are.rising (λ j at. below_next identity_cmp passed more j i sorted ((are.members j).0 at).0);
-  members = λ j. (
-    λ at. elim (Contains-push_cases found i j at) [
-      | inl before ↦ let was = (are.members j).0 before in (Contains-append_left passed (i ∷ []) j was.0, was.1, was.2)
-      | inr same ↦ subst (λ k. Contains (passed ++ i ∷ []) k × Contains these k × Contains those k) same (Contains-push passed i, here, there)
-    ],
-    λ has. elim (Contains-push_cases passed i j has.0) [
-      | inl before ↦ Contains-append_left found (i ∷ []) j ((are.members j).1 (before, has.1, has.2))
-      | inr same ↦ subst (Contains (found ++ i ∷ [])) same (Contains-push found i)
-    ],
-  );
-}
-
-pub none_more_in : (these those : List Identity) (passed found : List Identity) (i : Identity) → ¬ (Contains these i × Contains those i) → AreIn passed these those found → AreIn (passed ++ i ∷ []) these those found
-none_more_in these those passed found i out are = record {
-  rising = are.rising;
-  members = λ j. (
-    λ at. let was = (are.members j).0 at in (Contains-append_left passed (i ∷ []) j was.0, was.1, was.2),
-    λ has. elim (Contains-push_cases passed i j has.0) [
-      | inl before ↦ (are.members j).1 (before, has.1, has.2)
-      | inr same ↦ absurd (out (subst (λ k. Contains these k × Contains those k) (sym same) (has.1, has.2)))
-    ],
-  );
-}
+-- ---- the order of pairs
 
 pub pairs_total : IsTotalOrder pair_cmp
 pairs_total = then_total (on_total (λ p. p.0) identities_total) (on_total (λ p. p.1) identities_total)
 
-abbrev one_pair : Identity → Identity → Identity × Identity
-one_pair i j = (i, j)
-
-same_less : (i j : Identity) → i ≡ j → identity_cmp i j ≢ Less
+pub same_less : (i j : Identity) → i ≡ j → identity_cmp i j ≢ Less
 same_less i j same less = let never : Less ≡ Equal = sym (subst (λ k. identity_cmp i k ≡ Less) (sym same) less) ∙ tied_itself identities_total i in cc
 
-back_less : (i j : Identity) → identity_cmp i j ≡ Less → identity_cmp j i ≢ Less
+pub back_less : (i j : Identity) → identity_cmp i j ≡ Less → identity_cmp j i ≢ Less
 back_less i j less back = same_less i i refl (identities_total.trans i j i less back)
 
-module _ (ids : List Identity) (rising : IsStrictlySortedBy identity_cmp ids) where
-  -- the lower number has the lower identity
-  less_at : (m n : ℕ) (i j : Identity) → slice_get ids m ≡ Some i → slice_get ids n ≡ Some j → m < n → identity_cmp i j ≡ Less
-  less_at m n i j at_m at_n less =
-      let inside : n < length ids = slice_get_within ids n j at_n in
-      let one = get_or_from_slice_get ids m i i at_m in
-      let other = get_or_from_slice_get ids n j i at_n in
-      subst (λ k. identity_cmp k j ≡ Less) one (subst (λ k. identity_cmp (get_or ids m i) k ≡ Less) other (Less-from_sorted identity_cmp ids m n i rising less inside))
+pub exact_pair : CmpEqualImpliesEq pair_cmp
+exact_pair = exact_pairs identity_cmp identity_cmp exact_identities exact_identities
 
-  one_at : (m n : ℕ) (i j : Identity) → m ≡ n → slice_get ids m ≡ Some i → slice_get ids n ≡ Some j → i ≡ j
-  one_at m n i j same at_m at_n = some_same i j (sym at_m ∙ ap (slice_get ids) same ∙ at_n)
+-- ---- one more pair is kept
 
-  -- and the lower identity the lower number
-  pub number_below : (m n : ℕ) (i j : Identity) → slice_get ids m ≡ Some i → slice_get ids n ≡ Some j → identity_cmp i j ≡ Less → m < n
-  number_below m n i j at_m at_n less = elim (cases_lt m n) [
-    | inl below ↦ below
-    | inr past ↦ elim (cases_lt n m) [
-      | inl above ↦ absurd (back_less i j less (less_at n m j i at_n at_m above))
-      | inr also ↦ absurd (same_less i j (one_at m n i j (omega arith) at_m at_n) less)
-    ]
+module _ (k x y : Identity × Identity) (ks : List (Identity × Identity)) where
+  place_of_inserted : (o : Ordering) → (Contains (insert_key pair_cmp ks k) x → Contains ks x ⊎ (k ≡ x)) → Contains (match_ordering o (k ∷ y ∷ ks) (y ∷ ks) (y ∷ insert_key pair_cmp ks k)) x → Contains (y ∷ ks) x ⊎ (k ≡ x)
+  place_of_inserted Less later at = elim (Contains-cases k x (y ∷ ks) at) [ inl same ↦ inr same | inr there ↦ inl there ]
+  place_of_inserted Equal later at = inl at
+  place_of_inserted Greater later at = elim (Contains-cases y x (insert_key pair_cmp ks k) at) [
+    | inl same ↦ inl (subst (Contains (y ∷ ks)) same (Contains-head y ks))
+    | inr there ↦ elim (later there) [ inl before ↦ inl (Contains-tail y x ks before) | inr same ↦ inr same ]
   ]
 
-  -- a pair with numbers before those of another comes before it
-  pub pair_below : (m n a b : ℕ) (i j k l : Identity) → slice_get ids m ≡ Some i → slice_get ids n ≡ Some j → slice_get ids a ≡ Some k → slice_get ids b ≡ Some l
-      → IsBefore m n a b → pair_cmp (i, j) (k, l) ≡ Less
-  pair_below m n a b i j k l at_m at_n at_a at_b before = elim before [
-    | inl less ↦ ap (λ o. ordering_then o (identity_cmp j l)) (less_at m a i k at_m at_a less)
-    | inr both ↦
-        let same = one_at m a i k both.0 at_m at_a in
-        ap (λ o. ordering_then o (identity_cmp j l)) (subst (λ x. identity_cmp i x ≡ Equal) same (tied_itself identities_total i)) ∙ less_at n b j l at_n at_b both.1
+  place_still : (o : Ordering) → (Contains ks x → Contains (insert_key pair_cmp ks k) x) → Contains (y ∷ ks) x → Contains (match_ordering o (k ∷ y ∷ ks) (y ∷ ks) (y ∷ insert_key pair_cmp ks k)) x
+  place_still Less later at = Contains-tail k x (y ∷ ks) at
+  place_still Equal later at = at
+  place_still Greater later at = elim (Contains-cases y x ks at) [
+    | inl same ↦ subst (Contains (y ∷ insert_key pair_cmp ks k)) same (Contains-head y (insert_key pair_cmp ks k))
+    | inr there ↦ Contains-tail y x (insert_key pair_cmp ks k) (later there)
   ]
 
-  -- and the other way round
-  pub numbers_before : (m n a b : ℕ) (i j k l : Identity) → slice_get ids m ≡ Some i → slice_get ids n ≡ Some j → slice_get ids a ≡ Some k → slice_get ids b ≡ Some l
-      → pair_cmp (i, j) (k, l) ≡ Less → IsBefore m n a b
-  numbers_before m n a b i j k l at_m at_n at_a at_b less = elim (cases_lt m a) [
-    | inl below ↦ inl below
-    | inr past ↦ elim (cases_lt a m) [
-      | inl above ↦ absurd (never (inl above))
-      | inr also ↦ elim (cases_lt n b) [
-        | inl below ↦ inr (omega arith, below)
-        | inr after ↦ elim (cases_lt b n) [
-          | inl above ↦ absurd (never (inr (omega arith, above)))
-          | inr level ↦ absurd (at_once (omega arith) (omega arith))
-        ]
-      ]
-    ]
-  ]
-    where
-      never : IsBefore a b m n → ⊥
-      never before =
-          let back = pair_below a b m n k l i j at_a at_b at_m at_n before in
-          let again : Less ≡ Equal = sym (pairs_total.trans (i, j) (k, l) (i, j) less back) ∙ tied_itself pairs_total (i, j) in cc
+  place_here : (o : Ordering) → pair_cmp k y ≡ o → Contains (insert_key pair_cmp ks k) k → Contains (match_ordering o (k ∷ y ∷ ks) (y ∷ ks) (y ∷ insert_key pair_cmp ks k)) k
+  place_here Less is later = Contains-head k (y ∷ ks)
+  place_here Equal is later = subst (Contains (y ∷ ks)) (sym (exact_pair k y is)) (Contains-head y ks)
+  place_here Greater is later = Contains-tail y k (insert_key pair_cmp ks k) later
 
-      at_once : m ≡ a → n ≡ b → ⊥
-      at_once first second =
-          let same : one_pair i j ≡ one_pair k l = ap (λ x. one_pair x j) (one_at m a i k first at_m at_a) ∙ ap (λ x. one_pair k x) (one_at n b j l second at_n at_b) in
-          let again : Less ≡ Equal = sym less ∙ ap (pair_cmp (one_pair i j)) (sym same) ∙ tied_itself pairs_total (one_pair i j) in cc
+pub inserted : (k x : Identity × Identity) (ks : List (Identity × Identity)) → Contains (insert_key pair_cmp ks k) x → Contains ks x ⊎ (k ≡ x)
+inserted k x [] at = inr (Contains-one k x at)
+inserted k x (y ∷ ks) at = place_of_inserted k x y ks (pair_cmp k y) (inserted k x ks) at
 
-  -- ---- one more pair
+pub still_inserted : (k x : Identity × Identity) (ks : List (Identity × Identity)) → Contains ks x → Contains (insert_key pair_cmp ks k) x
+still_inserted k x [] at = absurd (Contains-nil x at)
+still_inserted k x (y ∷ ks) at = place_still k x y ks (pair_cmp k y) (still_inserted k x ks) at
 
-  module _ (stored : Stored) where
-    further : (m n a b : ℕ) → IsBefore m n a b → IsBefore m n a (b + 1)
-    further m n a b before = elim before [ inl less ↦ inl less | inr both ↦ inr (both.0, let below = both.1 in omega arith) ]
+pub has_inserted : (k : Identity × Identity) (ks : List (Identity × Identity)) → Contains (insert_key pair_cmp ks k) k
+has_inserted k [] = Contains-head k []
+has_inserted k (y ∷ ks) = place_here k k y ks (pair_cmp k y) refl (has_inserted k ks)
 
-    last_or_before : (m n a b : ℕ) → IsBefore m n a (b + 1) → IsBefore m n a b ⊎ ((m ≡ a) × (n ≡ b))
-    last_or_before m n a b before = elim before [
-      | inl less ↦ inl (inl less)
-      | inr both ↦ elim (cases_lt n b) [
-        | inl below ↦ inl (inr (both.0, below))
-        | inr past ↦ inr (both.0, let below = both.1 in omega arith)
-      ]
-    ]
+-- ---- of the pairs so far those whose patches clash
 
-    placed_further : (a b : ℕ) (pairs : List Pair) → All (IsPlaced ids a b) pairs → All (IsPlaced ids a (b + 1)) pairs
-    placed_further a b pairs all =
-        All-weaker (IsPlaced ids a b) (IsPlaced ids a (b + 1)) (λ pair is. record { m = is.m; n = is.n; at_first = is.at_first; at_second = is.at_second; before = further is.m is.n a b is.before }) pairs all
+module _ (of : Option Identity) (stored : Stored) where
+  pub none_of : AreOf of stored [] []
+  none_of = record {
+    rising = none_rising;
+    each = All-nil (IsClashing stored);
+    among = All-nil (λ pair. IsAmong of pair.first pair.second);
+    from = λ k at. at;
+    all = λ i j at among clash. at;
+  }
 
-    -- the two with the numbers a and b are compatible
-    pub pair_over : (a b : ℕ) (k l : Identity) (pairs : List Pair) → slice_get ids a ≡ Some k → slice_get ids b ≡ Some l → ¬ DoClash stored k l → ArePairsBefore stored ids a b pairs
-        → ArePairsBefore stored ids a (b + 1) pairs
-    pair_over a b k l pairs at_a at_b free are = record {
+  module _ (passed rest : List (Identity × Identity)) (i j : Identity) (pairs : List Pair) (are : AreOf of stored passed pairs) where
+    from_more : (k : Identity × Identity) → Contains (map identities_of pairs) k → Contains (passed ++ (i, j) ∷ []) k
+    from_more k at = Contains-append_left passed ((i, j) ∷ []) k (are.from k at)
+
+    -- the two do not clash, or are not asked for
+    pub none_more_of : ¬ (IsAmong of i j × DoClash stored i j) → AreOf of stored (passed ++ (i, j) ∷ []) pairs
+    none_more_of never = record {
       rising = are.rising;
       each = are.each;
-      placed = placed_further a b pairs are.placed;
-      all = λ m n i j at_m at_n less before clash. elim (last_or_before m n a b before) [
-        | inl early ↦ are.all m n i j at_m at_n less early clash
-        | inr last ↦ absurd (free (subst (λ x. DoClash stored x l) (one_at m a i k last.0 at_m at_a) (subst (DoClash stored i) (one_at n b j l last.1 at_n at_b) clash)))
+      among = are.among;
+      from = from_more;
+      all = λ k l at among clash. elim (Contains-push_cases passed (i, j) (k, l) at) [
+        | inl before ↦ are.all k l before among clash
+        | inr same ↦ absurd (never (subst (λ (x : Identity × Identity). IsAmong of x.0 x.1 × DoClash stored x.0 x.1) (sym same) (among, clash)))
       ];
     }
 
     -- they clash, and are added
-    pub pair_more : (a b : ℕ) (k l : Identity) (pairs : List Pair) (pair : Pair) → slice_get ids a ≡ Some k → slice_get ids b ≡ Some l → identities_of pair ≡ (k, l) → IsClashing stored pair
-        → ArePairsBefore stored ids a b pairs → ArePairsBefore stored ids a (b + 1) (pairs ++ pair ∷ [])
-    pair_more a b k l pairs pair at_a at_b is clashing are = record {
-      rising = subst (IsStrictlySortedBy pair_cmp) (sym (map-append identities_of pairs (pair ∷ []))) (sorted_push pair_cmp (map identities_of pairs) (identities_of pair) are.rising below);
+    pub one_more_of : (pair : Pair) → IsStrictlySortedBy pair_cmp (passed ++ (i, j) ∷ rest) → identities_of pair ≡ (i, j) → IsClashing stored pair → IsAmong of i j → AreOf of stored (passed ++ (i, j) ∷ []) (pairs ++ pair ∷ [])
+    one_more_of pair sorted is clashing among = record {
+      rising = subst (IsStrictlySortedBy pair_cmp) (sym pushed) (sorted_push pair_cmp (map identities_of pairs) (identities_of pair) are.rising below);
       each = All-push (IsClashing stored) pairs pair are.each clashing;
-      placed = All-push (IsPlaced ids a (b + 1)) pairs pair (placed_further a b pairs are.placed) (record {
-        m = a;
-        n = b;
-        at_first = at_a ∙ ap Some (sym (ap (λ x. x.0) is));
-        at_second = at_b ∙ ap Some (sym (ap (λ x. x.1) is));
-        before = inr (refl, omega arith);
-      });
-      all = λ m n i j at_m at_n less before clash. subst (λ l. Contains l (i, j)) (sym (map-append identities_of pairs (pair ∷ []))) (elim (last_or_before m n a b before) [
-        | inl early ↦ Contains-append_left (map identities_of pairs) (identities_of pair ∷ []) (i, j) (are.all m n i j at_m at_n less early clash)
-        | inr last ↦
-            let same : identities_of pair ≡ (i, j) = is ∙ ap (λ x. (x, l)) (sym (one_at m a i k last.0 at_m at_a)) ∙ ap (λ x. (i, x)) (sym (one_at n b j l last.1 at_n at_b)) in
-            subst (Contains (map identities_of pairs ++ identities_of pair ∷ [])) same (Contains-push (map identities_of pairs) (identities_of pair))
+      among = All-push (λ p. IsAmong of p.first p.second) pairs pair are.among (subst (λ (x : Identity × Identity). IsAmong of x.0 x.1) (sym is) among);
+      from = λ k at. elim (Contains-push_cases (map identities_of pairs) (identities_of pair) k (subst (λ l. Contains l k) pushed at)) [
+        | inl before ↦ from_more k before
+        | inr same ↦ subst (Contains (passed ++ (i, j) ∷ [])) (sym is ∙ same) (Contains-push passed (i, j))
+      ];
+      all = λ k l at asked clash. subst (λ ks. Contains ks (k, l)) (sym pushed) (elim (Contains-push_cases passed (i, j) (k, l) at) [
+        | inl before ↦ Contains-append_left (map identities_of pairs) (identities_of pair ∷ []) (k, l) (are.all k l before asked clash)
+        | inr same ↦ subst (Contains (map identities_of pairs ++ identities_of pair ∷ [])) (is ∙ same) (Contains-push (map identities_of pairs) (identities_of pair))
       ]);
     }
       where
-        below : (x : Identity × Identity) → Contains (map identities_of pairs) x → pair_cmp x (identities_of pair) ≡ Less
-        below x at =
-            let from = unmapped identities_of pairs x at in
-            let place = All-contains (IsPlaced ids a b) pairs from.0 are.placed from.1 in
-            subst (λ y. pair_cmp y (identities_of pair) ≡ Less) from.2 (subst (λ y. pair_cmp (identities_of from.0) y ≡ Less) (sym is)
-            (pair_below place.m place.n a b from.0.first from.0.second k l place.at_first place.at_second at_a at_b place.before))
+        pushed : map identities_of (pairs ++ pair ∷ []) ≡ map identities_of pairs ++ identities_of pair ∷ []
+        pushed = map-append identities_of pairs (pair ∷ [])
 
-    -- ---- from one row to the next
+        below : (k : Identity × Identity) → Contains (map identities_of pairs) k → pair_cmp k (identities_of pair) ≡ Less
+        below k at = subst (λ x. pair_cmp k x ≡ Less) (sym is) (below_next pair_cmp passed rest k (i, j) sorted (are.from k at))
 
-    -- the first number to be compared with a is the next
-    pub row_begun : (a : ℕ) (pairs : List Pair) → ArePairsBefore stored ids a 0 pairs → ArePairsBefore stored ids a (a + 1) pairs
-    row_begun a pairs are = record {
-      rising = are.rising;
-      each = are.each;
-      placed = All-weaker (IsPlaced ids a 0) (IsPlaced ids a (a + 1)) (λ pair is. record { m = is.m; n = is.n; at_first = is.at_first; at_second = is.at_second; before = on is.m is.n is.before }) pairs are.placed;
-      all = λ m n i j at_m at_n less before. are.all m n i j at_m at_n less (back m n less before);
-    }
-      where
-        on : (m n : ℕ) → IsBefore m n a 0 → IsBefore m n a (a + 1)
-        on m n before = elim before [ inl below ↦ inl below | inr both ↦ absurd (let below = both.1 in omega arith) ]
+  -- all kept pairs are passed
+  pub all_of : (set : KeptPairs) (pairs : List Pair) → KnowsPairs stored set → AreOf of stored set.keys pairs → AreAllPairsOf of stored pairs
+  all_of set pairs knows are = record {
+    rising = are.rising;
+    each = are.each;
+    among = are.among;
+    all = λ i j less among clash. are.all i j (knows.found i j less clash) among clash;
+  }
 
-        back : (m n : ℕ) → m < n → IsBefore m n a (a + 1) → IsBefore m n a 0
-        back m n less before = elim before [ inl below ↦ inl below | inr both ↦ absurd (let same = both.0 in let below = both.1 in omega arith) ]
+-- ---- where a pair stands among those that are kept
 
-    pub row_ended : (a b : ℕ) (pairs : List Pair) → length ids ≤ b → ArePairsBefore stored ids a b pairs → ArePairsBefore stored ids (a + 1) 0 pairs
-    row_ended a b pairs past are = record {
-      rising = are.rising;
-      each = are.each;
-      placed = All-weaker (IsPlaced ids a b) (IsPlaced ids (a + 1) 0) (λ pair is. record { m = is.m; n = is.n; at_first = is.at_first; at_second = is.at_second; before = on is.m is.n is.before }) pairs are.placed;
-      all = λ m n i j at_m at_n less before. are.all m n i j at_m at_n less (back m n j at_n before);
-    }
-      where
-        on : (m n : ℕ) → IsBefore m n a b → IsBefore m n (a + 1) 0
-        on m n before = elim before [ inl below ↦ inl (omega arith) | inr both ↦ inl (let same = both.0 in omega arith) ]
+module _ (passed rest : List (Identity × Identity)) (next : Identity × Identity) (sorted : IsStrictlySortedBy pair_cmp (passed ++ next ∷ rest)) where
+  never_before : (k : Identity × Identity) → pair_cmp k next ≡ Less → ¬ Contains (next ∷ rest) k
+  unfolding IsStrictlySortedBy
+  never_before k less at = elim (Contains-cases next k rest at) [
+    | inl same ↦ (let never : Less ≡ Equal = sym less ∙ ap (λ x. pair_cmp x next) (sym same) ∙ tied_itself pairs_total next in cc)
+    | inr later ↦
+        let back = above passed sorted k later in
+        (let never : Less ≡ Equal = sym (pairs_total.trans k next k less back) ∙ tied_itself pairs_total k in cc)
+  ]
+    where
+      above : (xs : List (Identity × Identity)) → IsStrictlySortedBy pair_cmp (xs ++ next ∷ rest) → (k : Identity × Identity) → Contains rest k → pair_cmp next k ≡ Less
+      above [] sorted k at = less_each pair_cmp next k rest sorted.0 at
+      above (x ∷ xs) sorted k at = above xs sorted.1 k at
 
-        back : (m n : ℕ) (j : Identity) → slice_get ids n ≡ Some j → IsBefore m n (a + 1) 0 → IsBefore m n a b
-        back m n j at_n before = elim before [
-          | inl below ↦ elim (cases_lt m a) [
-            | inl less ↦ inl less
-            | inr past_a ↦ inr (omega arith, let inside = slice_get_within ids n j at_n in omega arith)
-          ]
-          | inr both ↦ absurd (let never = both.1 in omega arith)
-        ]
-
-    pub no_pairs : ArePairsBefore stored ids 0 0 []
-    no_pairs = record {
-      rising = none_rising;
-      each = search rules;
-      placed = search rules;
-      all = λ m n i j at_m at_n less before. elim before [ inl never ↦ absurd (omega arith) | inr both ↦ absurd (let never = both.1 in omega arith) ];
-    }
-
-    -- ---- what is found in the end
-
-    -- two of them that clash, the lower identity first
-    pub clash_found : (pairs : List Pair) (i j : Identity) → ArePairsBefore stored ids (length ids) 0 pairs → Contains ids i → Contains ids j → identity_cmp i j ≡ Less → DoClash stored i j
-        → Contains (map identities_of pairs) (i, j)
-    clash_found pairs i j are here there less clash =
-        let at_i = slice_get_read ids (length ids) here.0 i refl here.1 (sym here.2) in
-        let at_j = slice_get_read ids (length ids) there.0 j refl there.1 (sym there.2) in
-        are.all here.0 there.0 i j at_i at_j (number_below here.0 there.0 i j at_i at_j less) (inl (let inside = here.1 in omega arith)) clash
-
-    -- nothing that clashes comes before the first pair
-    pub first_is_least : (k l i j : Identity) → IsFirstFrom stored ids k l → Contains ids i → Contains ids j → identity_cmp i j ≡ Less → DoClash stored i j → pair_cmp (i, j) (k, l) ≢ Less
-    first_is_least k l i j first here there less clash before =
-        let at_i = slice_get_read ids (length ids) here.0 i refl here.1 (sym here.2) in
-        let at_j = slice_get_read ids (length ids) there.0 j refl there.1 (sym there.2) in
-        Contains-nil (i, j) (first.none_before.all here.0 there.0 i j at_i at_j (number_below here.0 there.0 i j at_i at_j less)
-        (numbers_before here.0 there.0 first.a first.b i j k l at_i at_j first.at_first first.at_second before) clash)
-
-pub placed_at : {X : Type 0} (xs : List X) (k : ℕ) (x : X) → slice_get xs k ≡ Some x → Contains xs x
-placed_at xs k x is = (k, slice_get_within xs k x is, get_or_from_slice_get xs k x x is)
+  -- what comes before it is passed
+  pub before_is_passed : (k : Identity × Identity) → Contains (passed ++ next ∷ rest) k → pair_cmp k next ≡ Less → Contains passed k
+  before_is_passed k at less = elim (Contains-append_cases passed (next ∷ rest) k at) [ inl before ↦ before | inr after ↦ absurd (never_before k less after) ]
 
 -- ---- what is found of two
 
@@ -381,3 +272,49 @@ some_there stored k l found pair some is = subst (λ o. MatchOption o (¬ DoClas
 pub none_unless_there : (stored : Stored) (k l : Identity) (found : Option ConflictingPair) → ((pair : ConflictingPair) → found ≡ Some pair → ⊥) → MatchOption found (¬ DoClash stored k l) (IsFound stored k l) → ¬ DoClash stored k l
 none_unless_there stored k l None never is = is
 none_unless_there stored k l (Some pair) never is = absurd (never pair refl)
+
+-- ---- the next of the pairs that are kept
+
+pub one_there : {ks left more : List (Identity × Identity)} {Holds : List (Identity × Identity) → Type 0} {k : Identity × Identity} → (passed : Passed ks left Holds) → left ≡ k ∷ more → Contains ks k
+one_there {more = more} {k = k} passed next = subst (λ l. Contains l k) (sym (Passed-next passed next)) (Contains-append_right passed.passed (k ∷ more) k (Contains-head k more))
+
+-- one that was not chosen, or does not clash
+pub none_more_among : (stored : Stored) (passed : List (Identity × Identity)) (k : Identity × Identity) (chosen : BTreeSet Identity)
+    → ¬ (IsTrue (contains identity_cmp chosen k.0) × IsTrue (contains identity_cmp chosen k.1) × DoClash stored k.0 k.1) → NoneAmong stored passed chosen → NoneAmong stored (passed ++ k ∷ []) chosen
+none_more_among stored passed k chosen never none i j at one other clash = elim (Contains-push_cases passed k (i, j) at) [
+  | inl before ↦ none i j before one other clash
+  | inr same ↦ never (subst (λ (x : Identity × Identity). IsTrue (contains identity_cmp chosen x.0) × IsTrue (contains identity_cmp chosen x.1) × DoClash stored x.0 x.1) (sym same) (one, other, clash))
+]
+
+-- ---- a pair is added to those that are kept
+
+module _ (set now : KeptPairs) (i j : Identity) (is : now.keys ≡ insert_key pair_cmp set.keys (i, j)) where
+  pub includes_more : Includes set now
+  includes_more k at = subst (λ ks. Contains ks k) (sym is) (still_inserted (i, j) k set.keys at)
+
+  pub ordered_more : identity_cmp i j ≡ Less → AreOrdered set → AreOrdered now
+  ordered_more less ordered a b at = elim (inserted (i, j) (a, b) set.keys (subst (λ ks. Contains ks (a, b)) is at)) [
+    | inl before ↦ ordered a b before
+    | inr same ↦ subst (λ (x : Identity × Identity). identity_cmp x.0 x.1 ≡ Less) same less
+  ]
+
+  pub has_it : Contains now.keys (i, j)
+  has_it = subst (λ ks. Contains ks (i, j)) (sym is) (has_inserted (i, j) set.keys)
+
+  -- whichever of the two comes first
+  pub has_both : identity_cmp i j ≡ Less → HasBoth now i j × HasBoth now j i
+  has_both less = ((λ _. has_it, λ back. absurd (back_less i j less back)), (λ back. absurd (back_less i j less back), λ _. has_it))
+
+pub includes_same : (set now : KeptPairs) → now.keys ≡ set.keys → Includes set now
+includes_same set now same k at = subst (λ ks. Contains ks k) (sym same) at
+
+pub ordered_same : (set now : KeptPairs) → now.keys ≡ set.keys → AreOrdered set → AreOrdered now
+ordered_same set now same ordered i j at = ordered i j (subst (λ ks. Contains ks (i, j)) same at)
+
+-- one identity more of those that were compared
+pub noted_more : (i : Identity) (stored : Stored) (p : Document) (passed : List Identity) (j : Identity) (set now : KeptPairs) → Includes set now → ((q : Document) → stored j ≡ Some q → ¬ Compatible p q → HasBoth now i j)
+    → Notes i stored p passed set → Notes i stored p (passed ++ j ∷ []) now
+noted_more i stored p passed j set now kept here noted k q at at_k differ = elim (Contains-push_cases passed j k at) [
+  | inl before ↦ let both = noted k q before at_k differ in (λ less. kept (i, k) (both.0 less), λ less. kept (k, i) (both.1 less))
+  | inr same ↦ subst (λ x. HasBoth now i x) same (here q (subst (λ x. stored x ≡ Some q) (sym same) at_k) differ)
+]

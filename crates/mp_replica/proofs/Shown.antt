@@ -1,23 +1,28 @@
 -- What a patch log shows, and what it begins: outcomes of its start and of some of the patches.
-use Rattle.std.proofs.Common.{◌≡◌, ◌+◌, ℕ, inl, inr, List, [], ◌∷◌, ◌++◌, Option, None, Some, IfSome, sym, ap, ◌∙◌, subst, rules}
-use Rattle.std.proofs.lemmas.List.Elements.{All-push, Contains-append_left, Contains-push, Contains-push_cases}
+use Rattle.std.proofs.Common.{◌≡◌, ◌+◌, ℕ, inl, inr, List, [], ◌∷◌, ◌++◌, Option, None, Some, IfSome, MatchOption, option_map, sym, ap, ◌∙◌, subst, rules}
+use Rattle.std.specs.Prelude.{⊤}
+use Rattle.std.proofs.lemmas.List.Elements.{All-cons, All-nil, All-push, Contains-append_left, Contains-push, Contains-push_cases}
 use Rattle.std.specs.List.{All, Contains}
 use Rattle.mp_tree.specs.Document.{Document, IsDocument}
 use Rattle.mp_tree.specs.View.{document}
 use Rattle.mp_tree.specs.declared.doc.Doc.{Doc}
-use Rattle.mp_tree.proofs.Facts.{Contains-nil, Contains-one}
+use Rattle.mp_tree.proofs.Facts.{IsDocument-document, Contains-head, Contains-nil, Contains-one, Contains-tail}
 use Rattle.mp_merge.specs.Application.{merge_patch}
 use Rattle.mp_merge.specs.Clash.{Compatible}
 use Rattle.mp_merge.specs.Lists.{PairwiseCompatible}
 use Rattle.mp_merge.specs.Outcome.{IsOutcome}
 use Rattle.mp_replica.specs.Following.{settled}
 use Rattle.mp_replica.specs.Held.{HasJoined}
-use Rattle.mp_replica.specs.PatchLog.{AreChosen, Begins, HaveArrived, HeldLog, Stored, stored_in, stored_of}
+use Rattle.mp_replica.specs.PatchLog.{AreChosen, Begins, ClashesWithNone, HaveArrived, HeldLog, Shows, Stored, StoresAlso, stored_in, stored_of}
 use Rattle.mp_replica.specs.Private.LawsBelow.{MergeLaws, TextLaws}
 use Rattle.mp_replica.specs.Private.Steps.{Fits}
-use Rattle.mp_replica.specs.Private.StoredPatches.{AreApart}
+use Rattle.mp_replica.specs.Private.StoredPatches.{AreApart, IsShownAfter, StillShows}
 use Rattle.mp_replica.specs.declared.message.Identity.{Identity}
+use Rattle.mp_replica.specs.declared.stored_patches.Standing.{Standing}
+use Rattle.mp_replica.specs.declared.stored_patches.Standing.TheVariants.{Fits as Fitted, Disputed, Disputes}
+use Rattle.mp_replica.proofs.Conflicting.{unclashed_more}
 use Rattle.mp_replica.proofs.Growing.{itself, join_of, pairwise_push}
+use Rattle.mp_replica.proofs.Identities.{stored_is_document}
 
 alone : (p : Document) → PairwiseCompatible (p ∷ [])
 alone p x y one two = subst (λ d. Compatible d y) (Contains-one p x one) (subst (Compatible p) (Contains-one p y two) (itself p))
@@ -41,6 +46,39 @@ module _ (laws : TextLaws) where
   shows_joined d ds (Some k) None good good_m good_n fits has = laws.join_outcome d ds k good good_m (join_of laws.merging ds (Some k) good_m has)
   shows_joined d ds None (Some p) good good_m good_n fits has = laws.join_outcome d ds p good good_n ((has.joins p good_n).0 (laws.merging.join_of_one p))
   shows_joined d ds (Some k) (Some p) good good_m good_n fits has = both d k p ds good good_m good_n fits has
+
+-- ---- one more patch p is stored, which clashes with none
+
+all_documents : (ds : List Document) → ((q : Document) → Contains ds q → IsDocument q) → All IsDocument ds
+all_documents [] each = All-nil IsDocument
+all_documents (d ∷ ds) each = All-cons IsDocument d ds (each d (Contains-head d ds)) (all_documents ds (λ q at. each q (Contains-tail d q ds at)))
+
+module _ (laws : MergeLaws) (es fs : List (Identity × Doc)) (i : Identity) (p : Document) (absent : stored_in es i ≡ None) (more : StoresAlso (stored_in es) i p (stored_in fs))
+    (good : IsDocument p) (none : ClashesWithNone (stored_in es) p) where
+  pub shows_more : (start shown : Document) → IsDocument start → IsDocument shown → Shows start (stored_in es) shown → Shows start (stored_in fs) (merge_patch (Some shown) p)
+  shows_more start shown good_start good_shown shows =
+      let before = shows.patches in
+      let each = shows.unclashed in
+      let agree : (q : Document) → Contains before q → Compatible p q = λ q at. let place = ((each q).0 at).0 in none place.0 q place.1 in
+      let apart : PairwiseCompatible before = λ q r one two. let place = ((each r).0 two).0 in ((each q).0 one).1 place.0 r place.1 in
+      let all = all_documents before (λ q at. let place = ((each q).0 at).0 in stored_is_document es place.0 q place.1) in
+      record {
+        patches = before ++ p ∷ [];
+        unclashed = unclashed_more (stored_in es) (stored_in fs) i p absent more none before each;
+        outcome = laws.outcome_grows start before shown p good_start all good_shown good (pairwise_push before p apart agree) shows.outcome;
+      }
+
+-- what is kept is kept up
+pub kept_up : (standing : Standing) (start p : Document) (es fs : List (Identity × Doc)) (held now : Option Doc) → IsDocument start
+    → MatchOption now ⊤ (λ d. (before : Doc) × (held ≡ Some before) × IsShownAfter standing (document before) p (document d))
+    → ((shown : Document) → IsDocument shown → Shows start (stored_in es) shown → StillShows standing start shown p (stored_in fs))
+    → IfSome (option_map document held) (Shows start (stored_in es)) → IfSome (option_map document now) (Shows start (stored_in fs))
+kept_up standing start p es fs held None good after still shows = tt
+kept_up Fitted start p es fs held (Some d) good after still shows =
+    subst (Shows start (stored_in fs)) (sym after.2) (still (document after.0) (IsDocument-document after.0) (subst (λ o. IfSome (option_map document o) (Shows start (stored_in es))) after.1 shows))
+kept_up Disputed start p es fs held (Some d) good after still shows =
+    subst (Shows start (stored_in fs)) (sym after.2) (still (document after.0) (IsDocument-document after.0) (subst (λ o. IfSome (option_map document o) (Shows start (stored_in es))) after.1 shows))
+kept_up Disputes start p es fs held (Some d) good after still shows = absurd after.2
 
 -- ---- the chosen patches, one after another
 

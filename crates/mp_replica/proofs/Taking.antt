@@ -18,7 +18,8 @@ use Rattle.mp_replica.specs.Private.Steps.{ClashesWithAll, ClashesWithJoin, Hold
 use Rattle.mp_replica.specs.Taking.{HasTaken, HoldsConflict, TakesAll, TakesOne}
 use Rattle.mp_replica.specs.declared.patches.Added.{Added}
 use Rattle.mp_replica.specs.declared.patches.Added.TheVariants.{Joined, Conflict, Pending, Refused}
-use Rattle.mp_replica.proofs.Growing.{clashes_of_join, documents, join_of, joined_none, joined_on, joined_same, one_join_of, same_back}
+use Rattle.mp_replica.proofs.Apart.{none_within}
+use Rattle.mp_replica.proofs.Growing.{clashes_of_join, documents, grew_joins, join_of, joined_none, joined_on, joined_same, one_join_of, same_back}
 
 -- what is held if no two conflict
 pub free_taken : (r : HeldPatches) (taken : List Document) → r.places ≡ None → HasJoined (option_map document r.joined) (option_map document r.pending) taken → HasTaken r taken
@@ -48,6 +49,7 @@ more_clashes : (ds es : List Document) (places : List Path) → ((p : Document) 
 more_clashes ds es places within clashes = record {
   some = clashes.some;
   rising = clashes.rising;
+  apart = clashes.apart;
   each = λ w at. let pair = clashes.each w at in (pair.0, pair.1, within pair.0 pair.2, within pair.1 pair.3, pair.4);
 }
 
@@ -115,6 +117,13 @@ module _ (laws : MergeLaws) where
   pub none_taken : (r : HeldPatches) → r.joined ≡ None → r.pending ≡ None → r.places ≡ None → HasTaken r []
   none_taken r no_join none_pending none = free_taken r [] none (rw (no_join, none_pending) (joined_none laws))
 
+  -- a join has taken itself
+  pub one_taken : (r : HeldPatches) (j : Doc) → r.places ≡ None → r.joined ≡ Some j → r.pending ≡ None → HasTaken r (document j ∷ [])
+  one_taken r j none joined settled = free_taken r (document j ∷ []) none (rw (joined, settled) (joined_on laws [] None (document j) (IsDocument-document j) tt (joined_none laws) tt stays))
+    where
+      stays : SameJoins None (Some (document j)) (Some (document j)) None
+      stays = grew_joins laws None (Some (document j)) (document j) (IsDocument-document j) (IsDocument-document j) refl
+
   -- what is joined if nothing is pending
   pub joins_taken : (r : HeldPatches) (taken : List Document) → r.places ≡ None → r.pending ≡ None → HasTaken r taken → HasJoined (option_map document r.joined) None taken
   joins_taken r taken none settled has = subst (λ o. HasJoined (option_map document r.joined) (option_map document o) taken) settled (if_free r taken none has)
@@ -142,6 +151,7 @@ module _ (laws : MergeLaws) where
         conflict_taken s (taken ++ document p ∷ []) held found.0 some no_join none_pending (All-push IsDocument taken (document p) has.are_documents (IsDocument-document p)) (record {
           some = all.0;
           rising = all.1.rising;
+          apart = none_within taken (document p) found.0 (if_free r taken none has).compatible all.1;
           each = λ w at.
               let pair = (all.1.all w).0 at in
               (document p, pair.0, Contains-push taken (document p), Contains-append_left taken (document p ∷ []) pair.0 pair.1, pair.2);
@@ -208,6 +218,7 @@ module _ (laws : MergeLaws) where
           conflict_taken s (taken ++ others) held found.0 some no_join none_pending (All-append IsDocument taken others has.are_documents have.are_documents) (record {
             some = all.0;
             rising = all.1.rising;
+            apart = none_within taken k found.0 (if_free r taken none has).compatible all.1;
             each = λ w at.
                 let one = (all.1.all w).0 at in
                 let two = (laws.clash_with_a_join others k one.0 w joined).0 (turned one.2) in

@@ -10,6 +10,7 @@ use Rattle.mp_merge.specs.Join.{IsJoin}
 use Rattle.mp_merge.specs.Laws.{ClashesWithAMember}
 use Rattle.mp_merge.specs.Lists.{PairwiseCompatible}
 use Rattle.mp_merge.specs.Within.{AreFirstOf, places_weight}
+use Rattle.mp_pointer.specs.Spelling.{IsProperPrefix}
 use Rattle.mp_pointer.specs.Weight.{place_weight}
 use Rattle.mp_replica.specs.declared.first_places.FirstPlaces.{FirstPlaces}
 
@@ -71,10 +72,15 @@ pub record AreClashesBetween (taken others : List Document) (places : List Path)
   pub rising : IsStrictlySortedBy path_cmp places
   pub all : (w : Path) → Contains places w ↔ ((p : Document) × Contains taken p × ClashesWithAMember others p w)
 
--- some places, each once and in order, and two of the patches clash at each
+-- none of the places is within another
+abbrev pub NoneIsPrefix : List Path → Type 0
+NoneIsPrefix places = (w u : Path) → Contains places w → Contains places u → ¬ IsProperPrefix w u
+
+-- some places, each once and in order, none within another, and two of the patches clash at each
 pub record AreClashesAmong (received : List Document) (places : List Path) : Type 0 where
   pub some : places ≢ []
   pub rising : IsStrictlySortedBy path_cmp places
+  pub apart : NoneIsPrefix places
   pub each : (w : Path) → Contains places w
       → (p : Document) × (q : Document) × Contains received p × Contains received q × Clash p q w
 

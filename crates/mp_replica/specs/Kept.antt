@@ -1,11 +1,15 @@
 -- The kept form of patches without a start: one text, of their join or of the places of a conflict.
-use Rattle.std.specs.Prelude.{◌≡◌, ◌≢◌, ◌<◌, ◌⊎◌, ◌++◌, ℕ, Bool, true, false, List, [], ◌∷◌, None, IsTrue, MatchOption, Ok, Err, length, ⊤}
+use Rattle.std.specs.Prelude.{◌≡◌, ◌≢◌, ◌<◌, ◌≤◌, ◌⊎◌, ◌++◌, ℕ, Bool, true, false, List, [], ◌∷◌, None, IsTrue, MatchOption, Ok, Err, length, ⊤}
+use Rattle.std.specs.List.{Contains}
+use Rattle.std.specs.List.Sorted.{IsStrictlySortedBy}
 use Rattle.mp_tree.specs.Document.{Document}
 use Rattle.mp_tree.specs.Look.{Path}
 use Rattle.mp_tree.specs.Text.{document_in, text as compact}
 use Rattle.mp_tree.specs.View.{document}
+use Rattle.mp_merge.specs.Clash.{path_cmp}
+use Rattle.mp_merge.specs.Within.{places_weight}
 use Rattle.mp_texts.specs.Answers.{IsTextOf, places_list}
-use Rattle.mp_replica.specs.Held.{HeldPatches, HeldPlaces}
+use Rattle.mp_replica.specs.Held.{HeldPatches, HeldPlaces, NoneIsPrefix, places_bound}
 use Rattle.mp_replica.specs.declared.fault.LiveFault.{LiveFault}
 use Rattle.mp_replica.specs.declared.fault.LiveFault.TheVariants.{Document as NoDocument, Pending, TooLarge, NotKept, OutOfMemory}
 
@@ -42,11 +46,20 @@ IsKept r text =
 abbrev pub AreSomePlaces : HeldPlaces → Type 0
 AreSomePlaces held = IsTrue held.more ⊎ (held.places ≢ [])
 
--- after the marks the text is read as an array of places
+-- places of a conflict as they can be held
+pub record AreKeptPlaces (held : HeldPlaces) : Type 0 where
+  pub some : AreSomePlaces held
+  pub rising : IsStrictlySortedBy path_cmp held.places
+  pub apart : NoneIsPrefix held.places
+  pub within : places_weight held.places ≤ places_bound
+  -- where whole patches conflict, there is no other place
+  pub only : Contains held.places [] → ¬ IsTrue held.more
+
+-- after the marks the text is read as an array of such places
 abbrev pub ReadsPlaces : List ℕ → HeldPlaces → Type 0
 ReadsPlaces text held =
     (rest : List ℕ) × (text ≡ marks held.more ++ rest) × (document_in rest ≡ Ok (places_list held.places))
-    × AreSomePlaces held
+    × AreKeptPlaces held
 
 -- what a kept text holds: the empty one nothing, any document itself
 abbrev pub IsHeldBy : List ℕ → HeldPatches → Type 0
@@ -71,6 +84,6 @@ abbrev pub IsNoKept : LiveFault → List ℕ → Type 0
 IsNoKept (NoDocument fault) text = (read : List ℕ) × IsUnreadKept text read × (document_in read ≡ Err fault)
 IsNoKept NotKept text =
     (rest : List ℕ) × (d : Document) × (more : Bool) × (text ≡ marks more ++ rest) × (document_in rest ≡ Ok d)
-    × ((places : List Path) → AreSomePlaces (record { places = places; more = more }) → d ≢ places_list places)
+    × ((places : List Path) → AreKeptPlaces (record { places = places; more = more }) → d ≢ places_list places)
 IsNoKept OutOfMemory text = ⊤
 IsNoKept other text = ⊥

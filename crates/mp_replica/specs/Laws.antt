@@ -1,5 +1,5 @@
 -- Laws over runs of calls. Each is the contract of a function of the module `laws` that runs nothing.
-use Rattle.std.specs.Prelude.{◌≡◌, ◌↔◌, ℕ, List, None, option_map}
+use Rattle.std.specs.Prelude.{◌≡◌, ◌↔◌, ℕ, List, None, MatchOption, option_map, ⊤}
 use Rattle.std.specs.List.{All, Contains}
 use Rattle.mp_tree.specs.Document.{Document, IsDocument, IsReadable}
 use Rattle.mp_tree.specs.View.{document}
@@ -7,6 +7,7 @@ use Rattle.mp_merge.specs.Lists.{HaveSameMembers, PairwiseCompatible}
 use Rattle.mp_merge.specs.Outcome.{IsOutcome}
 use Rattle.mp_replica.specs.Following.{Follows}
 use Rattle.mp_replica.specs.Held.{HeldPatches, HeldReplica, IsJoinOf}
+use Rattle.mp_replica.specs.Kept.{AreKeptPlaces, IsHeldBy}
 use Rattle.mp_replica.specs.Messages.{LogFollows, HaveOnePatchFor, HaveSameMessagesFor, Sent}
 use Rattle.mp_replica.specs.PatchLog.{AreAlike, AreAllPairs, Begins, HeldLog, IsDecideFault, Pair, Shows, start_of, stored_of}
 use Rattle.mp_replica.specs.Taking.{HasTaken}
@@ -58,6 +59,14 @@ TakersAgree = (taken others : List Document) (r s : HeldPatches) → HaveSameMem
     → ((r.places ≡ None) ↔ (s.places ≡ None))
     × (r.places ≡ None → r.pending ≡ None → s.pending ≡ None
     → option_map document r.joined ≡ option_map document s.joined)
+
+-- what is held of a conflict are places as a kept form has them
+abbrev pub KeptAreTaken : Type 0
+KeptAreTaken = (r : HeldPatches) (taken : List Document) → HasTaken r taken → MatchOption r.places ⊤ AreKeptPlaces
+
+-- and what a kept form holds was taken: there are such patches
+abbrev pub HeldWereTaken : Type 0
+HeldWereTaken = (text : List ℕ) (r : HeldPatches) → IsHeldBy text r → (taken : List Document) × HasTaken r taken
 
 -- ---- patch logs
 

@@ -96,11 +96,22 @@ pair_cmp a b = ordering_then (identity_cmp a.0 b.0) (identity_cmp a.1 b.1)
 abbrev pub identities_of : Pair → Identity × Identity
 identities_of pair = (pair.first, pair.second)
 
--- each two stored patches that clash, once, in the order of pairs
-pub record AreAllPairs (stored : Stored) (pairs : List Pair) : Type 0 where
+-- what is asked for: each pair, or those with an identity
+abbrev pub IsAmong : Option Identity → Identity → Identity → Type 0
+IsAmong None i j = ⊤
+IsAmong (Some k) i j = (i ≡ k) ⊎ (j ≡ k)
+
+-- each two stored patches that clash and are asked for, once, in the order of pairs
+pub record AreAllPairsOf (of : Option Identity) (stored : Stored) (pairs : List Pair) : Type 0 where
   pub rising : IsStrictlySortedBy pair_cmp (map identities_of pairs)
   pub each : All (IsClashing stored) pairs
-  pub all : (i j : Identity) → identity_cmp i j ≡ Less → DoClash stored i j → Contains (map identities_of pairs) (i, j)
+  pub among : All (λ pair. IsAmong of pair.first pair.second) pairs
+  pub all : (i j : Identity) → identity_cmp i j ≡ Less → IsAmong of i j → DoClash stored i j
+      → Contains (map identities_of pairs) (i, j)
+
+-- each two that clash
+abbrev pub AreAllPairs : Stored → List Pair → Type 0
+AreAllPairs = AreAllPairsOf None
 
 -- ---- what conflicts, within a limit in bytes
 
@@ -114,27 +125,30 @@ pair_weight pair = pair_base + places_weight pair.places
 abbrev pub pairs_weight : List Pair → ℕ
 pairs_weight pairs = sum_by pair_weight pairs
 
--- each two stored patches that clash and come before `next` in the order of pairs, once
-pub record ArePairsBelow (stored : Stored) (next : Pair) (pairs : List Pair) : Type 0 where
+-- each two stored patches that clash, are asked for, and come before `next` in the order of pairs, once
+pub record ArePairsBelow (of : Option Identity) (stored : Stored) (next : Pair) (pairs : List Pair) : Type 0 where
   pub rising : IsStrictlySortedBy pair_cmp (map identities_of pairs)
   pub each : All (IsClashing stored) pairs
+  pub among : All (λ pair. IsAmong of pair.first pair.second) pairs
   pub below : (pair : Pair) → Contains pairs pair → pair_cmp (identities_of pair) (identities_of next) ≡ Less
-  pub all : (i j : Identity) → identity_cmp i j ≡ Less → DoClash stored i j
+  pub all : (i j : Identity) → identity_cmp i j ≡ Less → IsAmong of i j → DoClash stored i j
       → pair_cmp (i, j) (identities_of next) ≡ Less → Contains (map identities_of pairs) (i, j)
 
 -- with the next pair they weigh more, without any of its places
-pub record StopsBeforeAPair (limit : ℕ) (stored : Stored) (pairs : List Pair) : Type 0 where
+pub record StopsBeforeAPair (limit : ℕ) (of : Option Identity) (stored : Stored) (pairs : List Pair) : Type 0 where
   pub next : Pair
   pub clashing : IsClashing stored next
-  pub below : ArePairsBelow stored next pairs
+  pub among : IsAmong of next.first next.second
+  pub below : ArePairsBelow of stored next pairs
   pub over : limit < pairs_weight pairs + pair_base
 
 -- the last pair has the first of its places, and with its next place they weigh more
-pub record StopsBeforeAPlace (limit : ℕ) (stored : Stored) (pairs : List Pair) : Type 0 where
+pub record StopsBeforeAPlace (limit : ℕ) (of : Option Identity) (stored : Stored) (pairs : List Pair) : Type 0 where
   pub before : List Pair
   pub next : Pair
   pub clashing : IsClashing stored next
-  pub below : ArePairsBelow stored next before
+  pub among : IsAmong of next.first next.second
+  pub below : ArePairsBelow of stored next before
   pub shown : List Path
   pub place : Path
   pub rest : List Path
@@ -142,12 +156,16 @@ pub record StopsBeforeAPlace (limit : ℕ) (stored : Stored) (pairs : List Pair)
   pub last : pairs ≡ before ++ record { first = next.first; second = next.second; places = shown } ∷ []
   pub over : limit < pairs_weight pairs + place_weight place
 
--- the pairs that come first, each with those of its places that come first, as many as weigh at most the limit together;
--- `more` says whether a pair or a place is left out
-pub record AreFirstPairs (limit : ℕ) (stored : Stored) (pairs : List Pair) (more : Bool) : Type 0 where
+-- of the pairs that are asked for those that come first, each with those of its places that come first, as many as weigh at
+-- most the limit together; `more` says whether a pair or a place is left out
+pub record AreFirstPairsOf (limit : ℕ) (of : Option Identity) (stored : Stored) (pairs : List Pair) (more : Bool) : Type 0 where
   pub within : pairs_weight pairs ≤ limit
-  pub all : ¬ IsTrue more → AreAllPairs stored pairs
-  pub stops : IsTrue more → StopsBeforeAPair limit stored pairs ⊎ StopsBeforeAPlace limit stored pairs
+  pub all : ¬ IsTrue more → AreAllPairsOf of stored pairs
+  pub stops : IsTrue more → StopsBeforeAPair limit of stored pairs ⊎ StopsBeforeAPlace limit of stored pairs
+
+-- of all pairs
+abbrev pub AreFirstPairs : ℕ → Stored → List Pair → Bool → Type 0
+AreFirstPairs limit = AreFirstPairsOf limit None
 
 -- ---- what is shown
 

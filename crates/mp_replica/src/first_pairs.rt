@@ -1,19 +1,18 @@
 //! The pairs of stored patches that conflict and come first, as many as a limit allows.
-ghost use Rattle.std.specs.Prelude.{◌≡◌, ◌≤◌, ◌<◌, ◌+◌, false, length, map, IfOk, OnOk};
+ghost use Rattle.std.specs.Prelude.{◌≡◌, ◌↔◌, false, map, IfOk, IsTrue, OnOk};
 ghost use Rattle.std.specs.List.Sorted.{IsStrictlySortedBy};
 ghost use Rattle.std.specs.declared.cmp.Ordering.TheVariants.{Less};
-ghost use Rattle.mp_merge.specs.Within.{places_weight};
-ghost use Rattle.mp_replica.specs.PatchLog.{identity_cmp, seen, stored_in};
-ghost use Rattle.mp_replica.specs.Private.Pairs.{Lists, ListsPair};
+ghost use Rattle.mp_replica.specs.PatchLog.{IsAmong, identity_cmp, pair_cmp, seen, stored_in};
+ghost use Rattle.mp_replica.specs.Private.Pairs.{AreOrdered, Lists, ListsPair};
 
+use crate::first_places::left_of;
 use crate::laws::merge_laws;
 use crate::message::Identity;
 use crate::pairs::ConflictingPair;
 use mp_merge::{Conflicts, compatible, conflict_within};
-use mp_pointer::Pointer;
 use mp_tree::Doc;
 use std::alloc::{AllocError, Global};
-use std::collections::BTreeMap;
+use std::collections::{BTreeMap, BTreeSet};
 
 // What a pair weighs beside its places, in bytes.
 const PAIR_WEIGHT: usize = 64;
@@ -35,63 +34,57 @@ pub(crate) struct Listing {
     more: bool,
 }
 
-// The first of each two of these that conflict.
+// The first of these pairs that conflicts and is asked for: each, or those of an identity.
 pub(crate) fn first_pairs(
     alloc: Global,
-    identities: &[Identity],
+    known: &BTreeSet<(Identity, Identity)>,
+    of: Option<Identity>,
     patches: &BTreeMap<Identity, Doc>,
     limit: usize,
 ) -> Result<FirstPairs, AllocError>
-    requires rising { IsStrictlySortedBy identity_cmp identities.now }
-    ensures { IfOk result (λ found. (left : _) × Lists (stored_in patches.now.entries)
-        identities.now limit (length identities.now) 0 (map seen found.pairs.items) left
-        found.more) }
+    requires ordered { AreOrdered known.now }
+    ensures { IfOk result (λ found. (passed : _) × (left : _) × Lists of
+        (stored_in patches.now.entries) limit known.now.keys passed
+        (map seen found.pairs.items) left found.more
+        × (found.more ≡ false → passed ≡ known.now.keys)
+        × IsStrictlySortedBy pair_cmp known.now.keys) }
 {
     let mut listing = Listing {
         pairs: Vec::new(alloc),
         left: limit,
         more: false,
     };
-    for first in 0..identities.len() {
-        list_from(alloc, identities, first, patches, limit, &mut listing)?;
+    for pair in known.iter() {
+        if listing.more {
+            return Ok(found_of(listing));
+        }
+        if is_among(of, pair.0, pair.1) {
+            list_pair(alloc, pair.0, pair.1, patches, &mut listing)?;
+        }
     }
+    Ok(found_of(listing))
+}
+
+fn found_of(listing: Listing) -> FirstPairs
+    ensures pairs { result.pairs ≡ listing.pairs }
+    ensures more { result.more ≡ listing.more }
+{
     let Listing {
         pairs,
         left: _,
         more,
     } = listing;
-    Ok(FirstPairs { pairs, more })
+    FirstPairs { pairs, more }
 }
 
-// Adds those of the patch with this number and of a later one.
-fn list_from(
-    alloc: Global,
-    identities: &[Identity],
-    first: usize,
-    patches: &BTreeMap<Identity, Doc>,
-    limit: usize,
-    listing: &mut Listing,
-) -> Result<(), AllocError>
-    requires rising { IsStrictlySortedBy identity_cmp identities.now }
-    requires within { first < length identities.now }
-    requires before { Lists (stored_in patches.now.entries) identities.now limit first 0
-        (map seen listing.old.pairs.items) listing.old.left listing.old.more }
-    ensures { OnOk result (Lists (stored_in patches.now.entries) identities.now limit
-        (first + 1) 0 (map seen listing.new.pairs.items) listing.new.left listing.new.more) }
+// Whether the pair is asked for.
+fn is_among(of: Option<Identity>, first: Identity, second: Identity) -> bool
+    ensures { IsTrue result ↔ IsAmong of first second }
 {
-    for second in first + 1..identities.len() {
-        if listing.more {
-            return Ok(());
-        }
-        list_pair(
-            alloc,
-            identities[first],
-            identities[second],
-            patches,
-            listing,
-        )?;
+    match of {
+        Some(identity) => first == identity || second == identity,
+        None => true,
     }
-    Ok(())
 }
 
 // Adds the two, if they conflict.
@@ -121,26 +114,11 @@ fn list_pair(
     };
     let Conflicts { places, total } = conflict_within(alloc, one, other, left)?;
     listing.more = places.len() < total;
-    listing.left = left_of(places.as_slice(), left);
+    listing.left = left_of(places.as_slice(), left).unwrap_or(0);
     listing.pairs.push(ConflictingPair {
         first,
         second,
         places,
     })?;
     Ok(())
-}
-
-// What is left once these places are taken from it.
-fn left_of(places: &[Pointer], budget: usize) -> usize
-    requires { places_weight places.now ≤ budget }
-    ensures { result + places_weight places.now ≡ budget }
-{
-    let mut left = budget;
-    for place in places {
-        let Some(rest) = place.left_of(left) else {
-            return 0;
-        };
-        left = rest;
-    }
-    left
 }

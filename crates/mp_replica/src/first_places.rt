@@ -1,7 +1,8 @@
 //! The places of a conflict that come first, as many as may be held.
 ghost use Rattle.mp_merge.specs.Clash.{Compatible};
+ghost use Rattle.mp_merge.specs.Within.{places_weight};
 ghost use Rattle.mp_tree.specs.View.{document};
-ghost use Rattle.std.specs.Prelude.{Some};
+ghost use Rattle.std.specs.Prelude.{◌≡◌, ◌<◌, ◌+◌, Some, MatchOption};
 ghost use Rattle.mp_replica.specs.Held.{held_places};
 ghost use Rattle.mp_replica.specs.Private.Steps.{HoldsClashesWithJoin};
 
@@ -12,7 +13,7 @@ use mp_tree::Doc;
 use std::alloc::Global;
 
 // What the places of a conflict that are held weigh at most, in bytes.
-const PLACES_BOUND: usize = 65_536;
+pub(crate) const PLACES_BOUND: usize = 65_536;
 
 /// Of the places at which two patches conflict, in the order of paths, those that come first: as many as weigh at most 65,536
 /// bytes together. A place weighs 128 bytes, 8 for each token, and the bytes of its spelling.
@@ -41,4 +42,16 @@ pub(crate) fn first_places(alloc: Global, patch: &Doc, joined: &Doc) -> FirstPla
             more: true,
         },
     }
+}
+
+// What remains of a budget once the weight of these places is taken from it.
+pub(crate) fn left_of(places: &[Pointer], budget: usize) -> Option<usize>
+    ensures { MatchOption result (budget < places_weight places.now)
+        (λ left. left + places_weight places.now ≡ budget) }
+{
+    let mut left = budget;
+    for place in places {
+        left = place.left_of(left)?;
+    }
+    Some(left)
 }

@@ -11,6 +11,7 @@ ghost use Rattle.mp_replica.specs.Taking.{HasTaken};
 
 use crate::fault::LiveFault;
 use crate::first_places::FirstPlaces;
+use crate::kept_places::are_kept;
 use crate::laws::text_laws;
 use crate::patches::Patches;
 use crate::reading::document_of;
@@ -57,8 +58,9 @@ impl Patches {
     /// The patches that a kept form holds: it has taken what was taken where that form was made. A document holds itself, as
     /// one patch.
     ///
-    /// `Document` if the text, or what stands after its `!` or `!+`, is not a document; `NotKept` if that is no array of pointers,
-    /// or an empty one behind `!`; `OutOfMemory` may come at any point.
+    /// `Document` if the text, or what stands after its `!` or `!+`, is not a document; `NotKept` if that is no array of pointers, as
+    /// [`Patches::kept`] writes them: in the order of paths, none within another, of at most 65,536 bytes of weight together, at
+    /// least one behind `!`, and not that of the whole document behind `!+`. `OutOfMemory` may come at any point.
     ///
     /// ```text
     /// Patches::from_kept(alloc, b"{\"a\":1}")  // one patch
@@ -103,17 +105,18 @@ fn conflict_of(alloc: Global, text: &[u8]) -> Result<FirstPlaces, LiveFault>
     array_of(alloc, false, text)
 }
 
-// The places that the text is an array of; some, unless there are more.
+// The places that the text is an array of, if a conflict can have these.
 fn array_of(alloc: Global, more: bool, text: &[u8]) -> Result<FirstPlaces, LiveFault>
     ensures read { MatchResult result (λ found. AreRead text.now (held_places found))
         (λ fault. AreUnread fault more text.now) }
     ensures more { IfOk result (λ found. found.more ≡ more) }
 {
+    text_laws();
     let Doc::Items(spellings) = document_of(alloc, text)? else {
         return Err(LiveFault::NotKept);
     };
     let places = places_of(alloc, spellings.as_slice())?;
-    if places.as_slice().is_empty() && !more {
+    if !are_kept(places.as_slice(), more) {
         return Err(LiveFault::NotKept);
     }
     Ok(FirstPlaces { places, more })

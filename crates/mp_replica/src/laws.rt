@@ -1,5 +1,5 @@
 //! Laws over runs of calls: each function runs nothing, and its contract is the law.
-ghost use Rattle.mp_replica.specs.Laws.{AlikeBeginTheSame, AlikeRefuseTheSame, AlikeReportTheSame, AlikeShowTheSame, FollowersAgree, FollowsSame, HoldsJoin, LogsAreAlike, ShowsOutcome, ShowsReadable, TakenSame, TakersAgree};
+ghost use Rattle.mp_replica.specs.Laws.{AlikeBeginTheSame, AlikeRefuseTheSame, AlikeReportTheSame, AlikeShowTheSame, FollowersAgree, FollowsSame, HeldWereTaken, HoldsJoin, KeptAreTaken, LogsAreAlike, ShowsOutcome, ShowsReadable, TakenSame, TakersAgree};
 ghost use Rattle.mp_replica.specs.PairsRead.{PairsReadBack, PairsReadUtf8Back, TextIsOfOnePairs};
 ghost use Rattle.mp_replica.specs.Private.LawsBelow.{MergeLaws, TextLaws};
 
@@ -50,6 +50,16 @@ pub fn taken_same()
 /// `combine` calls answers as adding one patch after another does.
 pub fn takers_agree()
     ensures { TakersAgree }
+{
+    merge_laws();
+}
+
+/// What is held of a conflict are places as a kept form has them. So [`Patches::from_kept`](crate::Patches::from_kept) takes each form that
+/// [`Patches::kept`](crate::Patches::kept) makes.
+/// And there are patches that were taken where a form is held: so what is said of them is said of something.
+pub fn kept_forms_are_taken()
+    ensures kept { KeptAreTaken }
+    ensures taken { HeldWereTaken }
 {
     merge_laws();
 }

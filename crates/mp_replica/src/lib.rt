@@ -7,6 +7,7 @@ mod first_pairs;
 mod first_places;
 mod identity_set;
 mod kept;
+mod kept_places;
 pub mod laws;
 mod live_join;
 mod message;

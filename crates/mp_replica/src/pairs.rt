@@ -1,19 +1,20 @@
 //! The pairs of stored patches that conflict.
-ghost use Rattle.std.specs.Prelude.{◌≡◌, ◌≢◌, ◌+◌, ◌<◌, ◌↔◌, List, [], None, length, map, IfOk, IsTrue, MatchOption, OnOk};
-ghost use Rattle.std.specs.List.{Contains};
+ghost use Rattle.std.specs.Prelude.{◌≡◌, ◌↔◌, None, map, IfOk, IsTrue, MatchOption, OnOk};
 ghost use Rattle.std.specs.List.Sorted.{IsStrictlySortedBy};
 ghost use Rattle.std.specs.declared.cmp.Ordering.TheVariants.{Less};
-ghost use Rattle.mp_replica.specs.PatchLog.{DoClash, IsClashing, identities_of, identity_cmp, seen, stored_in};
-ghost use Rattle.mp_replica.specs.Private.Pairs.{ArePairsBefore, IsFirstFrom};
+ghost use Rattle.mp_tree.specs.View.{document};
+ghost use Rattle.mp_replica.specs.PatchLog.{DoClash, IsClashing, identities_of, identity_cmp, pair_cmp, seen, stored_in};
+ghost use Rattle.mp_replica.specs.Private.Pairs.{AreOf, AreOrdered, HasBoth, Includes, IsFirstAmong, NoneAmong, Notes};
+ghost use Rattle.mp_replica.specs.Private.StoredPatches.{FitsAll};
 
-use crate::identity_set::set_of;
 use crate::laws::merge_laws;
 use crate::message::Identity;
 use mp_merge::{compatible, conflict};
 use mp_pointer::Pointer;
 use mp_tree::Doc;
 use std::alloc::{AllocError, Global};
-use std::collections::BTreeMap;
+use std::cmp::Ordering;
+use std::collections::{BTreeMap, BTreeSet};
 
 /// Two patches that conflict, by their identities, and where.
 #[derive(Debug, Drop)]
@@ -26,105 +27,89 @@ pub struct ConflictingPair {
     pub places: Vec<Pointer>,
 }
 
-// The identities under which a patch is stored and that are in both lists, in order.
-pub(crate) fn ascending(
-    alloc: Global,
+// Adds the pair of the patch and of each of these that conflicts with it, and says whether none does. If memory runs out, some
+// pairs may be added.
+pub(crate) fn note_clashes(
+    identity: Identity,
+    patch: &Doc,
+    others: &[Identity],
     patches: &BTreeMap<Identity, Doc>,
-    these: &[Identity],
-    those: &[Identity],
-) -> Result<Vec<Identity>, AllocError>
-    ensures rising { IfOk result (λ found. IsStrictlySortedBy identity_cmp found.items) }
-    ensures members { IfOk result (λ found. (i : Identity) → Contains found.items i
-        ↔ ((stored_in patches.now.entries i ≢ None)
-        × Contains these.now i × Contains those.now i)) }
+    pairs: &mut BTreeSet<(Identity, Identity)>,
+) -> Result<bool, AllocError>
+    ensures fits { IfOk result (λ fits. IsTrue fits
+        ↔ FitsAll (stored_in patches.now.entries) others.now (document patch.now)) }
+    ensures noted { OnOk result (Notes identity (stored_in patches.now.entries)
+        (document patch.now) others.now pairs.new) }
+    ensures kept { Includes pairs.old pairs.new }
+    ensures ordered { AreOrdered pairs.old → AreOrdered pairs.new }
 {
-    let in_these = set_of(alloc, these)?;
-    let in_those = set_of(alloc, those)?;
-    let mut found = Vec::new(alloc);
-    for identity in patches.keys() {
-        if in_these.contains(identity) && in_those.contains(identity) {
-            found.push(*identity)?;
+    let mut fits = true;
+    for other in others {
+        if let Some(stored) = patches.get(other) {
+            if !compatible(patch, stored) {
+                note_pair(identity, *other, pairs)?;
+                fits = false;
+            }
         }
     }
-    Ok(found)
+    Ok(fits)
 }
 
-// Each two of these that conflict.
+// Adds the pair of the two, the lower identity first.
+fn note_pair(
+    one: Identity,
+    other: Identity,
+    pairs: &mut BTreeSet<(Identity, Identity)>,
+) -> Result<(), AllocError>
+    ensures noted { OnOk result (HasBoth pairs.new one other) }
+    ensures kept { Includes pairs.old pairs.new }
+    ensures ordered { AreOrdered pairs.old → AreOrdered pairs.new }
+{
+    match one.cmp(&other) {
+        Ordering::Less => pairs.insert((one, other))?,
+        Ordering::Greater => pairs.insert((other, one))?,
+        Ordering::Equal => false,
+    };
+    Ok(())
+}
+
+// Each of these pairs that conflicts.
 pub(crate) fn all_pairs(
     alloc: Global,
-    identities: &[Identity],
+    known: &BTreeSet<(Identity, Identity)>,
     patches: &BTreeMap<Identity, Doc>,
 ) -> Result<Vec<ConflictingPair>, AllocError>
-    requires rising { IsStrictlySortedBy identity_cmp identities.now }
-    ensures { IfOk result (λ pairs. ArePairsBefore (stored_in patches.now.entries) identities.now
-        (length identities.now) 0 (map seen pairs.items)) }
+    requires ordered { AreOrdered known.now }
+    ensures { IfOk result (λ pairs. AreOf None (stored_in patches.now.entries) known.now.keys
+        (map seen pairs.items)) }
 {
     let mut pairs = Vec::new(alloc);
-    for first in 0..identities.len() {
-        push_pairs(alloc, identities, first, patches, &mut pairs)?;
+    for pair in known.iter() {
+        let found = pair_of(alloc, pair.0, pair.1, patches)?;
+        if let Some(clashing) = found {
+            pairs.push(clashing)?;
+        }
     }
     Ok(pairs)
 }
 
-// Adds the pairs of the patch with this number and of a later one.
-fn push_pairs(
-    alloc: Global,
-    identities: &[Identity],
-    first: usize,
-    patches: &BTreeMap<Identity, Doc>,
-    pairs: &mut Vec<ConflictingPair>,
-) -> Result<(), AllocError>
-    requires rising { IsStrictlySortedBy identity_cmp identities.now }
-    requires within { first < length identities.now }
-    requires before { ArePairsBefore (stored_in patches.now.entries) identities.now first 0
-        (map seen pairs.old.items) }
-    ensures { OnOk result (ArePairsBefore (stored_in patches.now.entries) identities.now
-        (first + 1) 0 (map seen pairs.new.items)) }
-{
-    for second in first + 1..identities.len() {
-        let found = pair_of(alloc, identities[first], identities[second], patches)?;
-        if let Some(pair) = found {
-            pairs.push(pair)?;
-        }
-    }
-    Ok(())
-}
-
-// The first two of these that conflict.
+// The first of these pairs that conflicts and was chosen, both of it.
 pub(crate) fn first_pair(
-    identities: &[Identity],
+    known: &BTreeSet<(Identity, Identity)>,
     patches: &BTreeMap<Identity, Doc>,
+    chosen: &BTreeSet<Identity>,
 ) -> Option<(Identity, Identity)>
-    requires rising { IsStrictlySortedBy identity_cmp identities.now }
-    ensures { MatchOption result
-        (ArePairsBefore (stored_in patches.now.entries) identities.now (length identities.now) 0 [])
-        (λ pair. IsFirstFrom (stored_in patches.now.entries) identities.now pair.0 pair.1) }
+    ensures ascending { IsStrictlySortedBy pair_cmp known.now.keys }
+    ensures first { MatchOption result
+        (NoneAmong (stored_in patches.now.entries) known.now.keys chosen.now)
+        (λ pair. IsFirstAmong (stored_in patches.now.entries) known.now.keys chosen.now pair) }
 {
-    for first in 0..identities.len() {
-        let found = first_pair_from(identities, first, patches);
-        if found.is_some() {
-            return found;
-        }
-    }
-    None
-}
-
-// The same of the patch with this number and of a later one.
-fn first_pair_from(
-    identities: &[Identity],
-    first: usize,
-    patches: &BTreeMap<Identity, Doc>,
-) -> Option<(Identity, Identity)>
-    requires rising { IsStrictlySortedBy identity_cmp identities.now }
-    requires within { first < length identities.now }
-    requires before { ArePairsBefore (stored_in patches.now.entries) identities.now first 0 [] }
-    ensures { MatchOption result
-        (ArePairsBefore (stored_in patches.now.entries) identities.now (first + 1) 0 [])
-        (λ pair. IsFirstFrom (stored_in patches.now.entries) identities.now pair.0 pair.1) }
-{
-    for second in first + 1..identities.len() {
-        if do_clash(identities[first], identities[second], patches) {
-            return Some((identities[first], identities[second]));
+    for pair in known.iter() {
+        if chosen.contains(&pair.0)
+            && chosen.contains(&pair.1)
+            && do_clash(pair.0, pair.1, patches)
+        {
+            return Some(*pair);
         }
     }
     None

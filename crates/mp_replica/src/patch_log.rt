@@ -1,18 +1,22 @@
 //! A replica that keeps the patches themselves, each with its identity: it can follow a decision where patches conflict.
-ghost use Rattle.std.specs.Prelude.{◌≡◌, ◌≢◌, ◌∷◌, ◌++◌, ◌<◌, ℕ, List, [], None, length, map, Ok, IfOk, IfErr, OnOk, OnErr};
+ghost use Rattle.std.specs.Prelude.{◌≡◌, ◌≢◌, ◌∷◌, ◌++◌, ◌<◌, ℕ, List, [], None, Some, length, map, Ok, IfOk, IfErr, MatchOption, OnOk, OnErr, ⊤};
 ghost use Rattle.mp_tree.specs.Document.{Document};
 ghost use Rattle.mp_tree.specs.View.{document};
 ghost use Rattle.mp_replica.specs.Messages.{LogFollows, Sent, sent};
-ghost use Rattle.mp_replica.specs.PatchLog.{AreAllPairs, AreFirstPairs, Begins, IsDecideFault, Shows, StoresAlso, seen, start_of, stored_of};
+ghost use Rattle.mp_replica.specs.PatchLog.{AreAllPairs, AreFirstPairs, AreFirstPairsOf, Begins, IsDecideFault, Shows, StoresAlso, seen, start_of, stored_of};
+ghost use Rattle.mp_replica.specs.Private.StoredPatches.{IsShownAfter};
 
 use crate::fault::DecideFault;
 use crate::first_pairs::FirstPairs;
+use crate::laws::merge_laws;
 use crate::message::{Arrival, Identity, Message};
 use crate::pairs::ConflictingPair;
-use crate::stored_patches::StoredPatches;
+use crate::stored_patches::{Standing, StoredPatches};
+use mp_merge::merge_into;
 use mp_tree::Doc;
 use std::alloc::{AllocError, Global};
 use std::marker::Model;
+use std::mem;
 
 /// A start and its number, and the patches that arrived for it, each under its identity. It shows the outcome of the start and
 /// of the patches that conflict with no other, reports the others, and follows a decision, which begins a new start.
@@ -20,7 +24,8 @@ use std::marker::Model;
 /// Receiving a patch costs what the patch costs, times the logarithm of the number of patches that are stored and of the number
 /// of names around each of its values; it is compared with each patch that conflicts with another, too. One that conflicts with
 /// a patch that conflicted with none before costs what is stored, since the join of the others is made again. What is held is
-/// the start, the patches, and the join of those that conflict with no other.
+/// the start, the patches, and the join of those that conflict with no other; and, once it was asked for, the document that it
+/// shows, which is kept up as patches arrive.
 #[derive(Drop)]
 pub struct PatchLog {
     /// The number of the start.
@@ -29,18 +34,25 @@ pub struct PatchLog {
     start: Doc,
     /// The patches of this start.
     stored: StoredPatches,
+    /// What it shows, unless that is to be made anew.
+    shown: Option<Doc>,
 }
 
 impl Model for PatchLog {
+    ghost use Rattle.std.specs.Prelude.{IfSome, option_map};
     ghost use Rattle.std.specs.Coded.{codes};
+    ghost use Rattle.mp_tree.specs.View.{document};
     ghost use Rattle.mp_tree.specs.contracts.doc.Doc.{the_row};
-    ghost use Rattle.mp_replica.specs.PatchLog.{HeldLog};
+    ghost use Rattle.mp_replica.specs.PatchLog.{HeldLog, Shows, stored_in};
 
     ghost Value = { HeldLog };
 
     ghost view = { λ r. record { epoch = r.epoch; start = r.start; stored = r.stored } };
 
     ghost coded = { Prim.hlevel (codes, the_row.coded) };
+
+    ghost invariant = { λ r. IfSome (option_map document r.shown)
+        (Shows (document r.start) (stored_in r.stored)) };
 }
 
 impl PatchLog {
@@ -59,6 +71,7 @@ impl PatchLog {
             epoch,
             start,
             stored: StoredPatches::new(alloc),
+            shown: None,
         }
     }
 
@@ -119,22 +132,51 @@ impl PatchLog {
             return Ok(Arrival::Repeat);
         }
         let patch = message.patch.copy(alloc)?;
-        self.stored.insert(alloc, message.identity, patch)?;
+        let standing = self.stored.insert(alloc, message.identity, patch)?;
+        let shown = mem::replace(&mut self.shown, None);
+        self.shown = shown_after(alloc, shown, standing, &message.patch);
         Ok(Arrival::Stored)
     }
 
-    /// The document that the log shows: the outcome of its start and of the patches that conflict with no other. It costs what
-    /// the start and the join of those patches cost. `AllocError` if memory ran out.
-    pub fn document(&self, alloc: Global) -> Result<Doc, AllocError>
-        ensures { IfOk result (λ shown.
-            Shows (start_of self.now) (stored_of self.now) (document shown)) }
+    /// The document that the log shows: the outcome of its start and of the patches that conflict with no other. `AllocError` if
+    /// memory ran out.
+    ///
+    /// It costs a copy of that document; and the start and the join of those patches too, the first time, and again after a
+    /// patch has arrived that conflicts with one that conflicted with none before.
+    pub fn document(&mut self, alloc: Global) -> Result<Doc, AllocError>
+        ensures shows { IfOk result (λ shown.
+            Shows (start_of self.old) (stored_of self.old) (document shown)) }
+        ensures unchanged { self.new ≡ self.old }
     {
-        self.stored.outcome(alloc, &self.start)
+        self.keep_shown(alloc)?;
+        match self.kept_shown() {
+            Some(shown) => shown.copy(alloc),
+            None => Err(AllocError),
+        }
+    }
+
+    // Makes what the log shows, unless it is kept.
+    pub(crate) fn keep_shown(&mut self, alloc: Global) -> Result<(), AllocError>
+        ensures unchanged { self.new ≡ self.old }
+    {
+        if self.shown.is_none() {
+            let shown = self.stored.outcome(alloc, &self.start)?;
+            self.shown = Some(shown);
+        }
+        Ok(())
+    }
+
+    // What the log shows, if it is kept.
+    pub(crate) fn kept_shown(&self) -> Option<&Doc>
+        ensures { MatchOption result ⊤ (λ shown.
+            Shows (start_of self.now) (stored_of self.now) (document shown.now)) }
+    {
+        self.shown.as_ref()
     }
 
     /// Each two patches that conflict, once: what is reported to the decider. The lower identity comes first, and the pairs
-    /// are in the order of the first and then of the second. Only patches that conflict with another are compared.
-    /// `AllocError` if memory ran out.
+    /// are in the order of the first and then of the second. They are known: only their places are looked for. `AllocError` if
+    /// memory ran out.
     ///
     /// ```text
     /// log.conflicts(alloc)  // /a of 1:1 and 2:1 after {"a":1} and {"a":2}
@@ -150,8 +192,7 @@ impl PatchLog {
     /// `limit` bytes together, and whether there are more. A pair weighs 64 bytes and its places, and a place 128 bytes, 8 for
     /// each token, and the bytes of its spelling. If not all places of the last pair fit, it has the first of them.
     ///
-    /// It takes the memory of these pairs, of the identities of the patches that conflict, and of one path. `AllocError` if
-    /// memory ran out.
+    /// It takes the memory of these pairs and of one path. `AllocError` if memory ran out.
     ///
     /// ```text
     /// log.conflicts_within(alloc, 1000)  // as `conflicts` if they weigh at most 1,000 bytes
@@ -160,7 +201,25 @@ impl PatchLog {
         ensures { IfOk result (λ found.
             AreFirstPairs limit (stored_of self.now) (map seen found.pairs.items) found.more) }
     {
-        self.stored.conflicts_within(alloc, limit)
+        self.stored.conflicts_within(alloc, None, limit)
+    }
+
+    /// As [`PatchLog::conflicts_within`], of the pairs with this identity: with which others its patch conflicts. None if no patch is
+    /// stored under it.
+    ///
+    /// ```text
+    /// log.conflicts_of(alloc, Identity { sender: 1, number: 1 }, 1000)  // the pairs of 1:1 alone
+    /// ```
+    pub fn conflicts_of(
+        &self,
+        alloc: Global,
+        identity: Identity,
+        limit: usize,
+    ) -> Result<FirstPairs, AllocError>
+        ensures { IfOk result (λ found. AreFirstPairsOf limit (Some identity)
+            (stored_of self.now) (map seen found.pairs.items) found.more) }
+    {
+        self.stored.conflicts_within(alloc, Some(identity), limit)
     }
 
     /// Begins the new start, with which the old one ends by these patches; all others are forgotten, and one that is still
@@ -191,7 +250,7 @@ impl PatchLog {
             return Err(DecideFault::NotReceived(identity));
         }
         if let Some((first, second)) = self.stored.first_conflict(alloc, chosen)? {
-            let conflicts = self.stored.conflicts_of(alloc, first, second, limit)?;
+            let conflicts = self.stored.places_of(alloc, first, second, limit)?;
             return Err(DecideFault::Conflict {
                 first,
                 second,
@@ -201,5 +260,21 @@ impl PatchLog {
         let start = self.stored.after(alloc, &self.start, chosen)?;
         *self = PatchLog::new(alloc, epoch, start);
         Ok(())
+    }
+}
+
+// What is shown once a patch is stored. None if that is to be made anew, or memory ran out.
+fn shown_after(alloc: Global, shown: Option<Doc>, standing: Standing, patch: &Doc) -> Option<Doc>
+    ensures { MatchOption result ⊤ (λ now. (before : Doc) × (shown ≡ Some before)
+        × IsShownAfter standing (document before) (document patch.now) (document now)) }
+{
+    let mut now = shown?;
+    match standing {
+        Standing::Fits => match merge_into(alloc, &mut now, patch) {
+            Ok(()) => Some(now),
+            Err(_) => None,
+        },
+        Standing::Disputed => Some(now),
+        Standing::Disputes => None,
     }
 }

@@ -77,14 +77,18 @@ impl PatchLog {
     /// ```text
     /// log.document_text(alloc, usize::MAX)  // {"a":1,"b":2}
     /// ```
-    pub fn document_text(&self, alloc: Global, limit: usize) -> Result<String, LiveFault>
+    pub fn document_text(&mut self, alloc: Global, limit: usize) -> Result<String, LiveFault>
         ensures shows { MatchResult result (λ text. (d : Document) × IsDocument d
-            × Shows (start_of self.now) (stored_of self.now) d × (string_bytes text ≡ compact d))
-            (λ fault. IsNoLogText limit fault self.now) }
+            × Shows (start_of self.old) (stored_of self.old) d × (string_bytes text ≡ compact d))
+            (λ fault. IsNoLogText limit fault self.old) }
         ensures within { IfOk result (λ text. length (string_bytes text) ≤ limit) }
+        ensures unchanged { self.new ≡ self.old }
     {
-        let document = self.document(alloc)?;
-        text_within(alloc, &document, limit)
+        self.keep_shown(alloc)?;
+        match self.kept_shown() {
+            Some(shown) => text_within(alloc, shown, limit),
+            None => Err(LiveFault::OutOfMemory),
+        }
     }
 
     /// Each two patches that conflict, as [`PatchLog::conflicts`] gives them, as a JSON array of objects: `first` and `second`

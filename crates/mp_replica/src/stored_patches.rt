@@ -1,23 +1,23 @@
 //! The patches of one start, each under its identity, and what is known of those that conflict.
 ghost use Rattle.std.specs.Prelude.{◌≡◌, ◌≢◌, ◌↔◌, ◌⊎◌, ◌++◌, ◌∷◌, ℕ, List, [], None, Some, IsTrue, IfOk, MatchOption, OnErr, OnOk, length, map, option_map};
 ghost use Rattle.std.specs.List.{Contains};
-ghost use Rattle.mp_tree.specs.Document.{Document};
+ghost use Rattle.mp_tree.specs.Document.{Document, IsDocument};
 ghost use Rattle.mp_tree.specs.View.{document};
 ghost use Rattle.mp_merge.specs.Clash.{Compatible};
 ghost use Rattle.mp_merge.specs.Outcome.{IsOutcome};
-ghost use Rattle.mp_replica.specs.PatchLog.{AreAllPairs, AreChosen, AreFirstConflictsAt, AreFirstPairs, ClashesWithNone, HaveArrived, IsFirstMissing, IsFirstPair, Shows, StoresAlso, seen, stored_in};
-ghost use Rattle.mp_replica.specs.Private.StoredPatches.{AreApart, AreConflictingWith, FitsAll, JoinsOthers};
+ghost use Rattle.mp_replica.specs.PatchLog.{AreAllPairs, AreChosen, AreFirstConflictsAt, AreFirstPairsOf, ClashesWithNone, HaveArrived, IsFirstMissing, IsFirstPair, Shows, StoresAlso, seen, stored_in};
+ghost use Rattle.mp_replica.specs.Private.StoredPatches.{AreApart, AreConflictingWith, JoinsOthers, StillShows};
 
 use crate::first_pairs::{FirstPairs, first_pairs};
 use crate::identity_set::set_of;
 use crate::laws::{merge_laws, text_laws};
 use crate::live_join::LiveJoin;
 use crate::message::Identity;
-use crate::pairs::{ConflictingPair, all_pairs, ascending, first_pair};
+use crate::pairs::{ConflictingPair, all_pairs, first_pair, note_clashes};
 use mp_merge::{Conflicts, compatible, conflict_within, merge_into};
 use mp_tree::Doc;
 use std::alloc::{AllocError, Global};
-use std::collections::BTreeMap;
+use std::collections::{BTreeMap, BTreeSet};
 use std::marker::Model;
 
 // Each patch is stored under its identity.
@@ -26,8 +26,21 @@ pub(crate) struct StoredPatches {
     patches: BTreeMap<Identity, Doc>,
     // The identities of those that conflict with another, in any order.
     conflicting: Vec<Identity>,
+    // Each two of them that conflict, the lower one first. There may be others: only those that conflict count.
+    pairs: BTreeSet<(Identity, Identity)>,
     // The join of all others.
     join: LiveJoin,
+}
+
+// What a patch that is stored is to those that were stored before.
+#[derive(Drop)]
+pub(crate) enum Standing {
+    // It conflicts with none of them.
+    Fits,
+    // It conflicts with some, and each of these conflicted with another before.
+    Disputed,
+    // It conflicts with one that conflicted with none before.
+    Disputes,
 }
 
 impl Model for StoredPatches {
@@ -44,7 +57,7 @@ impl Model for StoredPatches {
 
     ghost coded = { Prim.hlevel (codes, the_row.coded) };
 
-    ghost invariant = { λ r. KnowsConflicts r.patches.entries r.conflicting.items r.join };
+    ghost invariant = { λ r. KnowsConflicts r.patches.entries r.conflicting.items r.pairs r.join };
 }
 
 impl StoredPatches {
@@ -55,6 +68,7 @@ impl StoredPatches {
         StoredPatches {
             patches: BTreeMap::new(alloc),
             conflicting: Vec::new(alloc),
+            pairs: BTreeSet::new(alloc),
             join: LiveJoin::new(),
         }
     }
@@ -78,10 +92,13 @@ impl StoredPatches {
         alloc: Global,
         identity: Identity,
         patch: Doc,
-    ) -> Result<(), AllocError>
+    ) -> Result<Standing, AllocError>
         requires { stored_in self.old identity ≡ None }
         ensures stored { OnOk result
             (StoresAlso (stored_in self.old) identity (document patch) (stored_in self.new)) }
+        ensures shows { IfOk result (λ standing. (start shown : Document) → IsDocument start
+            → IsDocument shown → Shows start (stored_in self.old) shown
+            → StillShows standing start shown (document patch) (stored_in self.new)) }
         ensures unchanged { OnErr result (self.new ≡ self.old) }
     {
         merge_laws();
@@ -89,19 +106,21 @@ impl StoredPatches {
             return Err(AllocError);
         }
         if !self.join.fits(&patch) {
-            return self.insert_anew(alloc, identity, patch);
+            self.insert_anew(alloc, identity, patch)?;
+            return Ok(Standing::Disputes);
         }
-        if fits_all(&patch, self.conflicting.as_slice(), &self.patches) {
+        let known = self.conflicting.as_slice();
+        if note_clashes(identity, &patch, known, &self.patches, &mut self.pairs)? {
             let copy = patch.copy(alloc)?;
             self.patches.insert(identity, patch)?;
             self.join.put(copy);
             let _settled = self.join.settle(alloc);
-            return Ok(());
+            return Ok(Standing::Fits);
         }
         let conflicting = with_one(alloc, self.conflicting.as_slice(), identity)?;
         self.patches.insert(identity, patch)?;
         self.conflicting = conflicting;
-        Ok(())
+        Ok(Standing::Disputed)
     }
 
     // The same of a patch that conflicts with one that is joined: the join is made again without those that conflict now.
@@ -120,6 +139,8 @@ impl StoredPatches {
         merge_laws();
         let known = self.conflicting.as_slice();
         let conflicting = conflicting_with(alloc, identity, &patch, known, &self.patches)?;
+        let others = conflicting.as_slice();
+        let _fits = note_clashes(identity, &patch, others, &self.patches, &mut self.pairs)?;
         let join = join_of_others(alloc, conflicting.as_slice(), &self.patches)?;
         self.patches.insert(identity, patch)?;
         self.conflicting = conflicting;
@@ -147,23 +168,20 @@ impl StoredPatches {
     pub(crate) fn conflicts(&self, alloc: Global) -> Result<Vec<ConflictingPair>, AllocError>
         ensures { IfOk result (λ pairs. AreAllPairs (stored_in self.now) (map seen pairs.items)) }
     {
-        let known = self.conflicting.as_slice();
-        let identities = ascending(alloc, &self.patches, known, known)?;
-        all_pairs(alloc, identities.as_slice(), &self.patches)
+        all_pairs(alloc, &self.pairs, &self.patches)
     }
 
-    // The first of each two patches that conflict, within a limit.
+    // The first of each two patches that conflict, or of those with an identity, within a limit.
     pub(crate) fn conflicts_within(
         &self,
         alloc: Global,
+        of: Option<Identity>,
         limit: usize,
     ) -> Result<FirstPairs, AllocError>
-        ensures { IfOk result (λ found.
-            AreFirstPairs limit (stored_in self.now) (map seen found.pairs.items) found.more) }
+        ensures { IfOk result (λ found. AreFirstPairsOf limit of (stored_in self.now)
+            (map seen found.pairs.items) found.more) }
     {
-        let known = self.conflicting.as_slice();
-        let identities = ascending(alloc, &self.patches, known, known)?;
-        first_pairs(alloc, identities.as_slice(), &self.patches, limit)
+        first_pairs(alloc, &self.pairs, of, &self.patches, limit)
     }
 
     // The first of the chosen identities under which no patch is stored.
@@ -188,13 +206,12 @@ impl StoredPatches {
         ensures { IfOk result (λ found. MatchOption found (AreApart (stored_in self.now) chosen.now)
             (λ pair. IsFirstPair (stored_in self.now) chosen.now pair.0 pair.1)) }
     {
-        let known = self.conflicting.as_slice();
-        let identities = ascending(alloc, &self.patches, known, chosen)?;
-        Ok(first_pair(identities.as_slice(), &self.patches))
+        let wanted = set_of(alloc, chosen)?;
+        Ok(first_pair(&self.pairs, &self.patches, &wanted))
     }
 
     // Where these two patches conflict, within a limit; `AllocError` too if not both are stored.
-    pub(crate) fn conflicts_of(
+    pub(crate) fn places_of(
         &self,
         alloc: Global,
         first: Identity,
@@ -246,21 +263,6 @@ fn with_one(
     all.extend_from_slice(identities)?;
     all.push(identity)?;
     Ok(all)
-}
-
-// Whether the patch is compatible with each that is stored under one of the identities.
-fn fits_all(patch: &Doc, identities: &[Identity], patches: &BTreeMap<Identity, Doc>) -> bool
-    ensures { IsTrue result
-        ↔ FitsAll (stored_in patches.now.entries) identities.now (document patch.now) }
-{
-    for identity in identities {
-        if let Some(other) = patches.get(identity) {
-            if !compatible(patch, other) {
-                return false;
-            }
-        }
-    }
-    true
 }
 
 // The identity of the patch, and those of the stored ones that conflict with it or did so before.

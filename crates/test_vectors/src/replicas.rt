@@ -232,7 +232,7 @@ fn where_messages_stop(rt: HostRuntime) -> Result<(), Fail> {
 /// The log shows this document, and has this number of its start.
 fn has_begun<R: Abort + AllocGlobal>(
     rt: &R,
-    log: &PatchLog,
+    log: &mut PatchLog,
     epoch: u64,
     wanted: &str,
 ) -> Result<(), Fail> {
@@ -268,11 +268,11 @@ fn log_of_one(alloc: Global) -> Result<PatchLog, Fail> {
 fn a_decision_is_followed_once(rt: HostRuntime) -> Result<(), Fail> {
     let mut log = log_of_one(rt.alloc())?;
     follow_decision(rt.alloc(), &mut log, 2, &[])?;
-    has_begun(&rt, &log, 1, "{}")?;
+    has_begun(&rt, &mut log, 1, "{}")?;
     follow_decision(rt.alloc(), &mut log, 1, &[])?;
-    has_begun(&rt, &log, 2, START)?;
+    has_begun(&rt, &mut log, 2, START)?;
     follow_decision(rt.alloc(), &mut log, 1, &[MINE])?;
-    has_begun(&rt, &log, 2, START)
+    has_begun(&rt, &mut log, 2, START)
 }
 
 #[test]
@@ -282,5 +282,5 @@ fn a_decision_that_can_not_be_followed_yet(rt: HostRuntime) -> Result<(), Fail> 
         Err(DecideFault::NotReceived(missing)) => equal(&rt, missing, YOURS),
         _ => return Err(Fail::new("it is followed")),
     }
-    has_begun(&rt, &log, 1, "{}")
+    has_begun(&rt, &mut log, 1, "{}")
 }

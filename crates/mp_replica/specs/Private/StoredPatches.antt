@@ -1,16 +1,20 @@
 -- What is known of the stored patches that conflict. Only private clauses cite it.
-use Rattle.std.specs.Prelude.{◌≡◌, ◌↔◌, ◌⊎◌, List, Some, option_map}
+use Rattle.std.specs.Prelude.{◌≡◌, ◌↔◌, ◌⊎◌, List, Some, option_map, ⊤}
 use Rattle.std.specs.List.{Contains}
 use Rattle.std.specs.List.Sorted.{IsStrictlySortedBy}
 use Rattle.std.specs.Map.{keys_of}
 use Rattle.mp_tree.specs.Document.{Document}
 use Rattle.mp_tree.specs.View.{document}
 use Rattle.mp_tree.specs.declared.doc.Doc.{Doc}
+use Rattle.mp_merge.specs.Application.{merge_patch}
 use Rattle.mp_merge.specs.Clash.{Compatible}
 use Rattle.mp_replica.specs.Held.{HasJoined}
-use Rattle.mp_replica.specs.PatchLog.{AreUnclashed, ClashesWithNone, Stored, identity_cmp, stored_in}
+use Rattle.mp_replica.specs.PatchLog.{AreUnclashed, ClashesWithNone, Shows, Stored, identity_cmp, stored_in}
+use Rattle.mp_replica.specs.Private.Pairs.{KeptPairs, KnowsPairs}
 use Rattle.mp_replica.specs.Private.Steps.{HeldJoin}
 use Rattle.mp_replica.specs.declared.message.Identity.{Identity}
+use Rattle.mp_replica.specs.declared.stored_patches.Standing.{Standing}
+use Rattle.mp_replica.specs.declared.stored_patches.Standing.TheVariants.{Fits, Disputed, Disputes}
 
 -- the patch under the identity clashes with one that is stored
 abbrev pub Conflicts : Stored → Identity → Type 0
@@ -20,10 +24,11 @@ Conflicts stored i = (p : Document) × (stored i ≡ Some p) × (¬ ClashesWithN
 abbrev pub IsJoined : HeldJoin → List Document → Type 0
 IsJoined join patches = HasJoined (option_map document join.joined) (option_map document join.pending) patches
 
--- these identities are those whose patches conflict, and the join is of all others
-pub record KnowsConflicts (patches : List (Identity × Doc)) (known : List Identity) (join : HeldJoin) : Type 0 where
+-- these identities are those whose patches conflict, these are their pairs, and the join is of all others
+pub record KnowsConflicts (patches : List (Identity × Doc)) (known : List Identity) (pairs : KeptPairs) (join : HeldJoin) : Type 0 where
   pub ascending : IsStrictlySortedBy identity_cmp (keys_of patches)
   pub conflicting : (i : Identity) → Contains known i ↔ Conflicts (stored_in patches) i
+  pub in_pairs : KnowsPairs (stored_in patches) pairs
   pub others : List Document
   pub unclashed : AreUnclashed (stored_in patches) others
   pub joined : IsJoined join others
@@ -57,3 +62,16 @@ abbrev pub AreApart : Stored → List Identity → Type 0
 AreApart stored chosen =
     (i j : Identity) (p q : Document) → Contains chosen i → Contains chosen j → stored i ≡ Some p → stored j ≡ Some q
     → Compatible p q
+
+-- ---- what is shown once one more patch p is stored
+
+abbrev pub StillShows : Standing → Document → Document → Document → Stored → Type 0
+StillShows Fits start shown p now = Shows start now (merge_patch (Some shown) p)
+StillShows Disputed start shown p now = Shows start now shown
+StillShows Disputes start shown p now = ⊤
+
+-- that is kept, changed as the patch wants, or not kept
+abbrev pub IsShownAfter : Standing → Document → Document → Document → Type 0
+IsShownAfter Fits before p now = now ≡ merge_patch (Some before) p
+IsShownAfter Disputed before p now = now ≡ before
+IsShownAfter Disputes before p now = ⊥

@@ -10,17 +10,22 @@ use denote.Builtin.{RawPtr}
 use denote.Param.Send.{IsSend, owning_send, struct_send, sendable}
 use Rattle.std.proofs.Crossing as crossing
 use Rattle.std.proofs.MapsCrossing as maps
+use Rattle.std.proofs.MapsCrossingOver as over
 use Rattle.std_alloc.proofs.SendSync.{lies, quiet}
 use Rattle.mp_tree.proofs.doc.Doc.TheLaws.TheKnot as knot
 use Rattle.mp_c.specs.Owned.{heap, owned_at}
 use Rattle.mp_c.specs.contracts.patch_log_handle.PatchLogHandle as handle
 use Rattle.mp_replica.specs.contracts.patch_log.PatchLog as held
+use Rattle.mp_replica.specs.contracts.stored_patches.StoredPatches as stored
 
 ps : IsSend RawPtr
 ps = search sendable
 
+stored_send : IsSend stored.the_row
+stored_send = search (over.BTreeSet-send, crossing.send, crossing.frees, maps.crosses, crossing.crosses, knot.crosses, sendable) depth 60 fits 20000
+
 held_send : IsSend held.the_row
-held_send = search (maps.crosses, crossing.crosses, knot.crosses, sendable) depth 60 fits 20000
+held_send = search (stored_send, maps.crosses, crossing.crosses, knot.crosses, sendable) depth 60 fits 20000
 
 keyless : (p : Ptr) (m : Option held.the_row.Denot) → Keyless (owned_at held.the_row p m)
 keyless p None = tt

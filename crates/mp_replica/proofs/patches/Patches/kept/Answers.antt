@@ -1,4 +1,4 @@
-use Rattle.std.proofs.Common.{◌≡◌, ◌≢◌, ◌++◌, ◌∙◌, ◌↔◌, ℕ, List, [], None, option_map, ap, inl, inr, string_bytes, sym}
+use Rattle.std.proofs.Common.{◌≡◌, ◌≢◌, ◌∙◌, ◌↔◌, ℕ, List, [], None, option_map, ap, inl, inr, string_bytes, sym}
 use Rattle.std.specs.List.{All}
 use Rattle.mp_tree.specs.Document.{Document, IsReadable}
 use Rattle.mp_tree.specs.Text.{text as compact}

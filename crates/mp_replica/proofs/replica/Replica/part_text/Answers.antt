@@ -4,7 +4,7 @@ use Rattle.mp_tree.specs.View.{document}
 use Rattle.mp_replica.specs.Faults.{IsNoPart}
 use Rattle.mp_replica.specs.Texts.{IsPartOf}
 use Rattle.mp_replica.proofs.TextRuns.{text_of}
-use Rattle.mp_replica.proofs.Written.{written, written_within}
+use Rattle.mp_replica.proofs.Written.{written}
 use Rattle.mp_replica.proofs.replica.Replica.part_text.Goals as goal
 
 pub returns-in-Some-clause-part : goal.returns-in-Some-clause-part

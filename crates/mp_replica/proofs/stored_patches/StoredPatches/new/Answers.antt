@@ -2,4 +2,5 @@ use Rattle.mp_replica.proofs.Conflicting.{none_known}
 use Rattle.mp_replica.proofs.stored_patches.StoredPatches.new.Goals as goal
 
 pub invariant_of-result : goal.invariant_of-result
-invariant_of-result c = none_known c.merge_laws.ensures c.new.result.entries c.new-2.result.items c.new-3.result c.new.ensures.empty c.new-2.ensures.items c.new-3.ensures.joined c.new-3.ensures.pending
+invariant_of-result c =
+    none_known c.merge_laws.ensures c.new.result.entries c.new-2.result.items c.new-3.result c.new-4.result c.new.ensures.empty c.new-2.ensures.items c.new-3.ensures.empty c.new-4.ensures.joined c.new-4.ensures.pending

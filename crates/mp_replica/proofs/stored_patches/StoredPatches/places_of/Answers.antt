@@ -4,7 +4,7 @@ use Rattle.mp_tree.specs.View.{document}
 use Rattle.mp_tree.proofs.Facts.{some_same}
 use Rattle.mp_merge.specs.Within.{AreFirstConflicts}
 use Rattle.mp_replica.specs.PatchLog.{stored_in}
-use Rattle.mp_replica.proofs.stored_patches.StoredPatches.conflicts_of.Goals as goal
+use Rattle.mp_replica.proofs.stored_patches.StoredPatches.places_of.Goals as goal
 
 pub returns-in-Some-Some : goal.returns-in-Some-Some
 returns-in-Some-Some c =

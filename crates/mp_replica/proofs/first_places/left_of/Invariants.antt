@@ -1,6 +1,6 @@
 use Rattle.std.proofs.Common.{◌≡◌, ◌+◌, take}
 use Rattle.mp_merge.specs.Within.{places_weight}
-use Rattle.mp_replica.proofs.first_pairs.left_of.Given as goal
+use Rattle.mp_replica.proofs.first_places.left_of.Given as goal
 
 -- what was taken from the budget so far
 abbrev pub invariant-loop-place : goal.invariant-loop-place
