@@ -153,7 +153,8 @@ typedef struct mergejoin_reply {
   uint32_t flags; /**< MERGEJOIN_MORE or 0 */
 } mergejoin_reply;
 
-/** In `flags`: there are more places than `total`, or more pairs or places than mergejoin_patch_log_conflicts has in its text. */
+/** In `flags`: there are more places than `total`, or more pairs or places than mergejoin_patch_log_conflicts or
+ * mergejoin_patch_log_conflicts_of has in its text. */
 #define MERGEJOIN_MORE 1u
 
 /* Handles. Each is {0} (in C++ {}) before its first use, is never copied, and is freed once it is not needed. To free it again, or to
@@ -383,6 +384,15 @@ static inline
 mergejoin_reply mergejoin_patch_log_conflicts(mergejoin_patch_log *log, uint8_t *out, size_t capacity, size_t limit);
 
 /**
+ * The same of the pairs with one identity: with which others its patch conflicts. It is [] if no patch is stored under it.
+ *
+ * MERGEJOIN_NOT_STARTED, MERGEJOIN_NO_MEMORY, MERGEJOIN_TOO_LARGE.
+ */
+static inline
+mergejoin_reply mergejoin_patch_log_conflicts_of(mergejoin_patch_log *log, uint64_t sender, uint64_t number, uint8_t *out,
+                                                 size_t capacity, size_t limit);
+
+/**
  * How many patches the log stores, as the text of a whole number. A caller that bounds this bounds what the log takes.
  *
  * MERGEJOIN_NOT_STARTED, MERGEJOIN_NO_MEMORY, MERGEJOIN_TOO_LARGE.
@@ -496,6 +506,10 @@ MERGEJOIN_WITHOUT_NULL_(mergejoin_patch_log_receive,
                         (log, epoch, sender, number, MERGEJOIN_TEXT_(patch, length), MERGEJOIN_OUT_))
 MERGEJOIN_OF_NONE_(mergejoin_patch_log_document, mergejoin_patch_log)
 MERGEJOIN_OF_NONE_(mergejoin_patch_log_conflicts, mergejoin_patch_log)
+MERGEJOIN_WITHOUT_NULL_(mergejoin_patch_log_conflicts_of,
+                        (mergejoin_patch_log *log, uint64_t sender, uint64_t number, uint8_t *out, size_t capacity,
+                         size_t limit),
+                        (log, sender, number, MERGEJOIN_OUT_))
 MERGEJOIN_OF_NONE_(mergejoin_patch_log_count, mergejoin_patch_log)
 MERGEJOIN_WITHOUT_NULL_(mergejoin_patch_log_decide,
                         (mergejoin_patch_log *log, const mergejoin_identity *chosen, size_t count, uint8_t *out,
@@ -706,6 +720,11 @@ static inline char *mergejoin_patch_log_document_new(mergejoin_patch_log *log, s
 
 static inline char *mergejoin_patch_log_conflicts_new(mergejoin_patch_log *log, size_t limit, mergejoin_reply *reply) {
   MERGEJOIN_NEW_(MERGEJOIN_PART_, mergejoin_patch_log_conflicts(log, out, capacity, limit));
+}
+
+static inline char *mergejoin_patch_log_conflicts_of_new(mergejoin_patch_log *log, uint64_t sender, uint64_t number, size_t limit,
+                                                         mergejoin_reply *reply) {
+  MERGEJOIN_NEW_(MERGEJOIN_PART_, mergejoin_patch_log_conflicts_of(log, sender, number, out, capacity, limit));
 }
 
 static inline char *mergejoin_patch_log_count_new(mergejoin_patch_log *log, size_t limit, mergejoin_reply *reply) {

@@ -35,7 +35,7 @@ static size_t count, given, capacity = 4096, limit = SIZE_MAX, behind = 32;
 static int is_new, is_stack, is_asked, is_each;
 
 typedef struct call {
-  char name[16];
+  char name[20];
   size_t number, other;
   int is_made;
   mergejoin_reply reply;
@@ -59,6 +59,7 @@ typedef struct call {
   CALL(log_receive, patch_log_receive, log, *numbers, numbers[1], numbers[2], TEXT(0)) \
   CALL(log_document, patch_log_document, log)               \
   CALL(log_conflicts, patch_log_conflicts, log)             \
+  CALL(log_conflicts_of, patch_log_conflicts_of, log, *numbers, numbers[1]) \
   CALL(log_count, patch_log_count, log)                     \
   CALL(log_decide, patch_log_decide, log, chosen, given / 2) \
   CALL(join_of, join, texts, count)                         \
@@ -179,7 +180,7 @@ static int show_heap(void) {
 
 static int obey(void) {
   call it = {.name = ""};
-  int found = sscanf(line, "%15s %zu %zu", it.name, &it.number, &it.other);
+  int found = sscanf(line, "%19s %zu %zu", it.name, &it.number, &it.other);
   if (found == 2 && !strcmp(it.name, "capacity")) return capacity = it.number, 1;
   if (found == 2 && !strcmp(it.name, "limit")) return limit = it.number, 1;
   if (found == 3 && !strcmp(it.name, "refuse")) return refused_at = it.number, refuses_on = it.other != 0, 1;

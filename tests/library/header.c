@@ -181,8 +181,10 @@ static void patch_log(void) {
   ends(mergejoin_patch_log_receive(&it, 0, 1, 2, none, 2, NOTHING, 0, SIZE_MAX), MERGEJOIN_RESULT, 6);
   made(mergejoin_patch_log_document_new(&it, SIZE_MAX, &reply), MERGEJOIN_RESULT, "[]");
   made(mergejoin_patch_log_conflicts_new(&it, SIZE_MAX, &reply), MERGEJOIN_RESULT, "[]");
+  made(mergejoin_patch_log_conflicts_of_new(&it, 1, 2, SIZE_MAX, &reply), MERGEJOIN_RESULT, "[]");
   ends(mergejoin_patch_log_document(&it, NOTHING, 0, 0), MERGEJOIN_TOO_LARGE, 0);
   ends(mergejoin_patch_log_conflicts(&it, NOTHING, 0, SIZE_MAX), MERGEJOIN_RESULT, 2);
+  ends(mergejoin_patch_log_conflicts_of(&it, 1, 2, NOTHING, 0, SIZE_MAX), MERGEJOIN_RESULT, 2);
   made(mergejoin_patch_log_count_new(&it, SIZE_MAX, &reply), MERGEJOIN_RESULT, "1");
   ends(mergejoin_patch_log_count(&it, NOTHING, 0, SIZE_MAX), MERGEJOIN_RESULT, 1);
   ends(mergejoin_patch_log_count(&it, NOTHING, 0, 0), MERGEJOIN_TOO_LARGE, 0);

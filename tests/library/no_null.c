@@ -46,6 +46,8 @@ ARE_THERE(mergejoin_patch_log_receive, bytes && out,
           (it, epoch, sender, number, bytes, length, out, capacity, limit))
 OF_NONE(mergejoin_patch_log_document, mergejoin_patch_log)
 OF_NONE(mergejoin_patch_log_conflicts, mergejoin_patch_log)
+ARE_THERE(mergejoin_patch_log_conflicts_of, out, (mergejoin_patch_log *it, uint64_t sender, uint64_t number, OUT),
+          (it, sender, number, out, capacity, limit))
 OF_NONE(mergejoin_patch_log_count, mergejoin_patch_log)
 ARE_THERE(mergejoin_patch_log_decide, chosen && out, (mergejoin_patch_log *it, const mergejoin_identity *chosen, size_t count, OUT),
           (it, chosen, count, out, capacity, limit))

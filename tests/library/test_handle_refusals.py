@@ -21,7 +21,7 @@ RECEIVED = [*STARTED, call("receive", 0, ONE)]
 ADDED = [call("add", 0, ONE)]
 CONFLICTING = [*ADDED, call("add", 0, OTHER)]
 BOTH = [*ADDED, call("add", 1, NEXT)]
-OF_LOG = [call("log_document"), call("log_conflicts")]
+OF_LOG = [call("log_document"), call("log_conflicts"), call("log_conflicts_of", numbers=[2, 1])]
 LOGGED = [call("log_start", 0, START, numbers=[7])]
 STORED = [*LOGGED, call("log_receive", 0, ONE, numbers=[7, 1, 1])]
 # Two that conflict, and one that conflicts with neither.
@@ -78,6 +78,7 @@ STAGES = {
     "message of no document": (THREE_STORED, call("log_receive", 0, b'{"a":[1.5]}', numbers=[7, 3, 1]), OF_LOG),
     "document of a log": (THREE_STORED, OF_LOG[0], OF_LOG),
     "conflicts of a log": (THREE_STORED, OF_LOG[1], OF_LOG),
+    "conflicts of an identity": (THREE_STORED, OF_LOG[2], OF_LOG),
     "decision of a conflict": (THREE_STORED, call("log_decide", numbers=[2, 1, 1, 2, 1, 1]), OF_LOG),
     "decision of a wide conflict": ([*LOGGED, *(call("log_receive", 0, it, numbers=[7, 1, number]) for number, it in enumerate((WIDE, WIDER)))],
                                     call("log_decide", numbers=[1, 1, 1, 0]), OF_LOG),

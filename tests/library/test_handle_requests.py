@@ -68,6 +68,7 @@ def logs(size):
     yield "log_document", stored, call("log_document")
     yield "log_document with conflicts", conflicting, call("log_document")
     yield "log_conflicts", conflicting, call("log_conflicts")
+    yield "log_conflicts_of", conflicting, call("log_conflicts_of", numbers=[1, 0])
     yield "log_count", conflicting, call("log_count")
     yield "log_decide", conflicting, call("log_decide", 0, b"", 0, identities)
     yield "log_decide in conflict", conflicting, call("log_decide", 0, b"", 0, [*identities, 2, 0])

@@ -175,13 +175,17 @@ def decision(*identities):
     return call("log_decide", numbers=sum(identities, ()))
 
 
+def conflicts_of(*identity):
+    return call("log_conflicts_of", numbers=identity)
+
+
 STORED = [*LOGGED, message(ONE, 1, 1), message(TWO, 2, 1), message({"z": 1}, 1, 2)]
 APART = '{"k":0,"m":{"x":[1]},"z":1}'
 PAIR = '[{"first":[1,1],"second":[2,1],"places":["/a/b"]}]'
 
 
 def stores():
-    for line in (message(b"[", 1, 1), call("log_document"), call("log_conflicts"), call("log_count"), decision()):
+    for line in (message(b"[", 1, 1), call("log_document"), call("log_conflicts"), conflicts_of(1, 1), call("log_count"), decision()):
         yield [], line, NOT_STARTED, 0, 0, 0, "not started"
         yield [*STORED, call("log_free")], line, NOT_STARTED, 0, 0, 0, "not started"
     for text, words, place in UNREAD:
@@ -207,20 +211,29 @@ def stores():
     for started in (LOGGED, [*STORED, *LOGGED]):
         yield started, call("log_document"), RESULT, 0, 0, 0, '{"k":0,"m":{"x":[1]}}'
         yield started, call("log_conflicts"), RESULT, 0, 0, 0, "[]"
+        yield started, conflicts_of(1, 1), RESULT, 0, 0, 0, "[]"
         yield started, call("log_count"), RESULT, 0, 0, 0, "0"
     yield STORED, call("log_document"), RESULT, 0, 0, 0, APART
     yield STORED, call("log_conflicts"), RESULT, 0, 0, 0, PAIR
+    # Of either of the two, of one that conflicts with none, and of those that are not stored.
+    for identity, listed in (((1, 1), PAIR), ((2, 1), PAIR), ((1, 2), "[]"), ((2, 2), "[]"), ((0, 1), "[]"), ((MOST, MOST), "[]")):
+        yield STORED, conflicts_of(*identity), RESULT, 0, 0, 0, listed
     last_one = [*STORED, message({"a": 5, "z": 2}, MOST, MOST)]
     pairs = [PAIR[:-1]] + [f'{{"first":[{sender},{number}],"second":[{MOST},{MOST}],"places":["{place}"]}}'
                            for sender, number, place in ((1, 1, "/a"), (1, 2, "/z"), (2, 1, "/a"))]
     in_order = [pairs[0], pairs[1], pairs[2], pairs[3] + "]"]
     yield last_one, call("log_conflicts"), RESULT, 0, 0, 0, ",".join(in_order)
+    for identity, numbers in (((1, 1), (0, 1)), ((1, 2), (2,)), ((2, 1), (0, 3)), ((MOST, MOST), (1, 2, 3))):
+        listed = ",".join(pairs[number].removeprefix("[") for number in numbers)
+        yield last_one, conflicts_of(*identity), RESULT, 0, 0, 0, f"[{listed}]"
     yield last_one, call("log_document"), RESULT, 0, 0, 0, '{"k":0,"m":{"x":[1]}}'
     # Identities so long that a pair with a place or none has more bytes than it weighs.
     most = [*LOGGED, message({"a": 1, "b": 1}, MOST, MOST - 1), message({"a": 2, "b": 2}, MOST, MOST)]
-    yield most, call("log_conflicts"), RESULT, 0, 0, 0, f'[{{"first":[{MOST},{MOST - 1}],"second":[{MOST},{MOST}],"places":["/a","/b"]}}]'
+    for line in (call("log_conflicts"), conflicts_of(MOST, MOST - 1)):
+        yield most, line, RESULT, 0, 0, 0, f'[{{"first":[{MOST},{MOST - 1}],"second":[{MOST},{MOST}],"places":["/a","/b"]}}]'
     long = [*LOGGED, message(WIDE, 1, 1), message(WIDER, 2, 1)]
-    yield long, call("log_conflicts"), RESULT, 0, 0, 0, f'[{{"first":[1,1],"second":[2,1],"places":{WIDE_PLACES}}}]'
+    for line in (call("log_conflicts"), conflicts_of(2, 1)):
+        yield long, line, RESULT, 0, 0, 0, f'[{{"first":[1,1],"second":[2,1],"places":{WIDE_PLACES}}}]'
 
 
 def decides():
@@ -230,6 +243,7 @@ def decides():
         decided = [*STORED, decision(*chosen)]
         yield decided, call("log_document"), RESULT, 0, 0, 0, SHOWN[:-1] + ',"z":1}'
         yield decided, call("log_conflicts"), RESULT, 0, 0, 0, "[]"
+        yield decided, conflicts_of(1, 1), RESULT, 0, 0, 0, "[]"
         yield decided, call("log_count"), RESULT, 0, 0, 0, "0"
         yield decided, message(TWO, 2, 1), RESULT, 0, 0, 0, "late"
         yield decided, message(TWO, 8, 1, 1), RESULT, 0, 0, 0, "stored"
@@ -264,7 +278,7 @@ def test_each_row(driver, way):
 
 def test_each_status_of_each_call_is_in_a_row():
     seen = {(line.split()[0], status) for _, line, status, *_ in ROWS}
-    logs = {f"log_{name}" for name in ("start", "receive", "document", "conflicts", "count", "decide")}
+    logs = {f"log_{name}" for name in ("start", "receive", "document", "conflicts", "conflicts_of", "count", "decide")}
     assert seen >= {(name, NOT_STARTED) for name in ("receive", "document", "joined", "get", *(logs - {"log_start"}))}
     assert {name for name, status in seen if status == RESULT} == {
         "start", "receive", "document", "joined", "get", "add", "combine", "text", "kept", "from", *logs}
@@ -285,7 +299,7 @@ FINDING = ("receive", "log_decide")
 def wanted_within(limit, line, wanted):
     """What a call says within a limit, of what it says without one."""
     name = line.split()[0]
-    if name == "log_conflicts" and wanted[0] == RESULT:
+    if name in ("log_conflicts", "log_conflicts_of") and wanted[0] == RESULT:
         return pairs_within(limit, wanted)
     return within(limit, wanted, *([weight_of] if name in FINDING else []))
 
@@ -326,7 +340,7 @@ def test_a_limit_is_on_both_sides_of_each_pair_and_each_of_its_places(driver, wa
         weights = [weight for pair in json.loads(row[-1]) for weight in (driving.PAIR_WEIGHT, *map(weight_of, pair["places"]))]
         sizes = {0, 1, 2, *range(40, 300), *itertools.accumulate(weights), len(row[-1].encode())}
         flags |= {it.flags for it in compare_within_limits([driver, way], [(limit, row) for it in sizes for limit in {it, max(it - 1, 0)}])}
-    assert len(listing) >= 4 and flags == {0, MORE}
+    assert len(listing) >= 12 and flags == {0, MORE}
 
 
 def test_patches_hold_the_first_places_of_their_conflict(driver):

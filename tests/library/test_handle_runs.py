@@ -102,8 +102,10 @@ class Log:
         conflicting = {it for pair, *_ in self.pairs() for it in pair}
         return self.six("replay", self.given, [patch for it, patch in self.stored.items() if it not in conflicting])
 
-    def conflicts(self):
-        pairs = (f'{{"first":{list(one)},"second":{list(other)},"places":{places.decode()}}}' for (one, other), _, places in self.pairs())
+    def conflicts(self, *identity):
+        """Of each two that conflict, or of those with one identity."""
+        found = ((pair, places) for pair, _, places in self.pairs() if not identity or identity in pair)
+        pairs = (f'{{"first":{list(one)},"second":{list(other)},"places":{places.decode()}}}' for (one, other), places in found)
         return RESULT, 0, f"[{','.join(pairs)}]".replace(" ", "").encode()
 
     def decide(self, *chosen):
@@ -162,7 +164,7 @@ def log_run(six, some):
     model = Log(six, 5, start)
     yield call("log_start", 0, start, numbers=[5]), (RESULT, 0, b"")
     for _ in range(CALLS):
-        what = some.choice(["receive"] * 5 + ["document", "conflicts", "count", "decide"])
+        what = some.choice(["receive"] * 5 + ["document", "conflicts", "conflicts_of", "count", "decide"])
         identity = some.randrange(3), some.randrange(4)
         if what == "receive":
             patch, epoch = text(some), model.epoch + some.choice([0, 0, 0, 0, -1, 1])
@@ -170,6 +172,8 @@ def log_run(six, some):
         elif what == "decide":
             chosen = [some.choice(sorted(model.stored) or [identity]) for _ in range(some.randrange(4))] + [identity] * (some.random() < 0.1)
             yield call("log_decide", numbers=sum(chosen, ())), model.decide(*chosen)
+        elif what == "conflicts_of":
+            yield call("log_conflicts_of", numbers=identity), model.conflicts(*identity)
         else:
             yield call(f"log_{what}"), getattr(model, what)()
 

@@ -14,7 +14,7 @@ def scripts():
             yield [call("start", 0, start), call("receive", 0, patch), call("receive", 0, patch), *reads, call("start", 0, start), call("free")]
             yield [call("add", 0, start), call("add", 0, patch), *gathered, call("add", 1, patch), call("combine", 0, b"", 1), *gathered, call("drop")]
             stored = [call("log_receive", 0, it, numbers=[0, 1, number]) for number, it in enumerate((patch, start, patch))]
-            read = [call("log_document"), call("log_conflicts"), call("log_count"), call("log_decide", numbers=[1, 0, 1, 1])]
+            read = [call("log_document"), call("log_conflicts"), call("log_conflicts_of", numbers=[1, 1]), call("log_count"), call("log_decide", numbers=[1, 0, 1, 1])]
             yield [call("log_start", 0, start, numbers=[0]), *stored, *read, call("log_decide", numbers=[1, 0]), *read, call("log_free")]
     deep = [call("receive", 0, apart(f"k{number}").encode()) for number in range(40)]
     yield [call("start", 0, OBJECTS.encode()), *deep, *reads, call("free")]

@@ -138,6 +138,7 @@ def by_conflicts(one, other):
     yield "patch_log_receive", logged[:2], logged[2], STORED
     yield "patch_log_document", logged[:2], later("log_document"), text_of(one)
     yield "patch_log_conflicts", logged, later("log_conflicts"), LISTED
+    yield "patch_log_conflicts_of", logged, later("log_conflicts_of", numbers=[1, 1]), LISTED
     yield "patch_log_decide", logged, later("log_decide", numbers=[1, 0, 1, 1]), ALL
 
 
@@ -172,6 +173,7 @@ def by_number():
     yield "patch", [], of_six("patch", [b"{}", COPIES]), NEVER
     yield "patch_log_receive", MANY, later("log_receive", 0, {"a": 3_000}, numbers=[0, 2, 0]), STORED
     yield "patch_log_conflicts", MANY, later("log_conflicts"), LISTED
+    yield "patch_log_conflicts_of", MANY, later("log_conflicts_of", numbers=[1, 2_999]), LISTED
     yield "patch_log_count", MANY, later("log_count"), text_of(3_000)
 
 

@@ -286,7 +286,7 @@ static mergejoin_reply log_document_of(live *self, uint8_t *out, size_t capacity
   return mergejoin_patch_log_document(&self->it.log, out, capacity, limit);
 }
 
-static mergejoin_reply log_conflicts_of(live *self, uint8_t *out, size_t capacity, size_t limit) {
+static mergejoin_reply log_pairs_of(live *self, uint8_t *out, size_t capacity, size_t limit) {
   return mergejoin_patch_log_conflicts(&self->it.log, out, capacity, limit);
 }
 
@@ -294,8 +294,20 @@ static PyObject *log_document(live *self, PyObject *limit) { return read_text(se
 
 /* The text of the pairs that come first, and whether more are left out. */
 static PyObject *log_conflicts(live *self, PyObject *limit) {
-  PyObject *text = read_text(self, log_conflicts_of, &self->more, limit);
+  PyObject *text = read_text(self, log_pairs_of, &self->more, limit);
   return text ? Py_BuildValue("Ni", text, self->is_cut) : NULL;
+}
+
+/* The same of the pairs with one identity. */
+static PyObject *log_conflicts_of(live *self, PyObject *const *arguments, Py_ssize_t count) {
+  mergejoin_reply reply = {0};
+  char *text = NULL;
+  uint64_t sender, number;
+  size_t limit;
+  if (!has_arguments(count, 3) || number_of(arguments[0], &sender) || number_of(arguments[1], &number) || limit_of(arguments[2], &limit)) return NULL;
+  ALONE_(self, text = mergejoin_patch_log_conflicts_of_new(&self->it.log, sender, number, limit, &reply));
+  PyObject *answer = answer_of(text, &reply);
+  return answer ? Py_BuildValue("Ni", answer, (reply.flags & MERGEJOIN_MORE) != 0) : NULL;
 }
 
 static PyObject *log_count(live *self, PyObject *nothing) {
@@ -368,8 +380,9 @@ static PyMethodDef patches_methods[] = {
 
 static PyMethodDef log_methods[] = {
     METHOD_("receive", log_receive, METH_FASTCALL), METHOD_("document", log_document, METH_O),
-    METHOD_("conflicts", log_conflicts, METH_O), METHOD_("decide", log_decide, METH_FASTCALL),
-    METHOD_("epoch", log_epoch, METH_NOARGS), METHOD_("count", log_count, METH_NOARGS), {NULL, NULL, 0, NULL},
+    METHOD_("conflicts", log_conflicts, METH_O), METHOD_("conflicts_of", log_conflicts_of, METH_FASTCALL),
+    METHOD_("decide", log_decide, METH_FASTCALL), METHOD_("epoch", log_epoch, METH_NOARGS), METHOD_("count", log_count, METH_NOARGS),
+    {NULL, NULL, 0, NULL},
 };
 
 static PyType_Slot replica_slots[] = {

@@ -133,6 +133,18 @@ class Logs(unittest.TestCase):
         self.assertRaises(TooLarge, log.first_conflicts, limit=1)
         self.assertEqual(PatchLog(0, "{}").first_conflicts(limit=2), ([], False))
 
+    def test_the_conflicts_of_one_identity(self):
+        log = self.log()
+        log.receive(7, (0, 9), '{"author": null, "title": 5}')
+        with_one, with_two, both = (((0, 9), (1, 1), ["/author"]), ((0, 9), (2, 1), ["/author"]), ((1, 1), (2, 1), ["/author"]))
+        self.assertEqual(log.conflicts_of(1, 1), ([with_one, both], False))
+        self.assertEqual(log.conflicts_of(*log.conflicts()[-1].second), ([with_two, both], False))
+        self.assertEqual(log.conflicts_of(9, 9), ([], False))
+        for limit, pairs in ((414, [with_one, both]), (413, [with_one, (*both[:2], [])]), (270, [with_one]), (63, []), (2, [])):
+            self.assertEqual(log.conflicts_of(1, 1, limit=limit), (pairs, limit < 414))
+        self.assertRaises(TooLarge, log.conflicts_of, 1, 1, limit=1)
+        self.assertRaises(OverflowError, log.conflicts_of, 1, -1)
+
     def test_a_decision_that_is_refused(self):
         log = self.log()
         with self.assertRaises(Missing) as missing:

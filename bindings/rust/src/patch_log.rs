@@ -232,14 +232,42 @@ impl PatchLog {
         let (held, limit) = (&mut self.held, self.limit);
         let guess = guess_after(self.listed).min(limit);
         // SAFETY: as of `read`.
-        let (reply, text) = unsafe {
-            reply_of(guess, |out, capacity| {
+        let (text, more) = unsafe {
+            pairs_of(guess, |out, capacity| {
                 raw::mergejoin_patch_log_conflicts(held, out, capacity, limit)
             })
         }?;
-        let text = result_of(&reply, text)?;
         self.listed = text.len();
-        Ok((text, reply.flags & MORE != 0))
+        Ok((text, more))
+    }
+
+    /// Gives the same of the pairs with one identity: with which others its patch conflicts. The array is empty if no patch is
+    /// stored under it.
+    ///
+    /// ```
+    /// # use mergejoin::{Error, Identity, PatchLog};
+    /// let mut log = PatchLog::new(7, "{}")?;
+    /// for sender in 1..4 {
+    ///     log.receive(7, Identity { sender, number: 1 }, format!(r#"{{"a":{}}}"#, sender / 2))?;
+    /// }
+    /// let (of_two, more) = log.conflicts_of(Identity { sender: 2, number: 1 })?;
+    /// assert_eq!(of_two, r#"[{"first":[1,1],"second":[2,1],"places":["/a"]}]"#);
+    /// assert!(!more);
+    /// # Ok::<(), Error>(())
+    /// ```
+    ///
+    /// # Errors
+    ///
+    /// As of [`first_conflicts`](PatchLog::first_conflicts).
+    pub fn conflicts_of(&mut self, identity: Identity) -> Result<(String, bool), Error> {
+        let Identity { sender, number } = identity;
+        let (held, limit) = (&mut self.held, self.limit);
+        // SAFETY: as of `read`.
+        unsafe {
+            pairs_of(guess_after(0).min(limit), |out, capacity| {
+                raw::mergejoin_patch_log_conflicts_of(held, sender, number, out, capacity, limit)
+            })
+        }
     }
 
     /// Gives how many patches are stored. What a log takes, and what its calls cost, is bounded by this and by the lengths of the
@@ -302,6 +330,21 @@ impl PatchLog {
             text_of(guess, |out, capacity| call(held, out, capacity, limit))
         }
     }
+}
+
+/// Calls for the text of pairs, and gives whether a pair or a place is left out of it too.
+///
+/// # Safety
+///
+/// As of [`text_of`].
+unsafe fn pairs_of(
+    guess: usize,
+    call: impl FnMut(*mut u8, usize) -> Reply,
+) -> Result<(String, bool), Error> {
+    // SAFETY: the call is as this one wants it.
+    let (reply, text) = unsafe { reply_of(guess, call) }?;
+    let text = result_of(&reply, text)?;
+    Ok((text, reply.flags & MORE != 0))
 }
 
 impl DecideError {

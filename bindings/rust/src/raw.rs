@@ -263,6 +263,14 @@ extern "C" {
         capacity: usize,
         limit: usize,
     ) -> Reply;
+    pub(crate) fn mergejoin_patch_log_conflicts_of(
+        log: &mut Handle,
+        sender: u64,
+        number: u64,
+        out: *mut u8,
+        capacity: usize,
+        limit: usize,
+    ) -> Reply;
     pub(crate) fn mergejoin_patch_log_count(
         log: &mut Handle,
         out: *mut u8,

@@ -292,6 +292,26 @@ fn a_patch_log_counts_its_patches_and_gives_the_first_conflicts() {
 }
 
 #[test]
+fn a_patch_log_gives_the_conflicts_of_one_identity() {
+    let mut log = log_of_three();
+    log.receive(7, Identity { sender: 0, number: 9 }, r#"{"author":null,"title":5}"#).unwrap();
+    let pair = |[first, second]: [[u64; 2]; 2], place: &str| format!(r#"{{"first":{first:?},"second":{second:?},"places":["{place}"]}}"#).replace(", ", ",");
+    let with_one = pair([[0, 9], [1, 1]], "/author");
+    let with_two = pair([[0, 9], [2, 1]], "/author");
+    let both = pair([[1, 1], [2, 1]], "/author");
+    assert_eq!(log.conflicts_of(ONE), Ok((format!("[{with_one},{both}]"), false)));
+    assert_eq!(log.conflicts_of(TWO), Ok((format!("[{with_two},{both}]"), false)));
+    assert_eq!(log.conflicts_of(Identity { sender: 9, number: 9 }), Ok(("[]".to_owned(), false)));
+    // A pair weighs 64, and its place 143.
+    for (limit, text, more) in [(414, format!("[{with_one},{both}]"), false), (270, format!("[{with_one}]"), true), (63, "[]".to_owned(), true)] {
+        log.set_limit(limit);
+        assert_eq!(log.conflicts_of(ONE), Ok((text, more)), "{limit}");
+    }
+    log.set_limit(1);
+    assert_eq!(log.conflicts_of(ONE), Err(Error::TooLarge));
+}
+
+#[test]
 fn a_decision_begins_the_next_start() {
     let mut log = log_of_three();
     assert_eq!(log.decide(&[LAST, TWO, LAST]), Ok(()));

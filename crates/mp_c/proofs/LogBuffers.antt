@@ -4,10 +4,11 @@ use Rattle.std.proofs.lemmas.List.{append-nil}
 use Rattle.mp_tree.specs.Text.{text as compact}
 use Rattle.mp_replica.specs.Laws.{AlikeReportTheSame, AlikeShowTheSame}
 use Rattle.mp_replica.specs.Faults.{IsOutOfMemory}
-use Rattle.mp_replica.specs.LogTexts.{IsConflictsText, IsConflictsTextWithin, pairs_text}
+use Rattle.mp_replica.specs.LogTexts.{IsConflictsTextOf, IsConflictsTextWithinOf, pairs_text}
 use Rattle.mp_replica.specs.PatchLog.{AreAlike, HeldLog, Pair, Stored, stored_of}
 use Rattle.mp_replica.specs.declared.pairs_texts.PairsText.{PairsText}
 use Rattle.mp_c.specs.Private.Stopping.{pairs_answer, pairs_text_answer}
+use Rattle.mp_replica.specs.declared.message.Identity.{Identity}
 use Rattle.mp_replica.specs.declared.fault.LiveFault.{LiveFault}
 use Rattle.mp_replica.specs.declared.fault.LiveFault.TheVariants as live
 use Rattle.mp_c.specs.Laws.{HasRead, LogsAgreeInTheirBuffers}
@@ -111,17 +112,17 @@ agree_on_documents shown =
     agree_by GivesLogDocument (λ limit within log other text others alike gives also.
     gives.3 ∙ ap compact (shown log other gives.0 also.0 alike gives.1 also.1 gives.2 also.2) ∙ sym also.3)
 
-pub agree_on_conflicts : AlikeReportTheSame → LogsAgreeInTheirBuffers GivesConflicts
+pub agree_on_conflicts : AlikeReportTheSame → (of : Option Identity) → LogsAgreeInTheirBuffers (GivesConflicts of)
 unfolding GiveOneText
-agree_on_conflicts reported =
-    agree_by GivesConflicts (λ limit within log other text others alike gives also.
-    gives.is ∙ ap pairs_text (reported log other gives.pairs also.pairs alike gives.are_all also.are_all) ∙ sym also.is)
+agree_on_conflicts reported of =
+    agree_by (GivesConflicts of) (λ limit within log other text others alike gives also.
+    gives.is ∙ ap pairs_text (reported of log other gives.pairs also.pairs alike gives.are_all also.are_all) ∙ sym also.is)
 
 -- ---- conflicts within a limit
 
 -- where nothing is left out, it is the text of all pairs
-all_written : (limit : ℕ) (stored : Stored) (answer : List ℕ) → IsConflictsTextWithin limit stored answer false → IsConflictsText stored answer
-all_written limit stored answer within = record {
+all_written : (limit : ℕ) (of : Option Identity) (stored : Stored) (answer : List ℕ) → IsConflictsTextWithinOf limit of stored answer false → IsConflictsTextOf of stored answer
+all_written limit of stored answer within = record {
   pairs = within.pairs;
   are_all = within.first.all (λ cut. true≢false (sym (within.more_is.1 (inl cut))));
   is = within.text.is ∙ ap pairs_text (by within.text.rest refl);
@@ -131,19 +132,19 @@ all_written limit stored answer within = record {
     by [] is = sym (within.text.all ∙ ap (λ t. within.text.written ++ t) is ∙ append-nil within.text.written)
     by (pair ∷ rest) is = absurd (true≢false (sym (within.more_is.1 (inr (within.text.left_out.1 (λ none. let differ = sym is ∙ none in cc))))))
 
-pub gives_conflicts : (limit : ℕ) (log : HeldLog) (given : Result PairsText LiveFault) → MatchResult given (λ written. IsConflictsTextWithin limit (stored_of log) (string_bytes written.text) written.more) IsOutOfMemory
-    → GivesConflicts limit log (pairs_answer given)
-gives_conflicts limit log (Ok written) is = by written.more is
+pub gives_conflicts : (of : Option Identity) (limit : ℕ) (log : HeldLog) (given : Result PairsText LiveFault) → MatchResult given (λ written. IsConflictsTextWithinOf limit of (stored_of log) (string_bytes written.text) written.more) IsOutOfMemory
+    → GivesConflicts of limit log (pairs_answer given)
+gives_conflicts of limit log (Ok written) is = by written.more is
   where
-    by : (more : Bool) → IsConflictsTextWithin limit (stored_of log) (string_bytes written.text) more → GivesConflicts limit log (pairs_text_answer more (string_bytes written.text))
+    by : (more : Bool) → IsConflictsTextWithinOf limit of (stored_of log) (string_bytes written.text) more → GivesConflicts of limit log (pairs_text_answer more (string_bytes written.text))
     by true is = is
-    by false is = all_written limit (stored_of log) (string_bytes written.text) is
-gives_conflicts limit log (Err live.OutOfMemory) is = tt
-gives_conflicts limit log (Err (live.Document why)) is = absurd is
-gives_conflicts limit log (Err (live.Pointer why)) is = absurd is
-gives_conflicts limit log (Err live.Missing) is = absurd is
-gives_conflicts limit log (Err live.NoPatches) is = absurd is
-gives_conflicts limit log (Err live.Conflict) is = absurd is
-gives_conflicts limit log (Err live.Pending) is = absurd is
-gives_conflicts limit log (Err live.TooLarge) is = absurd is
-gives_conflicts limit log (Err live.NotKept) is = absurd is
+    by false is = all_written limit of (stored_of log) (string_bytes written.text) is
+gives_conflicts of limit log (Err live.OutOfMemory) is = tt
+gives_conflicts of limit log (Err (live.Document why)) is = absurd is
+gives_conflicts of limit log (Err (live.Pointer why)) is = absurd is
+gives_conflicts of limit log (Err live.Missing) is = absurd is
+gives_conflicts of limit log (Err live.NoPatches) is = absurd is
+gives_conflicts of limit log (Err live.Conflict) is = absurd is
+gives_conflicts of limit log (Err live.Pending) is = absurd is
+gives_conflicts of limit log (Err live.TooLarge) is = absurd is
+gives_conflicts of limit log (Err live.NotKept) is = absurd is

@@ -4,7 +4,7 @@ use Rattle.std.specs.List.{Contains}
 use Rattle.mp_tree.specs.Document.{Document, IsDocument, whole}
 use Rattle.mp_tree.specs.Look.{Path}
 use Rattle.mp_tree.specs.Text.{document_in, text as compact}
-use Rattle.mp_replica.specs.LogTexts.{IsConflictsText, IsConflictsTextWithin, IsNoLogText}
+use Rattle.mp_replica.specs.LogTexts.{IsConflictsTextOf, IsConflictsTextWithinOf, IsNoLogText}
 use Rattle.mp_replica.specs.Messages.{LogFollows, Becomes, Sent}
 use Rattle.mp_replica.specs.PatchLog.{AreFirstConflictsAt, Begins, HaveArrived, HeldLog, IsFirstMissing, IsFirstPair, Shows, Stored, start_of, stored_of}
 use Rattle.mp_replica.specs.declared.fault.LiveFault.TheVariants.{OutOfMemory}
@@ -60,12 +60,13 @@ GivesLogDocument limit log (handle_text shown) =
 GivesLogDocument limit log (handle_fault why) = IsNoLogText limit why log
 GivesLogDocument limit log answer = ⊥
 
--- the text of each two patches that conflict; or of those that come first within the limit, where a pair or a place is left out
-abbrev pub GivesConflicts : ℕ → HeldLog → HandleAnswer → Type 0
-GivesConflicts limit log (handle_text shown) = IsConflictsText (stored_of log) shown
-GivesConflicts limit log (handle_first_pairs shown) = IsConflictsTextWithin limit (stored_of log) shown true
-GivesConflicts limit log (handle_fault OutOfMemory) = ⊤
-GivesConflicts limit log answer = ⊥
+-- the text of each two patches that conflict and are asked for; or of those that come first within the limit, where a pair or
+-- a place is left out
+abbrev pub GivesConflicts : Option Identity → ℕ → HeldLog → HandleAnswer → Type 0
+GivesConflicts of limit log (handle_text shown) = IsConflictsTextOf of (stored_of log) shown
+GivesConflicts of limit log (handle_first_pairs shown) = IsConflictsTextWithinOf limit of (stored_of log) shown true
+GivesConflicts of limit log (handle_fault OutOfMemory) = ⊤
+GivesConflicts of limit log answer = ⊥
 
 -- how many patches are stored, as the text of a whole number
 abbrev pub GivesCount : HeldLog → HandleAnswer → Type 0

@@ -1,7 +1,9 @@
 //! Laws over replies: each function runs nothing, and its contract is the law.
+ghost use Rattle.std.specs.Prelude.{Option};
 ghost use Rattle.mp_c.specs.Laws.{EachBeginsTheLarger, EachHasOneReply, EachHasReport, LogsAgreeInTheirBuffers, ReplaysAgreeInTheirBuffers};
 ghost use Rattle.mp_c.specs.OnLogs.{GivesConflicts, GivesLogDocument};
 ghost use Rattle.mp_c.specs.Private.LawsOfTexts.{LawsOfTexts, PlaceLaws};
+ghost use Rattle.mp_replica.specs.declared.message.Identity.{Identity};
 
 use mp_replica::laws as live;
 use mp_texts::laws as texts;
@@ -16,11 +18,11 @@ pub fn replays_agree_in_their_buffers()
 }
 
 /// Patch logs agree: two logs of one start that store the same patches under the same identities, in whatever order they
-/// arrived, show the same bytes and report the same bytes, if each call has a result of which its limit left nothing out, and
-/// a buffer as long as it.
+/// arrived, show the same bytes and report the same bytes, of all that conflicts and of one identity, if each call has a result of
+/// which its limit left nothing out, and a buffer as long as it.
 pub fn logs_agree_in_their_buffers()
     ensures document { LogsAgreeInTheirBuffers GivesLogDocument }
-    ensures conflicts { LogsAgreeInTheirBuffers GivesConflicts }
+    ensures conflicts { (of : Option Identity) → LogsAgreeInTheirBuffers (GivesConflicts of) }
 {
     live::alike_logs_agree();
 }

@@ -23,9 +23,9 @@ mod version;
 pub use documents::{mergejoin_get, mergejoin_patch, mergejoin_rewrite};
 pub use lists::{mergejoin_join, mergejoin_merge, mergejoin_replay};
 pub use patch_log::{
-    mergejoin_patch_log_conflicts, mergejoin_patch_log_count, mergejoin_patch_log_decide,
-    mergejoin_patch_log_document, mergejoin_patch_log_free, mergejoin_patch_log_receive,
-    mergejoin_patch_log_start,
+    mergejoin_patch_log_conflicts, mergejoin_patch_log_conflicts_of, mergejoin_patch_log_count,
+    mergejoin_patch_log_decide, mergejoin_patch_log_document, mergejoin_patch_log_free,
+    mergejoin_patch_log_receive, mergejoin_patch_log_start,
 };
 pub use patch_log_handle::PatchLogHandle;
 pub use patches::{

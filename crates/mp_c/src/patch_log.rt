@@ -1,5 +1,5 @@
 //! Exports on a patch log that stays in memory.
-ghost use Rattle.std.specs.Prelude.{◌≡◌, MatchResult, None, Ok};
+ghost use Rattle.std.specs.Prelude.{◌≡◌, MatchResult, None, Some, Ok};
 ghost use Rattle.mp_tree.specs.Text.{document_in};
 ghost use Rattle.mp_tree.specs.View.{document};
 ghost use Rattle.mp_c.specs.OnHandles.{OfStarted};
@@ -165,13 +165,38 @@ pub extern "C" fn mergejoin_patch_log_conflicts(
     limit: usize,
 ) -> Reply
     ensures { HandleReplies limit status_document
-        (λ answer. OfStarted (OnlyReads (GivesConflicts limit)) log.old.value answer log.new.value)
+        (λ answer. OfStarted (OnlyReads (GivesConflicts None limit)) log.old.value answer
+        log.new.value)
         result out.old out.new }
 {
     let Some(held) = log.take(alloc) else {
         return report_live(Err(Stop::NotStarted), DOCUMENT, out, limit);
     };
     let answer = held.conflicts_text_within(alloc, limit);
+    log.put(alloc, held);
+    report_conflicts(answer, out, limit)
+}
+
+/// The text of those of these pairs that have one identity, as `mp_replica::PatchLog::conflicts_of_text_within` gives it.
+#[unsafe(no_mangle)]
+pub extern "C" fn mergejoin_patch_log_conflicts_of(
+    alloc: Global,
+    log: &mut PatchLogHandle,
+    sender: u64,
+    number: u64,
+    out: &mut [u8],
+    limit: usize,
+) -> Reply
+    ensures { HandleReplies limit status_document
+        (λ answer. OfStarted
+        (OnlyReads (GivesConflicts (Some (record { sender = sender; number = number })) limit))
+        log.old.value answer log.new.value)
+        result out.old out.new }
+{
+    let Some(held) = log.take(alloc) else {
+        return report_live(Err(Stop::NotStarted), DOCUMENT, out, limit);
+    };
+    let answer = held.conflicts_of_text_within(alloc, Identity { sender, number }, limit);
     log.put(alloc, held);
     report_conflicts(answer, out, limit)
 }

@@ -9,7 +9,7 @@ use Rattle.mp_merge.specs.Clash.{AreAllClashes}
 use Rattle.mp_merge.specs.Outcome.{IsOutcome}
 use Rattle.mp_replica.specs.Laws.{AlikeBeginTheSame, AlikeRefuseTheSame, AlikeReportTheSame, AlikeShowTheSame, LogsAreAlike}
 use Rattle.mp_replica.specs.Messages.{LogFollows, HaveOnePatchFor, Sent}
-use Rattle.mp_replica.specs.PatchLog.{AreAllPairs, ClashesWithNone, DoClash, HaveArrived, HeldLog, IsClashing, IsFirstMissing, IsFirstPair, Pair, Stored, StoresAlso, identities_of, start_of, stored_of}
+use Rattle.mp_replica.specs.PatchLog.{AreAllPairsOf, ClashesWithNone, DoClash, HaveArrived, HeldLog, IsAmong, IsClashing, IsFirstMissing, IsFirstPair, Pair, Stored, StoresAlso, identities_of, start_of, stored_of}
 use Rattle.mp_replica.specs.Private.LawsBelow.{MergeLaws}
 use Rattle.mp_replica.specs.declared.fault.DecideFault.TheVariants as decide
 use Rattle.mp_replica.specs.declared.message.Identity.{Identity}
@@ -150,17 +150,17 @@ module _ (laws : MergeLaws) where
     clash = λ agree. is.conflicts.some ((laws.none_if_compatible is.one is.other a.places is.conflicts.clashes).1 agree);
   }
 
-  reported_there : (stored there : Stored) (pairs others : List Pair) → Same stored there → AreAllPairs stored pairs → AreAllPairs there others → (a : Pair) → Contains pairs a → Contains others a
-  reported_there stored there pairs others same are also a at =
+  reported_there : (of : Option Identity) (stored there : Stored) (pairs others : List Pair) → Same stored there → AreAllPairsOf of stored pairs → AreAllPairsOf of there others → (a : Pair) → Contains pairs a → Contains others a
+  reported_there of stored there pairs others same are also a at =
       let is = All-contains (IsClashing stored) pairs a are.each at in
-      let found = unmapped identities_of others (identities_of a) (also.all a.first a.second is.in_order tt (clash_there stored there a same is)) in
+      let found = unmapped identities_of others (identities_of a) (also.all a.first a.second is.in_order (All-contains (λ pair. IsAmong of pair.first pair.second) pairs a are.among at) (clash_there stored there a same is)) in
       subst (Contains others) (sym (one_clashing stored there a found.0 same (sym found.2) is (All-contains (IsClashing there) others found.0 also.each found.1))) found.1
 
   pub alike_report_the_same : AlikeReportTheSame
-  alike_report_the_same one other pairs others alike are also =
+  alike_report_the_same of one other pairs others alike are also =
       same_risen _ pairs_total identities_of pairs others are.rising also.rising
-      (reported_there (stored_of one) (stored_of other) pairs others alike.stored are also)
-      (reported_there (stored_of other) (stored_of one) others pairs (λ i. sym (alike.stored i)) also are)
+      (reported_there of (stored_of one) (stored_of other) pairs others alike.stored are also)
+      (reported_there of (stored_of other) (stored_of one) others pairs (λ i. sym (alike.stored i)) also are)
 
 -- ---- what is refused
 

@@ -1,5 +1,5 @@
 -- Laws over runs of calls. Each is the contract of a function of the module `laws` that runs nothing.
-use Rattle.std.specs.Prelude.{◌≡◌, ◌↔◌, ℕ, List, None, MatchOption, option_map, ⊤}
+use Rattle.std.specs.Prelude.{◌≡◌, ◌↔◌, ℕ, List, None, Option, MatchOption, option_map, ⊤}
 use Rattle.std.specs.List.{All, Contains}
 use Rattle.mp_tree.specs.Document.{Document, IsDocument, IsReadable}
 use Rattle.mp_tree.specs.View.{document}
@@ -9,7 +9,7 @@ use Rattle.mp_replica.specs.Following.{Follows}
 use Rattle.mp_replica.specs.Held.{HeldPatches, HeldReplica, IsJoinOf}
 use Rattle.mp_replica.specs.Kept.{AreKeptPlaces, IsHeldBy}
 use Rattle.mp_replica.specs.Messages.{LogFollows, HaveOnePatchFor, HaveSameMessagesFor, Sent}
-use Rattle.mp_replica.specs.PatchLog.{AreAlike, AreAllPairs, Begins, HeldLog, IsDecideFault, Pair, Shows, start_of, stored_of}
+use Rattle.mp_replica.specs.PatchLog.{AreAlike, AreAllPairsOf, Begins, HeldLog, IsDecideFault, Pair, Shows, start_of, stored_of}
 use Rattle.mp_replica.specs.Taking.{HasTaken}
 use Rattle.mp_replica.specs.declared.fault.DecideFault.{DecideFault}
 use Rattle.mp_replica.specs.declared.message.Identity.{Identity}
@@ -82,10 +82,10 @@ abbrev pub AlikeShowTheSame : Type 0
 AlikeShowTheSame = (one other : HeldLog) (d e : Document) → AreAlike one other → IsDocument d → IsDocument e
     → Shows (start_of one) (stored_of one) d → Shows (start_of other) (stored_of other) e → d ≡ e
 
--- and report the same conflicts
+-- and report the same conflicts, of all patches and of one identity
 abbrev pub AlikeReportTheSame : Type 0
-AlikeReportTheSame = (one other : HeldLog) (pairs others : List Pair) → AreAlike one other
-    → AreAllPairs (stored_of one) pairs → AreAllPairs (stored_of other) others → pairs ≡ others
+AlikeReportTheSame = (of : Option Identity) (one other : HeldLog) (pairs others : List Pair) → AreAlike one other
+    → AreAllPairsOf of (stored_of one) pairs → AreAllPairsOf of (stored_of other) others → pairs ≡ others
 
 -- and after one decision, in whatever order it names the patches, they are alike again
 abbrev pub AlikeBeginTheSame : Type 0

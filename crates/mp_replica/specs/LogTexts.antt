@@ -1,10 +1,10 @@
 -- Texts of a patch log: what it shows, and the pairs that conflict.
-use Rattle.std.specs.Prelude.{◌≡◌, ◌≢◌, ◌<◌, ◌≤◌, ◌↔◌, ◌⊎◌, ◌++◌, ℕ, Bool, pos, List, [], ◌∷◌, IsTrue, codes, length, ⊤}
+use Rattle.std.specs.Prelude.{◌≡◌, ◌≢◌, ◌<◌, ◌≤◌, ◌↔◌, ◌⊎◌, ◌++◌, ℕ, Bool, pos, List, [], ◌∷◌, Option, None, IsTrue, codes, length, ⊤}
 use Rattle.mp_tree.specs.Document.{Document, IsDocument, list, item, no_items, whole}
 use Rattle.mp_tree.specs.Text.{text as compact}
 use Rattle.mp_texts.specs.Answers.{places_list}
 use Rattle.mp_replica.specs.Faults.{HasLongText}
-use Rattle.mp_replica.specs.PatchLog.{AreAllPairs, AreFirstPairs, HeldLog, Pair, Shows, Stored, start_of, stored_of}
+use Rattle.mp_replica.specs.PatchLog.{AreAllPairsOf, AreFirstPairsOf, HeldLog, Pair, Shows, Stored, start_of, stored_of}
 use Rattle.mp_replica.specs.declared.fault.LiveFault.{LiveFault}
 use Rattle.mp_replica.specs.declared.fault.LiveFault.TheVariants.{TooLarge, OutOfMemory}
 use Rattle.mp_replica.specs.declared.message.Identity.{Identity}
@@ -42,11 +42,15 @@ abbrev pub pairs_text : List Pair → List ℕ
 pairs_text [] = codes "[]"
 pairs_text (pair ∷ pairs) = codes "[" ++ pair_text pair ++ more_pairs_text pairs ++ codes "]"
 
--- the text of all pairs that conflict
-pub record IsConflictsText (stored : Stored) (answer : List ℕ) : Type 0 where
+-- the text of all pairs that conflict and are asked for
+pub record IsConflictsTextOf (of : Option Identity) (stored : Stored) (answer : List ℕ) : Type 0 where
   pub pairs : List Pair
-  pub are_all : AreAllPairs stored pairs
+  pub are_all : AreAllPairsOf of stored pairs
   pub is : answer ≡ pairs_text pairs
+
+-- of all pairs that conflict
+abbrev pub IsConflictsText : Stored → List ℕ → Type 0
+IsConflictsText = IsConflictsTextOf None
 
 -- the text of the pairs that come first: of as many as there are, or as it can have with at most so many bytes; that of no
 -- pair has two. `more` says whether a pair is left out
@@ -60,11 +64,16 @@ pub record IsTextOfFirstPairs (limit : ℕ) (pairs : List Pair) (answer : List �
       → limit < length (pairs_text (written ++ next ∷ []))
   pub left_out : IsTrue more ↔ (rest ≢ [])
 
--- of the pairs that come first within the limit; `more` says whether a pair or a place of all is left out
-pub record IsConflictsTextWithin (limit : ℕ) (stored : Stored) (answer : List ℕ) (more : Bool) : Type 0 where
+-- of the pairs that are asked for and come first within the limit; `more` says whether a pair or a place of all is left out
+pub record IsConflictsTextWithinOf (limit : ℕ) (of : Option Identity) (stored : Stored) (answer : List ℕ) (more : Bool)
+    : Type 0 where
   pub pairs : List Pair
   pub cut : Bool
-  pub first : AreFirstPairs limit stored pairs cut
+  pub first : AreFirstPairsOf limit of stored pairs cut
   pub left_out : Bool
   pub text : IsTextOfFirstPairs limit pairs answer left_out
   pub more_is : IsTrue more ↔ (IsTrue cut ⊎ IsTrue left_out)
+
+-- of all pairs
+abbrev pub IsConflictsTextWithin : ℕ → Stored → List ℕ → Bool → Type 0
+IsConflictsTextWithin limit = IsConflictsTextWithinOf limit None

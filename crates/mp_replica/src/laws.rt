@@ -71,8 +71,8 @@ pub fn logs_are_alike()
     ensures { LogsAreAlike }
 {}
 
-/// Two patch logs that are alike show the same document and report the same conflicts. After one decision they are alike again;
-/// and a decision that one refuses, for another reason than memory, the other refuses for that reason.
+/// Two patch logs that are alike show the same document and report the same conflicts, of all patches and of one identity. After one
+/// decision they are alike again; and a decision that one refuses, for another reason than memory, the other refuses for that reason.
 pub fn alike_logs_agree()
     ensures shown { AlikeShowTheSame }
     ensures reported { AlikeReportTheSame }

@@ -1,19 +1,20 @@
 //! A log of patches, over texts.
-ghost use Rattle.std.specs.Prelude.{◌≡◌, ◌≢◌, ◌∷◌, ◌++◌, ◌<◌, ◌≤◌, ℕ, List, [], None, Ok, IfOk, IfErr, OnErr, MatchResult, length, string_bytes};
+ghost use Rattle.std.specs.Prelude.{◌≡◌, ◌≢◌, ◌∷◌, ◌++◌, ◌<◌, ◌≤◌, ℕ, List, [], None, Option, Some, Ok, IfOk, IfErr, OnErr, MatchResult, length, map, string_bytes};
 ghost use Rattle.mp_tree.specs.Document.{Document, IsDocument};
 ghost use Rattle.mp_tree.specs.Text.{document_in, text as compact};
 ghost use Rattle.mp_replica.specs.Faults.{IsOutOfMemory, IsUnread};
-ghost use Rattle.mp_replica.specs.LogTexts.{IsConflictsText, IsConflictsTextWithin, IsNoLogText};
+ghost use Rattle.mp_replica.specs.LogTexts.{IsConflictsText, IsConflictsTextWithin, IsConflictsTextWithinOf, IsNoLogText};
 ghost use Rattle.mp_replica.specs.Messages.{LogFollows, Becomes, Sent};
-ghost use Rattle.mp_replica.specs.PatchLog.{Shows, start_of, stored_of};
+ghost use Rattle.mp_replica.specs.PatchLog.{AreFirstPairsOf, Shows, Stored, seen, start_of, stored_of};
 
 use crate::fault::LiveFault;
+use crate::first_pairs::FirstPairs;
 use crate::message::{Arrival, Identity, Message};
 use crate::pairs_texts::{PairsText, write_pairs, write_pairs_within};
 use crate::patch_log::PatchLog;
 use crate::reading::document_of;
 use crate::writing::text_within;
-use std::alloc::Global;
+use std::alloc::{AllocError, Global};
 
 impl PatchLog {
     /// A log that begins with the document of this text, and to which nothing has arrived.
@@ -117,10 +118,42 @@ impl PatchLog {
             (string_bytes written.text) written.more) IsOutOfMemory }
     {
         let found = self.conflicts_within(alloc, limit)?;
-        let PairsText { text, more } = write_pairs_within(alloc, found.pairs.as_slice(), limit)?;
-        Ok(PairsText {
-            text,
-            more: found.more || more,
-        })
+        Ok(write_first_pairs(alloc, found, limit)?)
     }
+
+    /// As [`PatchLog::conflicts_text_within`], of the pairs that [`PatchLog::conflicts_of`] gives. If no patch is stored under the
+    /// identity, the text is `[]`.
+    ///
+    /// ```text
+    /// log.conflicts_of_text_within(alloc, Identity { sender: 1, number: 1 }, 1000)  // the pairs of 1:1 alone
+    /// ```
+    pub fn conflicts_of_text_within(
+        &self,
+        alloc: Global,
+        identity: Identity,
+        limit: usize,
+    ) -> Result<PairsText, LiveFault>
+        ensures { MatchResult result (λ written. IsConflictsTextWithinOf limit (Some identity)
+            (stored_of self.now) (string_bytes written.text) written.more) IsOutOfMemory }
+    {
+        let found = self.conflicts_of(alloc, identity, limit)?;
+        Ok(write_first_pairs(alloc, found, limit)?)
+    }
+}
+
+// The text of the pairs that come first, and whether they leave something out, or it leaves out one of them.
+fn write_first_pairs(
+    alloc: Global,
+    found: FirstPairs,
+    limit: usize,
+) -> Result<PairsText, AllocError>
+    ensures { IfOk result (λ written. (of : Option Identity) (stored : Stored)
+        → AreFirstPairsOf limit of stored (map seen found.pairs.items) found.more
+        → IsConflictsTextWithinOf limit of stored (string_bytes written.text) written.more) }
+{
+    let PairsText { text, more } = write_pairs_within(alloc, found.pairs.as_slice(), limit)?;
+    Ok(PairsText {
+        text,
+        more: found.more || more,
+    })
 }

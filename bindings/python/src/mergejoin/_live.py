@@ -222,6 +222,11 @@ class ConflictingPair(NamedTuple):
     places: List[str]
 
 
+def _pairs(text: str) -> List[ConflictingPair]:
+    """The pairs of which this is the text."""
+    return [ConflictingPair(Identity(*pair["first"]), Identity(*pair["second"]), pair["places"]) for pair in json.loads(text)]
+
+
 class PatchLog:
     """A replica that stores the patches with their identities, so that it can follow a decision if some of them conflict.
 
@@ -297,8 +302,15 @@ class PatchLog:
         places alone.
         """
         text, more = self._held.conflicts(limit)
-        pairs = [ConflictingPair(Identity(*pair["first"]), Identity(*pair["second"]), pair["places"]) for pair in json.loads(text)]
-        return pairs, bool(more)
+        return _pairs(text), bool(more)
+
+    def conflicts_of(self, sender: int, number: int, *, limit: Optional[int] = None) -> Tuple[List[ConflictingPair], bool]:
+        """Return the same of the pairs with one identity: with which others its patch conflicts.
+
+        The list is empty if no patch is stored under it.
+        """
+        text, more = self._held.conflicts_of(sender, number, limit)
+        return _pairs(text), bool(more)
 
     def decide(self, chosen: Iterable[Tuple[int, int]], *, limit: Optional[int] = None) -> None:
         """End the start by the patches with these identities: what they make of it is the next start, and all patches are forgotten.

@@ -1,4 +1,4 @@
-use Rattle.std.proofs.Common.{ap, option_map, sym, ◌∙◌, refl, subst}
+use Rattle.std.proofs.Common.{None, ap, option_map, sym, ◌∙◌, refl, subst}
 use Rattle.mp_c.specs.OnLogs.{GivesConflicts, OnlyReads}
 use Rattle.mp_c.specs.Private.Stopping.{pairs_answer}
 use Rattle.mp_c.specs.Report.{status_document}
@@ -8,12 +8,12 @@ use Rattle.mp_c.proofs.patch_log.mergejoin_patch_log_conflicts.Goals as goal
 
 pub returns-in_default : goal.returns-in_default
 returns-in_default c =
-    not_started (OnlyReads (GivesConflicts c.args.limit)) c.args.limit status_document c.args.log.now.value c.take.new.self.value c.report_live.result c.args.out.now c.report_live.new.out (sym c.take.ensures.value ∙ ap (option_map (λ b. b.value)) c.in_default.is)
+    not_started (OnlyReads (GivesConflicts None c.args.limit)) c.args.limit status_document c.args.log.now.value c.take.new.self.value c.report_live.result c.args.out.now c.report_live.new.out (sym c.take.ensures.value ∙ ap (option_map (λ b. b.value)) c.in_default.is)
     c.take.ensures.rest c.report_live.ensures
 
 pub returns : goal.returns
 returns c =
-    put_back (OnlyReads (GivesConflicts c.args.limit)) c.args.limit status_document c.args.log.now.value c.put.new.self.value c.report_conflicts.result c.args.out.now c.report_conflicts.new.out c.in-Some.held.value c.in-Some.held.value
+    put_back (OnlyReads (GivesConflicts None c.args.limit)) c.args.limit status_document c.args.log.now.value c.put.new.self.value c.report_conflicts.result c.args.out.now c.report_conflicts.new.out c.in-Some.held.value c.in-Some.held.value
     (pairs_answer c.conflicts_text_within-answer.result) (sym c.take.ensures.value ∙ ap (option_map (λ b. b.value)) c.in-Some.is) c.put.ensures
-    (subst (λ log. GivesConflicts c.args.limit log (pairs_answer c.conflicts_text_within-answer.result)) c.deref.ensures (gives_conflicts c.args.limit c.deref.result.now c.conflicts_text_within-answer.result c.conflicts_text_within-answer.ensures), refl)
+    (subst (λ log. GivesConflicts None c.args.limit log (pairs_answer c.conflicts_text_within-answer.result)) c.deref.ensures (gives_conflicts None c.args.limit c.deref.result.now c.conflicts_text_within-answer.result c.conflicts_text_within-answer.ensures), refl)
     c.report_conflicts.ensures

@@ -1,21 +1,6 @@
-use Rattle.std.proofs.Common.{inl, inr, map, sym, string_bytes, ◌∙◌, subst, true≢false}
-use Rattle.mp_replica.specs.LogTexts.{IsTextOfFirstPairs}
-use Rattle.mp_replica.specs.PatchLog.{seen}
+use Rattle.std.proofs.Common.{None, Some}
+use Rattle.mp_replica.specs.PatchLog.{stored_of}
 use Rattle.mp_replica.proofs.patch_log.PatchLog.conflicts_text_within.Goals as goal
-use Rattle.mp_replica.proofs.patch_log.PatchLog.conflicts_text_within.Goals.{then-found, else-found}
 
 pub returns : goal.returns
-returns c = record {
-  pairs = map seen c.in_ok-found.found.pairs.items;
-  cut = c.in_ok-found.found.more;
-  first = c.in_ok-found.ensures;
-  left_out = c.in_ok-text.field-0.more;
-  text = subst (λ l. IsTextOfFirstPairs c.args.limit (map seen l) (string_bytes c.in_ok-text.field-0.text) c.in_ok-text.field-0.more) c.as_slice.ensures.value c.in_ok-text.ensures;
-  more_is = elim c.if-found.branch [
-    | then-found w ↦ (λ some. inl w.if-found.true, λ one. w.result-is ∙ w.if-found.true)
-    | else-found w ↦ (
-      λ some. inr (sym w.result-is ∙ some),
-      λ one. elim one [ inl cut ↦ absurd (true≢false (sym cut ∙ w.if-found.false)) | inr left ↦ w.result-is ∙ left ],
-    )
-  ];
-}
+returns c = c.in_ok-write_first_pairs.ensures None (stored_of c.args.self.now) c.in_ok-found.ensures
