@@ -173,7 +173,6 @@ def by_number():
     yield "patch", [], of_six("patch", [b"{}", COPIES]), NEVER
     yield "patch_log_receive", MANY, later("log_receive", 0, {"a": 3_000}, numbers=[0, 2, 0]), STORED
     yield "patch_log_conflicts", MANY, later("log_conflicts"), LISTED
-    yield "patch_log_conflicts_of", MANY, later("log_conflicts_of", numbers=[1, 2_999]), LISTED
     yield "patch_log_count", MANY, later("log_count"), text_of(3_000)
 
 
@@ -222,7 +221,7 @@ def test_each_call_that_takes_a_limit_is_attacked():
     """Each export of the header that has a limit, by its words."""
     heads = re.findall(r"^mergejoin_reply mergejoin_(\w+)\(([^)]*)\);", driving.HEADER.read_text("utf-8"), re.M)
     exports = {export for export, given in heads if re.search(r"\bsize_t limit$", given)}
-    assert {title.split()[0] for title in ATTACKS} == exports and len(exports) == 22
+    assert {title.split()[0] for title in ATTACKS} == exports and len(exports) == 23
 
 
 def test_a_kept_form_of_many_places_takes_what_its_length_says(driver):

@@ -146,7 +146,7 @@ def test_no_export_is_given_null(needs, directory, valgrind, compiler):
     exports = re.findall(r"^mergejoin_reply (\w+)\(", driving.HEADER.read_text("utf-8"), re.M)
     between = directory / "no_null.o"
     run(["gcc", "-std=gnu11", *driving.WARNINGS, f"-I{driving.HEADER.parent}", "-c", HERE / "no_null.c", "-o", between])
-    assert len(exports) == run(["nm", between]).count(" T __wrap_") == 22
+    assert len(exports) == run(["nm", between]).count(" T __wrap_") == 23
     wrapped = f"-Wl,{','.join(f'--wrap={name}' for name in exports)}"
     program = driving.compiled(directory, HERE / "header.c", between, wrapped, compiler=compiler.split())
     run([*MEMCHECK, program])
