@@ -117,8 +117,8 @@ impl PatchLog {
             → (result ≡ Ok Arrival.Early) × (self.new ≡ self.old) }
         ensures start { self.new.start ≡ self.old.start }
         ensures epoch { self.new.epoch ≡ self.old.epoch }
-        ensures received { IfOk result (λ _. (epoch : ℕ) (start : Document) (messages : List Sent)
-            → LogFollows epoch start messages self.old
+        ensures received { IfOk result (λ _. (epoch : ℕ) (start : Document)
+            (messages : List Sent) → LogFollows epoch start messages self.old
             → LogFollows epoch start (messages ++ sent message.now ∷ []) self.new) }
         ensures unchanged { OnErr result (self.new ≡ self.old) }
     {

@@ -57,7 +57,8 @@ impl PatchLog {
         ensures received { IfOk result (λ _. (start : Document) (messages : List Sent) (n : ℕ)
             → LogFollows n start messages self.old → (p : Document)
             → document_in patch.now ≡ Ok p → LogFollows n start
-            (messages ++ record { epoch = epoch; identity = identity; patch = p } ∷ []) self.new) }
+            (messages ++ record { epoch = epoch; identity = identity; patch = p } ∷ [])
+            self.new) }
         ensures fault { IfErr result (λ fault. IsUnread fault patch.now) }
         ensures unchanged { OnErr result (self.new ≡ self.old) }
     {
@@ -80,7 +81,8 @@ impl PatchLog {
     /// ```
     pub fn document_text(&mut self, alloc: Global, limit: usize) -> Result<String, LiveFault>
         ensures shows { MatchResult result (λ text. (d : Document) × IsDocument d
-            × Shows (start_of self.old) (stored_of self.old) d × (string_bytes text ≡ compact d))
+            × Shows (start_of self.old) (stored_of self.old) d
+            × (string_bytes text ≡ compact d))
             (λ fault. IsNoLogText limit fault self.old) }
         ensures within { IfOk result (λ text. length (string_bytes text) ≤ limit) }
         ensures unchanged { self.new ≡ self.old }

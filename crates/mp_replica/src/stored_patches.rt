@@ -203,7 +203,8 @@ impl StoredPatches {
         alloc: Global,
         chosen: &[Identity],
     ) -> Result<Option<(Identity, Identity)>, AllocError>
-        ensures { IfOk result (λ found. MatchOption found (AreApart (stored_in self.now) chosen.now)
+        ensures { IfOk result (λ found. MatchOption found
+            (AreApart (stored_in self.now) chosen.now)
             (λ pair. IsFirstPair (stored_in self.now) chosen.now pair.0 pair.1)) }
     {
         let wanted = set_of(alloc, chosen)?;
