@@ -230,8 +230,8 @@ mergejoin_reply mergejoin_rewrite(const uint8_t *document, size_t document_lengt
  * MERGEJOIN_DOCUMENT, MERGEJOIN_PATCH, MERGEJOIN_FORM, MERGEJOIN_REFUSED, MERGEJOIN_NO_MEMORY, MERGEJOIN_TOO_LARGE.
  */
 static inline
-mergejoin_reply mergejoin_patch(const uint8_t *document, size_t document_length, const uint8_t *patch, size_t patch_length,
-                                uint8_t *out, size_t capacity, size_t limit);
+mergejoin_reply mergejoin_patch(const uint8_t *document, size_t document_length, const uint8_t *json_patch,
+                                size_t json_patch_length, uint8_t *out, size_t capacity, size_t limit);
 
 /**
  * The part of the document that the JSON Pointer names.
@@ -612,10 +612,10 @@ static inline char *mergejoin_rewrite_new(const uint8_t *document, size_t docume
                  mergejoin_rewrite(document, document_length, patch, patch_length, out, capacity, limit));
 }
 
-static inline char *mergejoin_patch_new(const uint8_t *document, size_t document_length, const uint8_t *patch, size_t patch_length,
-                                        size_t limit, mergejoin_reply *reply) {
-  MERGEJOIN_NEW_(document_length + patch_length,
-                 mergejoin_patch(document, document_length, patch, patch_length, out, capacity, limit));
+static inline char *mergejoin_patch_new(const uint8_t *document, size_t document_length, const uint8_t *json_patch,
+                                        size_t json_patch_length, size_t limit, mergejoin_reply *reply) {
+  MERGEJOIN_NEW_(document_length + json_patch_length,
+                 mergejoin_patch(document, document_length, json_patch, json_patch_length, out, capacity, limit));
 }
 
 static inline char *mergejoin_get_new(const uint8_t *document, size_t document_length, const uint8_t *pointer,

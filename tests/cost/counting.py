@@ -32,6 +32,7 @@ LIVE = {
     "live receive on 0.8 MB": ("receive", 800_000, 100, 100),
     "live receive after 1000 patches": ("receive", 8_000, 1_000, 100),
     "live receive after 5000 patches": ("receive", 8_000, 5_000, 100),
+    "live log after 1000 patches": ("log", 8_000, 1_000, 100),
     "live add at the 10th patch": ("gather", 0, 10, 10),
     "live add at the 10000th patch": ("gather", 0, 10_000, 100),
 }

@@ -249,8 +249,9 @@ WORKS = {
 }
 # Texts of so many bytes in all, and the part of them that is the document. The greatest would weigh too much as a half of them.
 SIZES = ((8_000, 0.5), (1_000_000, 0.5), (8_000_000, 0.2))
-# The seconds of one processor that a patch takes at most within the limit, also while others have the memory's bandwidth.
-SECONDS = 10
+# The seconds of one processor that a patch takes at most within the limit, also while others have the memory's bandwidth: twice
+# what it took on a machine with little other work.
+SECONDS = 16
 
 
 def seconds():

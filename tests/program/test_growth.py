@@ -3,8 +3,8 @@ leaves.
 
 They are counted for each call that applies a JSON Patch, and given in walks of a list: what a first move takes, of which no depth
 is known. What is counted is what the moves take more where the document is large than where it is small. It may be no more walks
-than the shape has in SHAPES, which mp_patch needs to measure the document again. `apply_to_value` is called by the program, and the
-calls over a `Doc` by the tests of crates/test_vectors.
+than the shape has in SHAPES, which mp_patch needs to measure the document again. `program` is the call of `apply_within` that
+the program makes, and the tests of crates/test_vectors make the calls over a `Doc`.
 """
 
 import concurrent.futures
@@ -45,12 +45,12 @@ SHAPES = {
     "a small list in a large and deep document": (small_list, deep_rest, "/b/c", 200, 28),
 }
 LISTS = "lists to another name"
-# The calls, each with the shapes that it is given. Those that apply to a `Doc` share all but their loop.
+# The calls, each with the shapes that it is given. They share their loop.
 CALLS = {
-    "apply_to_value": [*SHAPES],
+    "program": [*SHAPES],
     "apply_owned": [*SHAPES],
     "apply": [LISTS, "lists a level down and up again"],
-    "apply_once": [LISTS, "lists a level down and up again"],
+    "apply_within": [LISTS, "lists a level down and up again"],
 }
 
 
@@ -62,7 +62,7 @@ def instructions(call, shape, moves, is_large):
     there = {"op": "move", "from": "/a", "path": other}
     back = {"op": "move", "from": other, "path": "/a"}
     text = json.dumps([document, [there, back] * (moves // 2)], separators=(",", ":"))
-    if call == "apply_to_value":
+    if call == "program":
         status, printed, count = counted([PROGRAM, "patch"], text)
         line = json.dumps(document, sort_keys=True, separators=(",", ":"))
         assert (status, printed) == (0, f"{line}\n"), "the moves do not lead back"

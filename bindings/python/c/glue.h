@@ -31,7 +31,7 @@ void texts_drop(texts *taken);
 /* Whether a call has as many arguments as it wants; if not, the error is set. */
 int has_arguments(Py_ssize_t count, Py_ssize_t wanted);
 
-/* Takes a limit: an int, or None for no limit. */
+/* Takes a limit: an int or what has __index__, or None for no limit. */
 int limit_of(PyObject *given, size_t *limit);
 
 /* The result of a call as a str, or the error that its reply reports. The text is freed. Without one memory ran out, unless an error is

@@ -237,10 +237,11 @@ static PyObject *patches_kept(live *self, PyObject *limit) { return read_text(se
 
 /* PatchLog */
 
-/* A number of 64 bits. */
+/* A number of 64 bits, of an int or of what has __index__. */
 static int number_of(PyObject *given, uint64_t *number) {
-  unsigned long long taken = PyLong_AsUnsignedLongLong(given);
-  *number = taken;
+  PyObject *taken = PyNumber_Index(given);
+  *number = taken ? PyLong_AsUnsignedLongLong(taken) : 0;
+  Py_XDECREF(taken);
   return PyErr_Occurred() ? -1 : 0;
 }
 

@@ -82,7 +82,9 @@ int has_arguments(Py_ssize_t count, Py_ssize_t wanted) {
 int limit_of(PyObject *given, size_t *limit) {
   *limit = SIZE_MAX;
   if (given == Py_None) return 0;
-  *limit = PyLong_AsSize_t(given);
+  PyObject *taken = PyNumber_Index(given);
+  *limit = taken ? PyLong_AsSize_t(taken) : 0;
+  Py_XDECREF(taken);
   return PyErr_Occurred() ? -1 : 0;
 }
 

@@ -9,6 +9,7 @@ import sys
 import threading
 import tracemalloc
 import unittest
+import weakref
 
 import mergejoin
 from mergejoin import Arrival, Conflict, InputError, Missing, NoPatches, Patches, PatchLog, Refused, Replica, TooLarge
@@ -16,6 +17,34 @@ from mergejoin import Arrival, Conflict, InputError, Missing, NoPatches, Patches
 START = '{"title": "Notes", "tags": ["a"]}'
 ADA, BOB, UNTITLED = '{"author": "Ada"}', '{"author": "Bob"}', '{"title": null}'
 MOST = 2**64 - 1
+
+
+class Index:
+    def __init__(self, number):
+        self.number = number
+
+    def __index__(self):
+        return self.number
+
+
+class OpenPatches(Patches):
+    def __init__(self, notes):
+        super().__init__()
+        self.notes = notes
+
+
+class OpenReplica(Replica):
+    def __init__(self, start, notes):
+        super().__init__(start)
+        self.notes = notes
+
+
+class ClosedReplica(Replica):
+    __slots__ = ("notes", "__unset")
+
+    def __init__(self, start, notes):
+        super().__init__(start)
+        self.notes = notes
 
 
 def text(chance):
@@ -61,7 +90,46 @@ class Replicas(unittest.TestCase):
     def test_a_log_is_not_copied(self):
         log = PatchLog(1, START)
         for call in (copy.copy, copy.deepcopy, pickle.dumps):
-            self.assertRaises(TypeError, call, log)
+            with self.assertRaises(TypeError) as raised:
+                call(log)
+            self.assertEqual(str(raised.exception), "a PatchLog is neither pickled nor copied: give its messages to a new one")
+        self.assertEqual(repr(log), '<mergejoin.PatchLog 1 {"tags":["a"],"title":"Notes"}>')
+
+    def test_what_a_subclass_adds_is_kept(self):
+        """Whatever it wants when it begins, and whether it has slots or attributes."""
+        patches, open_replica, closed_replica = OpenPatches(["a"]), OpenReplica(START, ["a"]), ClosedReplica(START, ["a"])
+        patches.add(ADA)
+        open_replica.receive(ADA)
+        for it in (patches, open_replica, closed_replica):
+            copies = [pickle.loads(pickle.dumps(it, protocol)) for protocol in range(pickle.HIGHEST_PROTOCOL + 1)]
+            for again in (*copies, copy.deepcopy(it), copy.copy(it)):
+                self.assertEqual((type(again), again, again.notes), (type(it), it, ["a"]))
+            self.assertIs(copy.copy(it).notes, it.notes)
+            self.assertIsNot(copy.deepcopy(it).notes, it.notes)
+
+    def test_what_0_3_pickled(self):
+        """The class, its arguments, and one text as the state."""
+        for kind, arguments, state in ((Replica, ('{"author":"Ada"}',), ADA), (Replica, (START,), None), (Patches, (), ADA), (Patches, (), "")):
+            again, wanted = kind(*arguments), kind(*arguments)
+            if state is not None:
+                again.__setstate__(state)
+            if state:
+                (wanted.receive if kind is Replica else wanted.add)(state)
+            self.assertEqual(again, wanted)
+
+    def test_each_may_be_referred_to_weakly(self):
+        for it in (Replica(START), Patches(), PatchLog(0, START)):
+            self.assertIs(weakref.ref(it)(), it)
+
+    def test_a_number_is_what_has_an_index(self):
+        log = PatchLog(Index(7), START)
+        self.assertIs(log.receive(Index(7), (Index(1), Index(2)), ADA), Arrival.STORED)
+        self.assertEqual((log.epoch, log.conflicts_of((Index(1), Index(2)), limit=Index(2))), (7, ([], False)))
+        self.assertRaises(TooLarge, log.document, limit=Index(5))
+        log.decide([(Index(1), Index(2))])
+        self.assertEqual(log.epoch, 8)
+        for wrong in (1.0, "1", None):
+            self.assertRaises(TypeError, PatchLog, wrong, START)
 
     def test_replicas_compare(self):
         one, other = Replica(START), Replica(START)
@@ -137,13 +205,14 @@ class Logs(unittest.TestCase):
         log = self.log()
         log.receive(7, (0, 9), '{"author": null, "title": 5}')
         with_one, with_two, both = (((0, 9), (1, 1), ["/author"]), ((0, 9), (2, 1), ["/author"]), ((1, 1), (2, 1), ["/author"]))
-        self.assertEqual(log.conflicts_of(1, 1), ([with_one, both], False))
-        self.assertEqual(log.conflicts_of(*log.conflicts()[-1].second), ([with_two, both], False))
-        self.assertEqual(log.conflicts_of(9, 9), ([], False))
+        self.assertEqual(log.conflicts_of((1, 1)), ([with_one, both], False))
+        self.assertEqual(log.conflicts_of(log.conflicts()[-1].second), ([with_two, both], False))
+        self.assertEqual(log.conflicts_of((9, 9)), ([], False))
         for limit, pairs in ((414, [with_one, both]), (413, [with_one, (*both[:2], [])]), (270, [with_one]), (63, []), (2, [])):
-            self.assertEqual(log.conflicts_of(1, 1, limit=limit), (pairs, limit < 414))
-        self.assertRaises(TooLarge, log.conflicts_of, 1, 1, limit=1)
-        self.assertRaises(OverflowError, log.conflicts_of, 1, -1)
+            self.assertEqual(log.conflicts_of((1, 1), limit=limit), (pairs, limit < 414))
+        self.assertRaises(TooLarge, log.conflicts_of, (1, 1), limit=1)
+        self.assertRaises(OverflowError, log.conflicts_of, (1, -1))
+        self.assertRaises(TypeError, log.conflicts_of, (1,))
 
     def test_a_decision_that_is_refused(self):
         log = self.log()

@@ -108,11 +108,11 @@ class Groups(unittest.TestCase):
 
     def test_it_pickles_as_one_text(self):
         patches = Patches()
-        self.assertEqual(patches.__reduce__()[2], "")
+        self.assertEqual(patches.__reduce__()[1][1], "")
         self.assertRaises(NoPatches, pickle.loads(pickle.dumps(patches)).text)
         for number in range(500):
             patches.add(f'{{"n{number}": [{number}]}}')
-        self.assertEqual(patches.__reduce__()[2], patches.text())
+        self.assertEqual(patches.__reduce__()[1][1], patches.text())
         self.assertLess(len(pickle.dumps(patches)), len(patches.text()) + 100)
         again = pickle.loads(pickle.dumps(patches))
         self.assertEqual((again.text(), again), (patches.text(), patches))

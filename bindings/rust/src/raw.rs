@@ -140,8 +140,8 @@ extern "C" {
     pub(crate) fn mergejoin_patch(
         document: *const u8,
         document_length: usize,
-        patch: *const u8,
-        patch_length: usize,
+        json_patch: *const u8,
+        json_patch_length: usize,
         out: *mut u8,
         capacity: usize,
         limit: usize,

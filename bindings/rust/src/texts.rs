@@ -104,8 +104,8 @@ where
 /// edits.
 ///
 /// ```
-/// let operations = mergejoin::rewrite(r#"{"a":1}"#, r#"{"a":null}"#)?;
-/// assert_eq!(operations, r#"[{"op":"test","path":"/a","value":1},{"op":"remove","path":"/a"}]"#);
+/// let json_patch = mergejoin::rewrite(r#"{"a":1}"#, r#"{"a":null}"#)?;
+/// assert_eq!(json_patch, r#"[{"op":"test","path":"/a","value":1},{"op":"remove","path":"/a"}]"#);
 /// # Ok::<(), mergejoin::Error>(())
 /// ```
 ///
@@ -127,8 +127,8 @@ pub fn rewrite(document: impl AsRef<[u8]>, patch: impl AsRef<[u8]>) -> Result<St
 /// # Errors
 ///
 /// [`Error::Document`], [`Error::Patch`], [`Error::Form`] and [`Error::Refused`] are looked for in this order.
-pub fn patch(document: impl AsRef<[u8]>, operations: impl AsRef<[u8]>) -> Result<String, Error> {
-    FREE.patch(document, operations)
+pub fn patch(document: impl AsRef<[u8]>, json_patch: impl AsRef<[u8]>) -> Result<String, Error> {
+    FREE.patch(document, json_patch)
 }
 
 /// Gives the part of the document that the JSON Pointer names.
@@ -223,12 +223,12 @@ impl Within {
     pub fn patch(
         self,
         document: impl AsRef<[u8]>,
-        operations: impl AsRef<[u8]>,
+        json_patch: impl AsRef<[u8]>,
     ) -> Result<String, Error> {
         self.on_texts(
             raw::mergejoin_patch,
             document.as_ref(),
-            operations.as_ref(),
+            json_patch.as_ref(),
             1,
         )
     }

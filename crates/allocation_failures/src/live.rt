@@ -81,36 +81,46 @@ fn watch_conflicts_text(alloc: Global) -> Option<Seen> {
     Some(of_text(given, PLACES))
 }
 
-/// Whether the message of this patch is stored.
-fn stores(alloc: Global, log: &mut PatchLog, identity: Identity, text: &str) -> Option<()> {
+/// The message of this patch.
+fn message_of(alloc: Global, identity: Identity, text: &str) -> Option<Message> {
     let patch = doc_of(alloc, text)?;
-    let message = Message {
+    Some(Message {
         epoch: EPOCH,
         identity,
         patch,
-    };
-    match log.receive(alloc, &message) {
-        Ok(Arrival::Stored) => Some(()),
-        _ => None,
+    })
+}
+
+/// Of a log that stores a message. What it makes then asks for memory too, and a refusal of that is no error: so it is watched.
+fn stores(alloc: Global, log: &mut PatchLog, message: &Message) -> Seen {
+    match log.receive(alloc, message) {
+        Ok(arrival) => Seen::answer_if(arrival == Arrival::Stored),
+        Err(_) => Seen::NoMemory,
     }
 }
 
-/// A log that has received `BEFORE`.
-fn log_of(alloc: Global) -> Option<PatchLog> {
-    let start = doc_of(alloc, START)?;
-    let mut log = PatchLog::new(alloc, EPOCH, start);
-    stores(alloc, &mut log, FIRST, BEFORE)?;
-    Some(log)
-}
-
 fn watch_log_conflicts_text(alloc: Global) -> Option<Seen> {
-    let mut log = log_of(alloc)?;
-    stores(alloc, &mut log, SECOND, CLASHING)?;
+    let start = doc_of(alloc, START)?;
+    let first = message_of(alloc, FIRST, BEFORE)?;
+    let second = message_of(alloc, SECOND, CLASHING)?;
+    let mut log = PatchLog::new(alloc, EPOCH, start);
+    for message in [&first, &second] {
+        let seen = stores(alloc, &mut log, message);
+        if seen != Seen::Answer {
+            return Some(seen);
+        }
+    }
     Some(of_text(log.conflicts_text(alloc), PAIRS))
 }
 
 fn watch_log_document_text(alloc: Global) -> Option<Seen> {
-    let mut log = log_of(alloc)?;
+    let start = doc_of(alloc, START)?;
+    let first = message_of(alloc, FIRST, BEFORE)?;
+    let mut log = PatchLog::new(alloc, EPOCH, start);
+    let seen = stores(alloc, &mut log, &first);
+    if seen != Seen::Answer {
+        return Some(seen);
+    }
     Some(of_text(log.document_text(alloc, usize::MAX), SHOWN_BEFORE))
 }
 
@@ -123,9 +133,15 @@ fn shows(alloc: Global, log: &mut PatchLog, wanted: &Doc) -> bool {
 }
 
 fn watch_log_receive_text(alloc: Global) -> Option<Seen> {
-    let mut log = log_of(alloc)?;
+    let start = doc_of(alloc, START)?;
+    let first = message_of(alloc, FIRST, BEFORE)?;
     let wanted = two_docs_of(alloc, [SHOWN, SHOWN_BEFORE])?;
     let [after, before] = &wanted;
+    let mut log = PatchLog::new(alloc, EPOCH, start);
+    let seen = stores(alloc, &mut log, &first);
+    if seen != Seen::Answer {
+        return Some(seen);
+    }
     let arrival = log.receive_text(alloc, EPOCH, SECOND, PATCH.as_bytes());
     Some(match arrival {
         Ok(Arrival::Stored) => Seen::answer_if(shows(alloc, &mut log, after)),

@@ -1,7 +1,7 @@
 //! The calls of mp_merge that take memory. Each limit is what the answer weighs, or a little less.
 use crate::preparing::{doc_of, docs_of, three_docs_of, two_docs_of, values_of};
 use crate::seen::{Seen, are_pointers, are_same, has_tokens};
-use mp_merge::{Conflicts, ConvergeFault, Converged, JoinFault, ListWithinFault, RewriteFault};
+use mp_merge::{Conflicts, ConvergeFault, Converged, JoinFault, ListFault, RewriteFault};
 use mp_patch::Op;
 use mp_tree::Doc;
 use std::alloc::{AllocError, Global};
@@ -43,8 +43,7 @@ const EDITS: usize = 1_484;
 
 /// The names that `watch` takes.
 pub const CALLS: &[&str] = &[
-    "conflict_values",
-    "conflict_values_within",
+    "conflict_within",
     "converge",
     "join",
     "join_all_within",
@@ -57,8 +56,7 @@ pub const CALLS: &[&str] = &[
 /// Watches the call of this name, if there is one.
 pub fn watch(alloc: Global, name: &str) -> Option<Option<Seen>> {
     Some(match name {
-        "conflict_values" => watch_conflict_values(alloc),
-        "conflict_values_within" => watch_conflict_values_within(alloc),
+        "conflict_within" => watch_conflict_within(alloc),
         "converge" => watch_converge(alloc),
         "join" => watch_join(alloc),
         "join_all_within" => watch_join_all_within(alloc),
@@ -78,17 +76,6 @@ fn watch_merge_owned(alloc: Global) -> Option<Seen> {
     })
 }
 
-fn watch_conflict_values(alloc: Global) -> Option<Seen> {
-    let patches = values_of(alloc, CLASHING)?;
-    let [p, q] = patches.as_slice() else {
-        return None;
-    };
-    Some(match mp_merge::conflict_values(alloc, p, q) {
-        Ok(places) => Seen::answer_if(are_pointers(places.as_slice(), PLACES)),
-        Err(_) => Seen::NoMemory,
-    })
-}
-
 /// Of the two patches of `CLASHING`: the first two places.
 fn of_conflicts(given: Result<Conflicts, AllocError>) -> Seen {
     match given {
@@ -99,12 +86,12 @@ fn of_conflicts(given: Result<Conflicts, AllocError>) -> Seen {
     }
 }
 
-fn watch_conflict_values_within(alloc: Global) -> Option<Seen> {
+fn watch_conflict_within(alloc: Global) -> Option<Seen> {
     let patches = values_of(alloc, CLASHING)?;
     let [p, q] = patches.as_slice() else {
         return None;
     };
-    Some(of_conflicts(mp_merge::conflict_values_within(alloc, p, q, TWO_PLACES)))
+    Some(of_conflicts(mp_merge::conflict_within(alloc, p, q, TWO_PLACES)))
 }
 
 /// Of a pair that has the join `wanted`.
@@ -145,10 +132,10 @@ fn watch_join_of_clashing(alloc: Global) -> Option<Seen> {
 }
 
 /// Of a list that has the answer `wanted`.
-fn of_list(given: Result<Doc, ListWithinFault>, wanted: &Doc) -> Seen {
+fn of_list(given: Result<Doc, ListFault<Conflicts>>, wanted: &Doc) -> Seen {
     match given {
         Ok(doc) => Seen::answer_if(doc.same(wanted)),
-        Err(ListWithinFault::OutOfMemory) => Seen::NoMemory,
+        Err(ListFault::OutOfMemory) => Seen::NoMemory,
         Err(_) => Seen::Wrong,
     }
 }
@@ -163,11 +150,10 @@ fn watch_join_all_within(alloc: Global) -> Option<Seen> {
 }
 
 fn watch_replay_within(alloc: Global) -> Option<Seen> {
-    let docs = three_docs_of(alloc, [START, START, OUTCOME])?;
+    let [start, wanted] = two_docs_of(alloc, [START, OUTCOME])?;
     let patches = docs_of(alloc, PATCHES)?;
-    let [start, before, wanted] = &docs;
     let given = mp_merge::replay_within(alloc, start, patches.as_slice(), 0);
-    Some(of_list(given, wanted).with(start.same(before)))
+    Some(of_list(given, &wanted))
 }
 
 /// Whether the edits test and remove `old`, and add `new`. It takes no memory.

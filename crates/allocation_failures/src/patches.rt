@@ -9,8 +9,11 @@ use std::alloc::Global;
 const FORM: &str = r#"[{"op":"move","path":"/b","from":"/a"}]"#;
 
 /// A patch in which each operation has something to do.
-const LONG_FORM: &str =
-    r#"[{"op":"add","path":"/l/-","value":{"x":[3]}},{"op":"test","path":"/n","value":"t"},{"op":"copy","from":"/n","path":"/l/0"},{"op":"replace","path":"/n","value":[null]},{"op":"move","from":"/l/1","path":"/m"},{"op":"remove","path":"/l/1"}]"#;
+const LONG_FORM: &str = concat!(
+    r#"[{"op":"add","path":"/l/-","value":{"x":[3]}},{"op":"test","path":"/n","value":"t"},"#,
+    r#"{"op":"copy","from":"/n","path":"/l/0"},{"op":"replace","path":"/n","value":[null]},"#,
+    r#"{"op":"move","from":"/l/1","path":"/m"},{"op":"remove","path":"/l/1"}]"#,
+);
 
 const DOC: &str = r#"{"l":[1,2],"n":"t"}"#;
 
@@ -22,8 +25,6 @@ const RESULT: usize = 2_997;
 /// The names that `watch` takes.
 pub const CALLS: &[&str] = &[
     "apply",
-    "apply_once",
-    "apply_once_within",
     "apply_within",
     "copy",
     "fifth_push",
@@ -36,8 +37,6 @@ pub const CALLS: &[&str] = &[
 pub fn watch(alloc: Global, name: &str) -> Option<Option<Seen>> {
     Some(match name {
         "apply" => watch_apply(alloc),
-        "apply_once" => watch_apply_once(alloc),
-        "apply_once_within" => watch_apply_once_within(alloc),
         "apply_within" => watch_apply_within(alloc),
         "copy" => watch_copy(alloc),
         "fifth_push" => watch_fifth_push(alloc),
@@ -159,26 +158,10 @@ fn watch_apply(alloc: Global) -> Option<Seen> {
     Some(seen.with(doc.same(before)))
 }
 
-/// It calls `apply_owned_within` with a copy.
 fn watch_apply_within(alloc: Global) -> Option<Seen> {
     let patch = long_patch(alloc)?;
-    let docs = three_docs_of(alloc, [DOC, DOC, END])?;
-    let [doc, before, end] = &docs;
-    let seen = of_application_within(mp_patch::apply_within(alloc, doc, &patch, RESULT), end);
-    Some(seen.with(doc.same(before)))
-}
-
-fn watch_apply_once(alloc: Global) -> Option<Seen> {
-    let patch = long_patch(alloc)?;
     let doc = doc_of(alloc, DOC)?;
     let end = doc_of(alloc, END)?;
-    Some(of_application(mp_patch::apply_once(alloc, doc, patch), &end))
-}
-
-fn watch_apply_once_within(alloc: Global) -> Option<Seen> {
-    let patch = long_patch(alloc)?;
-    let doc = doc_of(alloc, DOC)?;
-    let end = doc_of(alloc, END)?;
-    let given = mp_patch::apply_once_within(alloc, doc, patch, RESULT);
+    let given = mp_patch::apply_within(alloc, doc, patch.into_ops(), RESULT);
     Some(of_application_within(given, &end))
 }

@@ -1,6 +1,7 @@
 //! The calls that take no memory.
 use crate::preparing::{
-    doc_of, patch_of, pointer_of, three_docs_of, two_docs_of, two_pointers_of, value_of, values_of,
+    doc_of, docs_of, patch_of, pointer_of, three_docs_of, two_docs_of, two_pointers_of, value_of,
+    values_of,
 };
 use crate::seen::{Seen, has_tokens};
 use mp_patch::JsonPatch;
@@ -15,9 +16,9 @@ const PATCHES: &str = r#"[{"a":{"x":1}},{"a":{"y":null}},{"a":{"x":2}}]"#;
 
 /// The names that `watch` takes.
 pub const CALLS: &[&str] = &[
-    "compatible_values",
+    "compatible",
     "edit_part",
-    "edit_value_part",
+    "edit_part_in",
     "get_mut",
     "same_patch",
     "tokens",
@@ -26,9 +27,9 @@ pub const CALLS: &[&str] = &[
 /// Watches the call of this name, if there is one.
 pub fn watch(alloc: Global, name: &str) -> Option<Option<Seen>> {
     Some(match name {
-        "compatible_values" => watch_compatible_values(alloc),
+        "compatible" => watch_compatible(alloc),
         "edit_part" => watch_edit_part(alloc),
-        "edit_value_part" => watch_edit_value_part(alloc),
+        "edit_part_in" => watch_edit_part_in(alloc),
         "get_mut" => watch_get_mut(alloc),
         "same_patch" => watch_same_patch(alloc),
         "tokens" => watch_tokens(alloc),
@@ -76,14 +77,14 @@ fn set_to_nine(doc: &mut Doc, pointer: &Pointer) -> bool {
     }
 }
 
-fn watch_edit_value_part(alloc: Global) -> Option<Seen> {
+fn watch_edit_part_in(alloc: Global) -> Option<Seen> {
     let mut value = value_of(alloc, r#"{"a":[1,2]}"#)?;
     let pointer = pointer_of(alloc, "/a/1")?;
     let wanted = values_of(alloc, r#"[{"a":[1,null]},2]"#)?;
     let [left, taken] = wanted.as_slice() else {
         return None;
     };
-    let part = mp_pointer::edit_value_part(&mut value, &pointer, pointer.len(), |part| {
+    let part = mp_pointer::edit_part_in(&mut value, &pointer, pointer.len(), |part| {
         mem::replace(part, Value::Null)
     });
     Some(match part {
@@ -129,11 +130,11 @@ fn watch_same_patch(alloc: Global) -> Option<Seen> {
     Some(Seen::answer_if(patch.same(equal) && !patch.same(other)))
 }
 
-fn watch_compatible_values(alloc: Global) -> Option<Seen> {
-    let values = values_of(alloc, PATCHES)?;
-    let [p, q, other] = values.as_slice() else {
+fn watch_compatible(alloc: Global) -> Option<Seen> {
+    let patches = docs_of(alloc, PATCHES)?;
+    let [p, q, other] = patches.as_slice() else {
         return None;
     };
-    let joinable = mp_merge::compatible_values(p, q) && mp_merge::compatible_values(p, p);
-    Some(Seen::answer_if(joinable && !mp_merge::compatible_values(p, other)))
+    let joinable = mp_merge::compatible(p, q) && mp_merge::compatible(p, p);
+    Some(Seen::answer_if(joinable && !mp_merge::compatible(p, other)))
 }

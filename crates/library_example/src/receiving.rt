@@ -147,7 +147,7 @@ pub fn shown_after(
         }
         let _delivery = replica.receive(alloc, message);
     }
-    match replica.replica().shown() {
+    match replica.replica().document() {
         Some(shown) => Ok(shown.copy(alloc)?),
         None => Err(JoinFault::OutOfMemory),
     }

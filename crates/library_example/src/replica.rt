@@ -5,7 +5,7 @@ ghost use Rattle.mp_tree.specs.View.{document};
 ghost use Rattle.mp_pointer.specs.Part.{part};
 ghost use Rattle.mp_pointer.specs.Spelling.{Tokens, IsPointerFault, spell};
 ghost use Rattle.mp_patch.specs.View.{operations_of};
-ghost use Rattle.mp_merge.specs.Lists.{AreWithin, IsJoinAllFault};
+ghost use Rattle.mp_merge.specs.Lists.{AreNoDeeper, IsJoinAllFault};
 ghost use Rattle.library_example.specs.Peers.{LeadsToOutcome, RewritesJoin};
 ghost use Rattle.library_example.specs.Shown.{IsNotShown, IsShown};
 
@@ -33,7 +33,7 @@ pub fn show(alloc: Global, start: &[u8], patches: &[u8]) -> Result<String, ShowF
 pub fn for_a_peer(alloc: Global, start: &Doc, patches: &[Doc]) -> Result<JsonPatch, ListFault>
     ensures rewriting { IfOk result (λ edits. RewritesJoin (document start.now)
         (map document patches.now) (operations_of edits)) }
-    ensures runs { AreWithin depth_limit (map document patches.now) → IfOk result (λ edits.
+    ensures runs { AreNoDeeper depth_limit (map document patches.now) → IfOk result (λ edits.
         LeadsToOutcome (document start.now) (map document patches.now) (operations_of edits)) }
     ensures refused { IfErr result (λ fault. IsJoinAllFault fault (map document patches.now)) }
 {

@@ -1,6 +1,7 @@
 -- Steps of the walks of `BoxAt` and of the handles. Assumes `Logic`.
 --     one                    the machine value of a struct of one field
---     box_at_out, box_at_in  a `BoxAt` by value is what it owns at its pointer, and the other way about
+--     pointer_out            a struct of one pointer by value, a `BoxAt` or a handle, is what it owns at its pointer
+--     pointer_in             and the other way about
 --     box_at_cases           it holds nothing, at null, or a box, at a pointer that may be compared with null
 use Rattle.std.proofs.Common.{◌≡◌, ℕ, Option, Some, None, List, [], ◌∷◌, ◌++◌, refl, subst, Bool, true, false}
 use lib.Dec.{T}
@@ -9,6 +10,7 @@ use seplogic.Ra.Ura.{Ura}
 use mir.Raw.{raw as bare}
 use mir.Syntax.{Dict, impl, tcons, tnil, dnil}
 use mir.Val.{Val, vstruct, vcons, vnil, of_list}
+use base.Fml.{Fml, fsep}
 use base.Logic.{ent, guard, via, guard_i, fst∗, snd∗, never}
 use types.Logic.{Logic, sem}
 use types.Kit.{Item, Goal, Seq, Step, step, ‵, given, ◌$◌, drop, learn, use1, fsplit, fjoin, fpick, fpack, feq_l, feq_i}
@@ -21,8 +23,8 @@ use denote.Param.Laws.{Laws, arg_laws}
 use denote.Exit
 use denote.RawPtr.{Ptr, block_ptr, null_ptr, ptr_val, in_a_block, Testable}
 use denote.Steps.{nothing}
-use denote.Struct.Struct.{within}
-use denote.Struct.Owning.{shape}
+use denote.Struct.Struct.{Shape, Struct, within}
+use denote.Struct.Owning.{Owning}
 use Rattle.std.specs.Ptr.{points_to}
 use Rattle.std.specs.Box.Ownership.{box_owns}
 use Rattle.std.specs.declared.alloc.Global.{Global}
@@ -30,7 +32,6 @@ use Rattle.std.specs.contracts.alloc.Global as heap
 use Rattle.std.proofs.alloc.Global.TheLaws as heap_laws
 use Rattle.std.proofs.GlobalToken.{dealloc_token-Testable}
 use Rattle.mp_c.specs.Owned.{may_free, owned_at}
-use Rattle.mp_c.specs.contracts.box_at.BoxAt as box_at
 
 abbrev pub one : Val → Val
 one v = vstruct (vcons v vnil)
@@ -50,20 +51,23 @@ allocator_row = arg (bare (layout heap.the_row)) denote.Exit.no heap.the_row
 abbrev pub allocator_laws : Laws allocator_row
 allocator_laws = arg_laws (bare (layout heap.the_row)) denote.Exit.no heap.the_row heap_laws.the_row_laws refl
 
-module _ (R : RattleType) {M : Type 1} {𝓤 : Ura M} {𝓛 : Logic 𝓤} {K : Type 0} {Γ : List (Item 𝓤)} {G : Goal 𝓤 𝓛.H} where
-  pub box_at_out : K → (d : (box_at.the_row R).Denot) (vs : List Val)
-      → (vs ≡ one (ptr_val d.at) ∷ [] → Seq K 𝓛 (‵ (owned_at R d.at d.value) ∷ Γ) G)
-      → Seq K 𝓛 (‵ ((box_at.the_row R).own_val d vs) ∷ Γ) G
-  box_at_out t d vs k =
+-- a struct of that name of one pointer
+abbrev pub one_pointer : Owning → Shape
+one_pointer S = record { name = S.name; args = S.args; types = S.types; fields = RawPtr ∷ [] }
+
+module _ (S : Owning) {M : Type 1} {𝓤 : Ura M} {𝓛 : Logic 𝓤} {K : Type 0} {Γ : List (Item 𝓤)} {G : Goal 𝓤 𝓛.H} where
+  pub pointer_out : K → (p : Ptr) (owned : Fml) (vs : List Val) → (vs ≡ one (ptr_val p) ∷ [] → Seq K 𝓛 (‵ owned ∷ Γ) G)
+      → Seq K 𝓛 (‵ (fsep ((Struct (one_pointer S)).own_val (p, tt) vs) owned) ∷ Γ) G
+  pointer_out t p owned vs k =
       fsplit t $ fpick t (λ vss. fsplit t $ feq_l t (λ ev. fsplit t $ feq_l t (λ ep. drop t $
       k (subst (λ (ps : List Val). vs ≡ vstruct (of_list (ps ++ [])) ∷ []) ep ev))))
 
-  pub box_at_in : K → (p : Ptr) (x : Option R.Denot)
-      → Step K 𝓛 (‵ ((box_at.the_row R).own_val (record { at = p; value = x }) (one (ptr_val p) ∷ [])) ∷ Γ) G (‵ (owned_at R p x) ∷ Γ) G
-  box_at_in t p x = step (λ s.
+  pub pointer_in : K → (p : Ptr) (owned : Fml)
+      → Step K 𝓛 (‵ (fsep ((Struct (one_pointer S)).own_val (p, tt) (one (ptr_val p) ∷ [])) owned) ∷ Γ) G (‵ owned ∷ Γ) G
+  pointer_in t p owned = step (λ s.
       nothing t $ feq_i t (List Val) (ptr_val p ∷ []) (ptr_val p ∷ []) refl $ fjoin t $
       feq_i t (List Val) (one (ptr_val p) ∷ []) (one (ptr_val p) ∷ []) refl $ fjoin t $
-      fpack t (Valss (RawPtr ∷ [])) (within (shape (box_at.the_type R)) (p, tt) (one (ptr_val p) ∷ [])) (ptr_val p ∷ [], tt) $ fjoin t $ s)
+      fpack t (Valss (RawPtr ∷ [])) (within (one_pointer S) (p, tt) (one (ptr_val p) ∷ [])) (ptr_val p ∷ [], tt) $ fjoin t $ s)
 
 module _ (R : RattleType) {M : Type 1} {𝓤 : Ura M} (𝓛 : Logic 𝓤) where
   tested : Global → (p : Ptr) (x : R.Denot) → ent 𝓤 (sem 𝓛 (box_owns may_free R p x)) (guard 𝓤 (Testable p) (sem 𝓛 (box_owns may_free R p x)))

@@ -1,14 +1,11 @@
 pub mod BoxSteps
 pub mod Buffers
 pub mod Exports
-pub mod Limits
+pub mod HandleSend
+pub mod HandleSteps
 pub mod LogBuffers
 pub mod OnPatches
 pub mod OnReplicas
 pub mod OneReply
-pub mod PatchLogSteps
-pub mod PatchesSteps
-pub mod ReplicaSteps
-pub mod Shown
 pub mod SomeReply
 pub mod Started

@@ -1,5 +1,5 @@
 -- What is in a buffer that holds the whole text of what a patch log gives.
-use Rattle.std.proofs.Common.{if◌then◌else◌, ◌≡◌, ◌≤◌, ◌∙◌, ℕ, Bool, true, false, nat_lt, inl, inr, true≢false, string_bytes, refl, List, [], ◌∷◌, ◌++◌, Result, Ok, Err, MatchResult, Option, None, Some, length, take, sym, ap, subst}
+use Rattle.std.proofs.Common.{if◌then◌else◌, ◌≡◌, ◌∙◌, ℕ, Bool, true, false, nat_lt, inl, inr, true≢false, string_bytes, refl, List, [], ◌∷◌, ◌++◌, Result, Ok, Err, MatchResult, Option, None, Some, length, sym, ap, subst}
 use Rattle.std.proofs.lemmas.List.{append-nil}
 use Rattle.mp_tree.specs.Text.{text as compact}
 use Rattle.mp_replica.specs.Laws.{AlikeReportTheSame, AlikeShowTheSame}
@@ -7,49 +7,17 @@ use Rattle.mp_replica.specs.Faults.{IsOutOfMemory}
 use Rattle.mp_replica.specs.LogTexts.{IsConflictsTextOf, IsConflictsTextWithinOf, pairs_text}
 use Rattle.mp_replica.specs.PatchLog.{AreAlike, HeldLog, Pair, Stored, stored_of}
 use Rattle.mp_replica.specs.declared.pairs_texts.PairsText.{PairsText}
-use Rattle.mp_c.specs.Private.Stopping.{pairs_answer, pairs_text_answer}
+use Rattle.mp_c.specs.Private.Reporting.{pairs_answer, pairs_text_answer}
 use Rattle.mp_replica.specs.declared.message.Identity.{Identity}
 use Rattle.mp_replica.specs.declared.fault.LiveFault.{LiveFault}
 use Rattle.mp_replica.specs.declared.fault.LiveFault.TheVariants as live
 use Rattle.mp_c.specs.Laws.{HasRead, LogsAgreeInTheirBuffers}
-use Rattle.mp_c.specs.OnHandles.{HandleAnswer, handle_text, handle_conflict, handle_first_pairs, handle_first_places, handle_unread, handle_fault, handle_not_utf8, handle_not_started, OfStarted}
+use Rattle.mp_c.specs.OnHandles.{HandleAnswer, handle_text, OfStarted}
 use Rattle.mp_c.specs.OnLogs.{GivesConflicts, GivesLogDocument, OnlyReads}
 use Rattle.mp_c.specs.Replies.{IsReply}
-use Rattle.mp_c.specs.Report.{Report, status_conflict, status_document, status_not_started, status_pointer, status_result, status_too_large, report_of_first, report_of_handle, report_of_live_fault, unnumbered, with_more}
+use Rattle.mp_c.specs.Report.{Report, status_document, status_result, status_too_large, report_of_first, report_of_handle, unnumbered, with_more}
 use Rattle.mp_c.specs.declared.replying.Reply.{Reply}
-use Rattle.mp_c.proofs.Buffers.{fits, of_document, of_pointer, whole_text}
-
--- the text of what a log gives, and that the buffer begins with it
-record HoldsText (Gives : ℕ → HeldLog → HandleAnswer → Type 0) (log : HeldLog) (reply : Reply) (buffer : List ℕ) : Type 0 where
-  limit : ℕ
-  written : List ℕ
-  given : Gives limit log (handle_text written)
-  whole : reply.length ≡ length written
-  first_bytes : take reply.length buffer ≡ written
-
--- no error is reported as a result
-no_result : (why : LiveFault) → ¬ ((report_of_live_fault status_document why).status ≡ status_result)
-no_result (live.Document why) e = of_document why None e
-no_result (live.Pointer why) e = of_pointer why e
-no_result live.Missing e = cc
-no_result live.NoPatches e = cc
-no_result live.Conflict e = cc
-no_result live.Pending e = cc
-no_result live.TooLarge e = cc
-no_result live.NotKept e = cc
-no_result live.OutOfMemory e = cc
-
-no_conflict : ¬ (status_conflict ≡ status_result)
-no_conflict e = cc
-
-no_unread : ¬ (status_document ≡ status_result)
-no_unread e = cc
-
-no_pointer : ¬ (status_pointer ≡ status_result)
-no_pointer e = cc
-
-no_start : ¬ (status_not_started ≡ status_result)
-no_start e = cc
+use Rattle.mp_c.proofs.Buffers.{HoldsText, held_alike, result_held}
 
 abbrev first_of : List ℕ → Bool → Report
 first_of shown b = if b then unnumbered status_too_large [] else with_more (unnumbered status_result shown)
@@ -62,37 +30,19 @@ never_first limit shown = by (nat_lt limit (length shown))
     by true status flags = cc
     by false status flags = cc
 
-module _ (Gives : ℕ → HeldLog → HandleAnswer → Type 0) (limit : ℕ) (reply : Reply) (before buffer : List ℕ) where
-  read_by : (answer : HandleAnswer) (log s : HeldLog) → OnlyReads (Gives limit) log answer s → IsReply (report_of_handle limit status_document answer) reply before buffer
-      → reply.status ≡ status_result → reply.flags ≡ 0 → reply.length ≤ length before → HoldsText Gives log reply buffer
-  read_by (handle_text written) log s is replied has_result all enough =
-      let said = subst (λ (r : Report). IsReply r reply before buffer) (fits limit written (sym replied.status ∙ has_result)) replied in
-      record {
-        limit = limit;
-        written = written;
-        given = is.0;
-        whole = said.whole;
-        first_bytes =
-            ap (λ (n : ℕ). take n buffer) said.whole ∙ ap (take (length written)) said.buffer
-            ∙ whole_text before written (subst (λ (n : ℕ). n ≤ length before) said.whole enough);
-      }
-  read_by (handle_conflict total array) log s is replied has_result all enough = absurd (no_conflict (sym replied.status ∙ has_result))
-  read_by (handle_first_places total array) log s is replied has_result all enough = absurd (no_conflict (sym replied.status ∙ has_result))
-  read_by (handle_first_pairs shown) log s is replied has_result all enough = absurd (never_first limit shown (sym replied.status ∙ has_result) (sym replied.flags ∙ all))
-  read_by (handle_unread total said) log s is replied has_result all enough = absurd (no_unread (sym replied.status ∙ has_result))
-  read_by (handle_fault why) log s is replied has_result all enough = absurd (no_result why (sym replied.status ∙ has_result))
-  read_by (handle_not_utf8 offset) log s is replied has_result all enough = absurd (no_pointer (sym replied.status ∙ has_result))
-  read_by handle_not_started log s is replied has_result all enough = absurd (no_start (sym replied.status ∙ has_result))
+-- what a log gives, within some limit
+abbrev IsGiven : (ℕ → HeldLog → HandleAnswer → Type 0) → HeldLog → List ℕ → Type 0
+IsGiven Gives log written = (limit : ℕ) × Gives limit log (handle_text written)
 
-  read_held : (answer : HandleAnswer) (log : HeldLog) (after : Option HeldLog) → OfStarted (OnlyReads (Gives limit)) (Some log) answer after
-      → IsReply (report_of_handle limit status_document answer) reply before buffer → reply.status ≡ status_result → reply.flags ≡ 0 → reply.length ≤ length before
-      → HoldsText Gives log reply buffer
-  read_held answer log None is replied has_result all enough = absurd is
-  read_held answer log (Some s) is replied has_result all enough = read_by answer log s is replied has_result all enough
-
-holds_text : (Gives : ℕ → HeldLog → HandleAnswer → Type 0) (log : HeldLog) (reply : Reply) (buffer : List ℕ) → HasRead Gives log reply buffer → HoldsText Gives log reply buffer
-holds_text Gives log reply buffer has =
-    read_held Gives has.limit reply has.before buffer has.replied.0 log has.after has.replied.1 has.replied.2 has.has.status has.all has.has.enough
+holds_text : (Gives : ℕ → HeldLog → HandleAnswer → Type 0) (log : HeldLog) (reply : Reply) (buffer : List ℕ) → HasRead Gives log reply buffer → HoldsText (IsGiven Gives log) reply buffer
+holds_text Gives log reply buffer has = by has.after has.replied.1
+  where
+    by : (after : Option HeldLog) → OfStarted (OnlyReads (Gives has.limit)) (Some log) has.replied.0 after → HoldsText (IsGiven Gives log) reply buffer
+    by None is = absurd is
+    by (Some s) is =
+        result_held (IsGiven Gives log) reply has.before buffer has.has.enough has.limit has.replied.0 has.replied.2 has.has.status (λ written same. (has.limit, subst (Gives has.limit log) same is.0))
+        (λ array same. let first = subst (λ (a : HandleAnswer). IsReply (report_of_handle has.limit status_document a) reply has.before buffer) same has.replied.2 in
+        never_first has.limit array (sym first.status ∙ has.has.status) (sym first.flags ∙ has.all))
 
 -- two logs that are alike give one text
 GiveOneText : (ℕ → HeldLog → HandleAnswer → Type 0) → Type 0
@@ -103,8 +53,7 @@ unfolding GiveOneText
 agree_by Gives one_text log other_log reply other buffer other_buffer alike has other_has =
     let this = holds_text Gives log reply buffer has in
     let that = holds_text Gives other_log other other_buffer other_has in
-    let one = one_text this.limit that.limit log other_log this.written that.written alike this.given that.given in
-    (this.whole ∙ ap length one ∙ sym that.whole, this.first_bytes ∙ one ∙ sym that.first_bytes)
+    held_alike reply other buffer other_buffer this that (one_text this.is.0 that.is.0 log other_log this.written that.written alike this.is.1 that.is.1)
 
 pub agree_on_documents : AlikeShowTheSame → LogsAgreeInTheirBuffers GivesLogDocument
 unfolding GiveOneText
@@ -140,11 +89,4 @@ gives_conflicts of limit log (Ok written) is = by written.more is
     by true is = is
     by false is = all_written limit of (stored_of log) (string_bytes written.text) is
 gives_conflicts of limit log (Err live.OutOfMemory) is = tt
-gives_conflicts of limit log (Err (live.Document why)) is = absurd is
-gives_conflicts of limit log (Err (live.Pointer why)) is = absurd is
-gives_conflicts of limit log (Err live.Missing) is = absurd is
-gives_conflicts of limit log (Err live.NoPatches) is = absurd is
-gives_conflicts of limit log (Err live.Conflict) is = absurd is
-gives_conflicts of limit log (Err live.Pending) is = absurd is
-gives_conflicts of limit log (Err live.TooLarge) is = absurd is
-gives_conflicts of limit log (Err live.NotKept) is = absurd is
+gives_conflicts of limit log (Err why) is = absurd is

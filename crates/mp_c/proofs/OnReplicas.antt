@@ -1,22 +1,25 @@
 -- What calls on the handle of a replica answer, of what the calls on the replica say.
-use Rattle.std.proofs.Common.{◌≡◌, ℕ, Bool, true, false, true≢false, string_bytes, String, List, Option, Some, Result, Ok, Err, IsErrAnd, sym, ap, ◌∙◌, subst}
+use Rattle.std.proofs.Common.{◌≡◌, ◌≤◌, ℕ, string_bytes, String, List, None, Result, Ok, Err, IfOk, MatchOption, MatchResult, length, subst}
+use Rattle.std.specs.Str.{IsUtf8}
 use Rattle.mp_tree.specs.Document.{Document}
-use Rattle.mp_tree.specs.Text.{document_in}
+use Rattle.mp_tree.specs.Text.{text as compact}
 use Rattle.mp_tree.specs.View.{document}
 use Rattle.mp_tree.specs.declared.doc.Doc.{Doc}
+use Rattle.std.specs.declared.alloc.AllocError.{AllocError}
+use Rattle.mp_merge.specs.declared.comparing.Conflicts.{Conflicts}
+use Rattle.mp_texts.specs.Answers.{IsJoinText, IsReplayText}
+use Rattle.mp_replica.specs.Faults.{IsNoPart, IsNotJoined, IsUnshown}
 use Rattle.mp_replica.specs.Following.{Follows}
-use Rattle.mp_replica.specs.Held.{HeldReplica}
-use Rattle.mp_replica.specs.Texts.{FollowsTexts}
+use Rattle.mp_replica.specs.Held.{AreFirstClashesWith, HeldReplica}
+use Rattle.mp_replica.specs.Texts.{FollowsTexts, IsPartOf}
 use Rattle.mp_replica.specs.declared.fault.LiveFault.{LiveFault}
-use Rattle.mp_replica.specs.declared.fault.LiveFault.TheVariants as live
+use Rattle.mp_replica.specs.declared.fault.LiveFault.TheVariants.{Conflict}
 use Rattle.mp_replica.specs.declared.replica.Received.TheVariants as received
-use Rattle.mp_c.specs.OnHandles.{AreFirstPlacesOf, ConflictsWith, HandleAnswer, HasReceived, OfStarted, Receives, StillFollows, handle_fault}
-use Rattle.mp_c.specs.Private.Stopping.{IsConflictOf, conflict_answer, handle_answer, stop_answer}
-use Rattle.mp_c.specs.Replies.{HandleReplies, IsReply}
-use Rattle.mp_c.specs.Report.{report_of_handle}
+use Rattle.mp_c.specs.OnHandles.{HasReceived, Receives, Settles, ShowsDocument, ShowsJoin, ShowsPart, StillFollows, handle_conflict, handle_fault}
+use Rattle.mp_c.specs.Private.Reporting.{ReportsConflicts, live_answer}
+use Rattle.mp_c.specs.Replies.{HandleReplies}
+use Rattle.mp_c.specs.Report.{status_patch}
 use Rattle.mp_c.specs.declared.replying.Reply.{Reply}
-use Rattle.mp_c.specs.declared.stopping.Stop.{Stop}
-use Rattle.mp_c.specs.declared.stopping.Stop.TheVariants.{Conflict, Fault, NotStarted, NotUtf8, Unread}
 
 -- ---- what is kept
 
@@ -30,54 +33,48 @@ still_follows before after keeps start texts has = record {
   follows = keeps has.from has.documents has.follows;
 }
 
--- ---- what stops a call
+-- ---- what is shown
 
--- an error of the call below is handed on
-pub stopped : {A : Type 0} (Is : HandleAnswer → Type 0) (why : LiveFault) (r : Result (String A) Stop) → IsErrAnd r (λ stop. stop ≡ Fault why) → Is (handle_fault why) → Is (handle_answer r)
-stopped Is why (Ok done) exit is = absurd exit
-stopped Is why (Err stop) exit is = subst (λ (s : Stop). Is (stop_answer s)) (sym exit) is
+module _ {A : Type 0} (limit : ℕ) (before after : HeldReplica) (settles : Settles before after) where
+  pub shows_document : (r : Result (String A) LiveFault)
+      → MatchResult r (λ t. (after.pending ≡ None) × (string_bytes t ≡ compact (document after.shown))) (λ why. IsUnshown limit why after)
+      → IfOk r (λ t. length (string_bytes t) ≤ limit) → IfOk r (λ t. (start : List ℕ) (texts : List (List ℕ)) → FollowsTexts start texts after → IsReplayText start texts (string_bytes t))
+      → ShowsDocument limit before (live_answer r) after
+  shows_document (Ok t) shown within replay = (settles, shown.0, shown.1, λ start texts follows. replay start texts (settles.0 start texts follows), within)
+  shows_document (Err why) shown within replay = (settles, shown)
 
--- ---- conflicts of a replica
+  pub shows_join : (r : Result (String A) LiveFault)
+      → MatchResult r (λ t. (after.pending ≡ None) × MatchOption after.joined ⊥ (λ j. string_bytes t ≡ compact (document j))) (λ why. IsNotJoined limit why after)
+      → IfOk r (λ t. length (string_bytes t) ≤ limit) → IfOk r (λ t. (start : List ℕ) (texts : List (List ℕ)) → FollowsTexts start texts after → IsJoinText texts (string_bytes t))
+      → ShowsJoin limit before (live_answer r) after
+  shows_join (Ok t) joined within join = (settles, joined.0, joined.1, λ start texts follows. join start texts (settles.0 start texts follows), within)
+  shows_join (Err why) joined within join = (settles, joined)
 
-by_more : (limit : ℕ) (patch : List ℕ) (before after : HeldReplica) (total : ℕ) (more : Bool) (array : List ℕ) → more ≡ false → ConflictsWith patch before after
-    → ((start : List ℕ) (texts : List (List ℕ)) → FollowsTexts start texts before → AreFirstPlacesOf limit texts patch total array) → HasReceived limit patch before (conflict_answer more total array) after
-by_more limit patch before after total false array none conflicts places = (conflicts, places)
-by_more limit patch before after total true array none conflicts places = absurd (true≢false none)
+  pub shows_part : (pointer spelling : List ℕ) → spelling ≡ pointer → IsUtf8 pointer → (r : Result (String A) LiveFault)
+      → MatchResult r (λ t. (after.pending ≡ None) × IsPartOf (document after.shown) spelling (string_bytes t)) (λ why. IsNoPart limit why after spelling)
+      → IfOk r (λ t. length (string_bytes t) ≤ limit) → ShowsPart limit pointer before (live_answer r) after
+  shows_part pointer spelling same utf8 (Ok t) part within = (settles, utf8, part.0, subst (λ (p : List ℕ). IsPartOf (document after.shown) p (string_bytes t)) same part.1, within)
+  shows_part pointer spelling same utf8 (Err why) part within = (settles, utf8, subst (IsNoPart limit why after) same part)
 
-pub refuses : (limit : ℕ) (patch : List ℕ) (before after : HeldReplica) (back : Doc) (stop : Stop) → Receives (received.Conflict back) patch before after → IsConflictOf limit after (document back) stop
-    → HasReceived limit patch before (stop_answer stop) after
-refuses limit patch before after back (Conflict total array more) receives found =
-    by_more limit patch before after total more (string_bytes array) found.0 (back, receives) (λ start texts follows.
-    let now = (receives start texts follows).1 in
-    record {
+-- ---- conflicts
+
+pub refuses : (limit : ℕ) (patch : List ℕ) (before after : HeldReplica) (back : Doc) (found : Result Conflicts AllocError) (reply : Reply) (out out' : List ℕ) → Receives (received.Conflict back) patch before after
+    → IfOk found (λ c. (start : Document) (received : List Document) → Follows start received after → AreFirstClashesWith limit received (document back) c.places.items c.total)
+    → ReportsConflicts limit found reply out out' → HandleReplies limit status_patch (λ a. HasReceived limit patch before a after) reply out out'
+refuses limit patch before after back (Ok c) reply out out' receives first (array, text, replied) = (
+  handle_conflict c.total array,
+  (
+    (back, receives),
+    λ start texts follows. let now = (receives start texts follows).1 in record {
       documents = now.documents;
       read = now.read;
       change = document back;
       patch_read = (receives start texts follows).0;
-      places = found.1.0;
-      first = found.1.2 now.from now.documents now.follows;
-      text = found.1.1;
-    })
-refuses limit patch before after back (Fault live.Conflict) receives found = (back, receives)
-refuses limit patch before after back (Fault (live.Document why)) receives found = absurd found
-refuses limit patch before after back (Fault (live.Pointer why)) receives found = absurd found
-refuses limit patch before after back (Fault live.Missing) receives found = absurd found
-refuses limit patch before after back (Fault live.NoPatches) receives found = absurd found
-refuses limit patch before after back (Fault live.Pending) receives found = absurd found
-refuses limit patch before after back (Fault live.TooLarge) receives found = absurd found
-refuses limit patch before after back (Fault live.NotKept) receives found = absurd found
-refuses limit patch before after back (Fault live.OutOfMemory) receives found = absurd found
-refuses limit patch before after back (Unread total said) receives found = absurd found
-refuses limit patch before after back (NotUtf8 offset) receives found = absurd found
-refuses limit patch before after back NotStarted receives found = absurd found
-
--- ---- a call on what a handle owns
-
--- it was taken, used and put back
-pub on_started : (Does : HeldReplica → HandleAnswer → HeldReplica → Type 0) (limit unread : ℕ) (old new : Option HeldReplica) (held before after back : HeldReplica) (answer : HandleAnswer)
-    (reply : Reply) (out out' : List ℕ) → Some held ≡ old → before ≡ held → Does before answer after → back ≡ after → new ≡ Some back
-    → IsReply (report_of_handle limit unread answer) reply out out' → HandleReplies limit unread (λ a. OfStarted Does old a new) reply out out'
-on_started Does limit unread old new held before after back answer reply out out' taken same does used put replied =
-    let now : new ≡ Some after = put ∙ ap Some used in
-    let then : Some before ≡ old = ap Some same ∙ taken in
-    (answer, subst (λ (o : Option HeldReplica). OfStarted Does o answer new) then (subst (λ (n : Option HeldReplica). OfStarted Does (Some before) answer n) (sym now) does), replied)
+      places = c.places.items;
+      first = first now.from now.documents now.follows;
+      text = text;
+    },
+  ),
+  replied,
+)
+refuses limit patch before after back (Err refused) reply out out' receives first replied = (handle_fault Conflict, (back, receives), replied)

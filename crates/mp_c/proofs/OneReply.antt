@@ -1,5 +1,5 @@
 -- An export has one reply to its arguments, unless memory runs out.
-use Rattle.std.proofs.Common.{◌≡◌, ◌≢◌, ◌≤◌, ◌∙◌, ℕ, List, ◌++◌, Option, None, Some, Ok, Err, length, take, drop, slice_get, append-nil, refl, sym, ap, ap₂, subst, arith}
+use Rattle.std.proofs.Common.{◌≡◌, ◌≢◌, ◌≤◌, ◌∙◌, ℕ, List, ◌++◌, Option, None, Some, Ok, Err, length, take, drop, slice_get, append-nil, refl, sym, ap, subst, arith}
 use Rattle.std.proofs.lemmas.Str.{utf8_valid_len-IsValidUpTo}
 use Rattle.std.proofs.lemmas.List.{drop_all, take-append-le, take_all}
 use Rattle.std.specs.Str.{IsUtf8, IsValidUpTo}
@@ -7,11 +7,11 @@ use Rattle.mp_tree.specs.Text.{document_in}
 use Rattle.mp_tree.specs.Document.{Document}
 use Rattle.mp_tree.specs.declared.fault.ReadFault.{ReadFault}
 use Rattle.mp_pointer.specs.Spelling.{Tokens}
-use Rattle.mp_merge.specs.declared.fault.ListWithinFault.TheVariants as list
-use Rattle.mp_texts.specs.Calls.{Call, join_texts, replay_texts, merge_texts, rewrite_text, patch_text, part_text, CallAnswer, returned, conflicting, failed, IsCallAnswer, MayFail, MayReturn, seen_of}
+use Rattle.mp_merge.specs.declared.fault.ListFault.TheVariants as list
+use Rattle.mp_texts.specs.Calls.{Call, join_texts, replay_texts, merge_texts, rewrite_text, patch_text, part_text, CallAnswer, returned, conflicting, failed, IsCallAnswer, MayFail}
 use Rattle.mp_texts.specs.PlacesTexts.{IsPlacesText}
 use Rattle.mp_texts.specs.declared.fault.TextsFault.{TextsFault}
-use Rattle.mp_texts.specs.declared.fault.TextsFault.TheVariants.{Document as NoDocument, Patch, List as OfList, Form, Refused, Pointer, Missing, TooLarge, OutOfMemory}
+use Rattle.mp_texts.specs.declared.fault.TextsFault.TheVariants.{Document as NoDocument, Patch, List as OfList, OutOfMemory}
 use Rattle.mp_c.specs.Answered.{ExportAnswer, answer_text, answer_conflict, answer_document, answer_patch, answer_fault, not_utf8, IsOther, IsPart, IsPlaceAt, IsPlaceIn, OfCall, call_document, call_patches}
 use Rattle.mp_c.specs.Laws.{BeginsTheLarger, EachBeginsTheLarger, EachHasOneReply, HasOneReply, ReportTheSame}
 use Rattle.mp_c.specs.Private.LawsOfTexts.{LawsOfTexts, PlaceLaws}
@@ -54,14 +54,8 @@ other_seen : (limit : ℕ) (call : Call) (why : TextsFault) → IsOther why → 
 other_seen limit call (NoDocument why) other may some = absurd other
 other_seen limit call (Patch number why) other may some = absurd other
 other_seen limit call (OfList (list.ConflictOf first second conflicts)) other may some = absurd other
-other_seen limit call (OfList list.NoPatches) other may some = record { answer = failed (OfList list.NoPatches); is = (some, refl, may); shows = refl }
-other_seen limit call (OfList list.OutOfMemory) other may some = record { answer = failed (OfList list.OutOfMemory); is = (some, refl, may); shows = refl }
-other_seen limit call (Form why) other may some = record { answer = failed (Form why); is = (some, refl, may); shows = refl }
-other_seen limit call (Refused why) other may some = record { answer = failed (Refused why); is = (some, refl, may); shows = refl }
-other_seen limit call (Pointer why) other may some = record { answer = failed (Pointer why); is = (some, refl, may); shows = refl }
-other_seen limit call Missing other may some = record { answer = failed Missing; is = (some, refl, may); shows = refl }
-other_seen limit call (TooLarge number) other may some = record { answer = failed (TooLarge number); is = (some, refl, may); shows = refl }
 other_seen limit call OutOfMemory other may some = absurd (some refl)
+other_seen limit call why other may some = record { answer = failed why; is = (some, refl, may); shows = refl }
 
 seen : (limit : ℕ) (call : Call) (a : ExportAnswer) → OfCall limit call a → HasMemory (report_of a) → Seen limit call a
 seen limit call (answer_text text) is memory = record { answer = returned text; is = is; shows = refl }
@@ -87,13 +81,7 @@ module _ (places : PlaceLaws) where
       same ∙ ap (answer_document why) (one_place_in why (call_document call) place other is was) ∙ sym also
   one_of limit call (failed (Patch number why)) a b (place, there, is, same) (other, here, was, also) =
       same ∙ ap (answer_patch number why) (one_place_in why there.0 place other (is there.0 there.1) (was there.0 there.1)) ∙ sym also
-  one_of limit call (failed (OfList why)) a b is was = is ∙ sym was
-  one_of limit call (failed (Form why)) a b is was = is ∙ sym was
-  one_of limit call (failed (Refused why)) a b is was = is ∙ sym was
-  one_of limit call (failed (Pointer why)) a b is was = is ∙ sym was
-  one_of limit call (failed Missing) a b is was = is ∙ sym was
-  one_of limit call (failed (TooLarge number)) a b is was = is ∙ sym was
-  one_of limit call (failed OutOfMemory) a b is was = is ∙ sym was
+  one_of limit call (failed why) a b is was = is ∙ sym was
 
 -- ---- replies that report the same
 
@@ -186,35 +174,15 @@ module _ (laws : LawsOfTexts) where
   said : (limit : ℕ) (document pointer : List ℕ) (a : ExportAnswer) → IsPart limit document pointer a → HasMemory (report_of a) → PartSaid limit document pointer a
   said limit document pointer (answer_document why place) is memory = of_call is
   said limit document pointer (not_utf8 offset) is memory = of_pointer offset is.0 is.1 refl
-  said limit document pointer (answer_text text) is memory = of_call is.1
-  said limit document pointer (answer_conflict first second total array) is memory = of_call is.1
-  said limit document pointer (answer_patch number why place) is memory = of_call is.1
-  said limit document pointer (answer_fault (NoDocument why)) is memory = of_call is.1
-  said limit document pointer (answer_fault (Patch number why)) is memory = of_call is.1
-  said limit document pointer (answer_fault (OfList why)) is memory = of_call is.1
-  said limit document pointer (answer_fault (Form why)) is memory = of_call is.1
-  said limit document pointer (answer_fault (Refused why)) is memory = of_call is.1
-  said limit document pointer (answer_fault (Pointer why)) is memory = of_call is.1
-  said limit document pointer (answer_fault Missing) is memory = of_call is.1
-  said limit document pointer (answer_fault (TooLarge number)) is memory = of_call is.1
   said limit document pointer (answer_fault OutOfMemory) is memory = absurd (memory refl)
+  said limit document pointer a is memory = of_call is.1
 
   -- a pointer that is not UTF-8 has no other answer
   not_both : (limit : ℕ) (document pointer : List ℕ) (a : ExportAnswer) (offset : ℕ) → IsPart limit document pointer a → HasMemory (report_of a) → IsPart limit document pointer (not_utf8 offset) → a ≡ not_utf8 offset
   not_both limit document pointer (answer_document why place) offset is memory not = absurd (unread document not.0.0 why not.0.1 is.0)
   not_both limit document pointer (not_utf8 other) offset is memory not = ap not_utf8 (one_offset pointer other offset is.1 not.1)
-  not_both limit document pointer (answer_text text) offset is memory not = absurd (utf8_or_not pointer offset is.0 not.1)
-  not_both limit document pointer (answer_conflict first second total array) offset is memory not = absurd (utf8_or_not pointer offset is.0 not.1)
-  not_both limit document pointer (answer_patch number why place) offset is memory not = absurd (utf8_or_not pointer offset is.0 not.1)
-  not_both limit document pointer (answer_fault (NoDocument why)) offset is memory not = absurd (utf8_or_not pointer offset is.0 not.1)
-  not_both limit document pointer (answer_fault (Patch number why)) offset is memory not = absurd (utf8_or_not pointer offset is.0 not.1)
-  not_both limit document pointer (answer_fault (OfList why)) offset is memory not = absurd (utf8_or_not pointer offset is.0 not.1)
-  not_both limit document pointer (answer_fault (Form why)) offset is memory not = absurd (utf8_or_not pointer offset is.0 not.1)
-  not_both limit document pointer (answer_fault (Refused why)) offset is memory not = absurd (utf8_or_not pointer offset is.0 not.1)
-  not_both limit document pointer (answer_fault (Pointer why)) offset is memory not = absurd (utf8_or_not pointer offset is.0 not.1)
-  not_both limit document pointer (answer_fault Missing) offset is memory not = absurd (utf8_or_not pointer offset is.0 not.1)
-  not_both limit document pointer (answer_fault (TooLarge number)) offset is memory not = absurd (utf8_or_not pointer offset is.0 not.1)
   not_both limit document pointer (answer_fault OutOfMemory) offset is memory not = absurd (memory refl)
+  not_both limit document pointer a offset is memory not = absurd (utf8_or_not pointer offset is.0 not.1)
 
   pub one_part : (limit : ℕ) (document pointer : List ℕ) → OneIsReported (IsPart limit document pointer)
   one_part limit document pointer a b is was memory other = by (said limit document pointer a is memory) (said limit document pointer b was other)

@@ -1,5 +1,5 @@
 -- An export has a reply to its arguments, whatever bytes they are.
-use Rattle.std.proofs.Common.{◌≡◌, ◌≢◌, ◌⊎◌, ◌≤◌, ◌<◌, ◌∙◌, ℕ, zero, suc, Bool, true, false, List, [], Option, None, Some, Result, Ok, Err, length, take, slice_get, inl, inr, refl, sym, ap, subst, arith}
+use Rattle.std.proofs.Common.{◌≡◌, ◌≢◌, ◌⊎◌, ◌≤◌, ◌<◌, ◌∙◌, ℕ, zero, suc, Bool, true, false, List, Option, None, Some, Result, Ok, Err, length, take, slice_get, inl, inr, refl, sym, ap, subst, arith}
 use Rattle.std.proofs.lemmas.Bool.{cases_lt}
 use Rattle.std.proofs.lemmas.List.{take_all}
 use Rattle.std.proofs.lemmas.Str.{IsUtf8-from_is_utf8, IsUtf8-nil, is_utf8-from_IsUtf8}
@@ -15,19 +15,18 @@ use Rattle.mp_patch.specs.declared.fault.ApplyFault.{ApplyFault}
 use Rattle.mp_patch.specs.declared.fault.ApplyFault.TheVariants as apply
 use Rattle.mp_patch.specs.declared.fault.FormFault.{FormFault}
 use Rattle.mp_patch.specs.declared.fault.FormFault.TheVariants as form
-use Rattle.mp_merge.specs.declared.fault.ListWithinFault.{ListWithinFault}
-use Rattle.mp_merge.specs.declared.fault.ListWithinFault.TheVariants as list
-use Rattle.mp_texts.specs.Calls.{Call, join_texts, replay_texts, merge_texts, rewrite_text, patch_text, part_text, CallAnswer, returned, conflicting, failed, IsCallAnswer, MayFail, MayReturn}
+use Rattle.mp_merge.specs.declared.comparing.Conflicts.{Conflicts}
+use Rattle.mp_merge.specs.declared.fault.ListFault.{ListFault}
+use Rattle.mp_merge.specs.declared.fault.ListFault.TheVariants as list
+use Rattle.mp_texts.specs.Calls.{Call, join_texts, replay_texts, merge_texts, rewrite_text, patch_text, part_text, CallAnswer, returned, conflicting, failed, IsCallAnswer, MayFail}
 use Rattle.mp_texts.specs.FaultPlaces.{HasNoFaultPlace, IsFaultPlace}
 use Rattle.mp_texts.specs.Faults.{IsRead}
-use Rattle.mp_texts.specs.declared.fault.TextsFault.{TextsFault}
 use Rattle.mp_texts.specs.declared.fault.TextsFault.TheVariants.{Document as NoDocument, Patch, List as OfList, Form, Refused, Pointer, Missing, TooLarge, OutOfMemory}
 use Rattle.mp_c.specs.Answered.{ExportAnswer, answer_text, answer_conflict, answer_document, answer_patch, answer_fault, not_utf8, IsPart, IsPlaceAt, IsPlaceIn, OfCall, call_document, call_patches}
 use Rattle.mp_c.specs.Laws.{EachHasReport, HasReport}
 use Rattle.mp_c.specs.Private.LawsOfTexts.{LawsOfTexts}
-use Rattle.mp_c.specs.Replies.{IsReply, Replies}
-use Rattle.mp_c.specs.Report.{Report, status_document, status_no_memory, status_patch, report_of, report_of_apply, report_of_form, report_of_list, report_of_pointer, report_of_unread}
-use Rattle.mp_c.specs.declared.replying.Reply.{Reply}
+use Rattle.mp_c.specs.Replies.{IsReply}
+use Rattle.mp_c.specs.Report.{Report, status_document, status_no_memory, status_patch, report_of, report_of_apply, report_of_form, report_of_pointer, report_of_unread}
 use Rattle.mp_c.proofs.Exports.{part_of_call}
 use Rattle.mp_c.proofs.OneReply.{HasMemory, OneIsReported, one_is_reported, one_part, patch_there}
 
@@ -81,29 +80,20 @@ utf8_or_offset bs = by (is_utf8 bs) refl
 -- ---- a result is not reported as out of memory, nor is an error that is none
 
 unread_memory : (status number : ℕ) (why : ReadFault) (place : Option Tokens) → status ≢ status_no_memory → why ≢ read.OutOfMemory → HasMemory (report_of_unread status number why place)
-unread_memory status number read.NotJson place other some = other
-unread_memory status number read.NotWhole place other some = other
-unread_memory status number read.TooDeep place other some = other
 unread_memory status number read.OutOfMemory place other some = absurd (some refl)
-
-list_memory : (why : ListWithinFault) → why ≢ list.OutOfMemory → HasMemory (report_of_list why)
-list_memory list.NoPatches some = λ e. cc
-list_memory (list.ConflictOf first second conflicts) some = λ e. cc
-list_memory list.OutOfMemory some = absurd (some refl)
+unread_memory status number why place other some = other
 
 form_memory : (why : FormFault) → why ≢ form.OutOfMemory → HasMemory (report_of_form why)
-form_memory form.NotAnArray some = λ e. cc
-form_memory (form.Form number cause) some = λ e. cc
 form_memory form.OutOfMemory some = absurd (some refl)
+form_memory why some = λ e. cc
 
 apply_memory : (why : ApplyFault) → why ≢ apply.OutOfMemory → HasMemory (report_of_apply why)
 apply_memory (apply.Refused number cause) some = λ e. cc
 apply_memory apply.OutOfMemory some = absurd (some refl)
 
 pointer_memory : (why : PointerFault) → why ≢ pointer.OutOfMemory → HasMemory (report_of_pointer why)
-pointer_memory pointer.NoSlash some = λ e. cc
-pointer_memory (pointer.BadTilde offset) some = λ e. cc
 pointer_memory pointer.OutOfMemory some = absurd (some refl)
+pointer_memory why some = λ e. cc
 
 -- ---- places
 
@@ -121,11 +111,7 @@ module _ (laws : LawsOfTexts) where
 
   document_fault : (limit : ℕ) (call : Call) (why : ReadFault) → MayFail limit call (NoDocument why) → why ≢ read.OutOfMemory
   document_fault limit (join_texts patches) why is = absurd is
-  document_fault limit (replay_texts start patches) why is = of_bytes start why is
-  document_fault limit (merge_texts document patches) why is = of_bytes document why is
-  document_fault limit (rewrite_text document patch) why is = of_bytes document why is
-  document_fault limit (patch_text document json_patch) why is = of_bytes document why is
-  document_fault limit (part_text document pointer) why is = of_bytes document why is
+  document_fault limit call why is = of_bytes (call_document call) why is
 
   patch_fault : (limit : ℕ) (call : Call) (number : ℕ) (why : ReadFault) → MayFail limit call (Patch number why) → why ≢ read.OutOfMemory
   patch_fault limit (join_texts patches) number why is = of_bytes is.text why is.unread
@@ -135,40 +121,25 @@ module _ (laws : LawsOfTexts) where
   patch_fault limit (patch_text document json_patch) number why is = of_bytes json_patch why is.2
   patch_fault limit (part_text document pointer) number why is = absurd is
 
-  list_fault : (limit : ℕ) (call : Call) (why : ListWithinFault) → MayFail limit call (OfList why) → why ≢ list.OutOfMemory
+  list_fault : (limit : ℕ) (call : Call) (why : ListFault Conflicts) → MayFail limit call (OfList why) → why ≢ list.OutOfMemory
   list_fault limit (join_texts patches) why is = is.0
   list_fault limit (replay_texts start patches) why is = is.0
-  list_fault limit (merge_texts document patches) why is = absurd is
-  list_fault limit (rewrite_text document patch) why is = absurd is
-  list_fault limit (patch_text document json_patch) why is = absurd is
-  list_fault limit (part_text document pointer) why is = absurd is
+  list_fault limit call why is = absurd is
 
   form_fault : (limit : ℕ) (call : Call) (why : FormFault) → MayFail limit call (Form why) → why ≢ form.OutOfMemory
-  form_fault limit (join_texts patches) why is = absurd is
-  form_fault limit (replay_texts start patches) why is = absurd is
-  form_fault limit (merge_texts document patches) why is = absurd is
-  form_fault limit (rewrite_text document patch) why is = absurd is
   form_fault limit (patch_text document json_patch) why is = is.1.0
-  form_fault limit (part_text document pointer) why is = absurd is
+  form_fault limit call why is = absurd is
 
   no_memory_refused : (limit : ℕ) (call : Call) → MayFail limit call (Refused apply.OutOfMemory) → ⊥
-  no_memory_refused limit (join_texts patches) is = is
-  no_memory_refused limit (replay_texts start patches) is = is
-  no_memory_refused limit (merge_texts document patches) is = is
-  no_memory_refused limit (rewrite_text document patch) is = is
   no_memory_refused limit (patch_text document json_patch) is = is.stopped
-  no_memory_refused limit (part_text document pointer) is = is
+  no_memory_refused limit call is = absurd is
 
   apply_fault : (limit : ℕ) (call : Call) (why : ApplyFault) → MayFail limit call (Refused why) → why ≢ apply.OutOfMemory
   apply_fault limit call why is none = no_memory_refused limit call (subst (λ f. MayFail limit call (Refused f)) none is)
 
   pointer_fault : (limit : ℕ) (call : Call) (why : PointerFault) → MayFail limit call (Pointer why) → why ≢ pointer.OutOfMemory
-  pointer_fault limit (join_texts patches) why is = absurd is
-  pointer_fault limit (replay_texts start patches) why is = absurd is
-  pointer_fault limit (merge_texts document patches) why is = absurd is
-  pointer_fault limit (rewrite_text document patch) why is = absurd is
-  pointer_fault limit (patch_text document json_patch) why is = absurd is
   pointer_fault limit (part_text document pointer) why is = is.1
+  pointer_fault limit call why is = absurd is
 
   -- ---- an answer of the call is one of the export
 

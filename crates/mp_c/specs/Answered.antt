@@ -6,7 +6,7 @@ use Rattle.mp_tree.specs.Text.{document_in}
 use Rattle.mp_tree.specs.declared.fault.ReadFault.{ReadFault}
 use Rattle.mp_tree.specs.declared.fault.ReadFault.TheVariants as read
 use Rattle.mp_pointer.specs.Spelling.{Tokens, spell}
-use Rattle.mp_merge.specs.declared.fault.ListWithinFault.TheVariants.{ConflictOf}
+use Rattle.mp_merge.specs.declared.fault.ListFault.TheVariants.{ConflictOf}
 use Rattle.mp_texts.specs.Calls.{Call, MayConflict, MayFail, MayReturn, join_texts, merge_texts, part_text, patch_text}
 use Rattle.mp_texts.specs.Calls.{replay_texts, rewrite_text}
 use Rattle.mp_texts.specs.FaultPlaces.{HasNoFaultPlace, IsFaultPlace}

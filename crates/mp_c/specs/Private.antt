@@ -1,4 +1,3 @@
 -- What private clauses alone cite: who trusts the public contracts need not read it.
 pub mod LawsOfTexts
 pub mod Reporting
-pub mod Stopping

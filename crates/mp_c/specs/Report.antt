@@ -10,8 +10,9 @@ use Rattle.mp_patch.specs.declared.fault.ApplyFault.{ApplyFault}
 use Rattle.mp_patch.specs.declared.fault.ApplyFault.TheVariants as apply
 use Rattle.mp_patch.specs.declared.fault.FormFault.{FormFault}
 use Rattle.mp_patch.specs.declared.fault.FormFault.TheVariants as form
-use Rattle.mp_merge.specs.declared.fault.ListWithinFault.{ListWithinFault}
-use Rattle.mp_merge.specs.declared.fault.ListWithinFault.TheVariants as list
+use Rattle.mp_merge.specs.declared.comparing.Conflicts.{Conflicts}
+use Rattle.mp_merge.specs.declared.fault.ListFault.{ListFault}
+use Rattle.mp_merge.specs.declared.fault.ListFault.TheVariants as list
 use Rattle.mp_texts.specs.declared.fault.TextsFault.{TextsFault}
 use Rattle.mp_texts.specs.declared.fault.TextsFault.TheVariants as texts
 use Rattle.mp_replica.specs.declared.fault.LiveFault.{LiveFault}
@@ -131,7 +132,7 @@ report_of_places first second total array =
     record { status = status_conflict; first = first; second = second; total = total; flags = 0; text = array }
 
 -- the places have a text of their own
-abbrev pub report_of_list : ListWithinFault → Report
+abbrev pub report_of_list : ListFault Conflicts → Report
 report_of_list list.NoPatches = unnumbered status_no_patches (codes "no patches")
 report_of_list (list.ConflictOf first second conflicts) = report_of_places first second conflicts.total []
 report_of_list list.OutOfMemory = no_memory

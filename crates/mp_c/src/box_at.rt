@@ -45,3 +45,7 @@ impl<T: Drop> BoxAt<T> {
         Some(owned)
     }
 }
+
+pub(crate) fn needs_send<T: Send>(value: T) -> T {
+    value
+}

@@ -16,7 +16,6 @@ mod patches_handle;
 mod replica;
 mod replica_handle;
 mod replying;
-mod stopping;
 mod undecided;
 mod version;
 

@@ -1,19 +1,21 @@
 //! Exports on a patch log that stays in memory.
-ghost use Rattle.std.specs.Prelude.{◌≡◌, MatchResult, None, Some, Ok};
-ghost use Rattle.mp_tree.specs.Text.{document_in};
-ghost use Rattle.mp_tree.specs.View.{document};
+#![tactic(auto, using(crate::proofs::Started::not_started))]
+
+ghost use Rattle.std.specs.Prelude.{◌≡◌, None, Some};
 ghost use Rattle.mp_c.specs.OnHandles.{OfStarted};
 ghost use Rattle.mp_c.specs.OnLogs.{Decides, GivesConflicts, GivesCount, GivesLogDocument, HasDecided, IsStartedLog, OnlyReads, SaysArrival, arrival_word};
-ghost use Rattle.mp_c.specs.Private.Stopping.{IsNoPatch, arrival_answer, decide_answer, handle_answer, pairs_answer};
+ghost use Rattle.mp_c.specs.Private.Reporting.{live_answer, pairs_answer};
 ghost use Rattle.mp_c.specs.Replies.{DecideReplies, HandleReplies, IsReply};
 ghost use Rattle.mp_c.specs.Report.{report_of_handle, status_document, status_patch};
 
 use crate::patch_log_handle::PatchLogHandle;
-use crate::replying::{DOCUMENT, PATCH, Reply, write_first, write_result};
-use crate::stopping::{Stop, report_live, stop_of};
-use crate::undecided::{Undecided, report_decided, undecided_of};
-use mp_replica::{Arrival, Identity, LiveFault, Message, PairsText, PatchLog};
-use mp_tree::{Doc, ReadFault, Whole, read_doc, write_doc};
+use crate::replying::{
+    DOCUMENT, PATCH, RESULT, Reply, report_live, report_live_fault, report_no_memory,
+    report_not_started, report_unread_text, write, write_first, write_result,
+};
+use crate::undecided::report_undecided;
+use mp_replica::{Arrival, Identity, LiveFault, PairsText, PatchLog};
+use mp_tree::{Doc, Whole, write_doc};
 use std::alloc::Global;
 
 /// Starts a patch log from the text of a document and the number of that start, in the place of one that was started before.
@@ -30,27 +32,18 @@ pub extern "C" fn mergejoin_patch_log_start(
         (λ answer. IsStartedLog epoch start.now log.old.value answer log.new.value)
         result out.old out.new }
 {
-    report_live(start_log(alloc, log, epoch, start), DOCUMENT, out, limit)
-}
-
-fn start_log(
-    alloc: Global,
-    log: &mut PatchLogHandle,
-    epoch: u64,
-    start: &[u8],
-) -> Result<String, Stop>
-    ensures { IsStartedLog epoch start.now log.old.value (handle_answer result) log.new.value }
-{
     let started = match PatchLog::from_text(alloc, epoch, start) {
         Ok(started) => started,
-        Err(fault) => return Err(stop_of(alloc, fault, start)),
+        Err(fault) => return report_unread_text(alloc, fault, DOCUMENT, start, out),
     };
-    let held = Box::new(alloc, started)?;
+    let Ok(held) = Box::new(alloc, started) else {
+        return report_no_memory(out);
+    };
     log.put(alloc, held);
-    Ok(String::new(alloc))
+    write_result("", out, limit)
 }
 
-/// Receives the message whose patch is a text, as `mp_replica::PatchLog::receive` does. The text is read first.
+/// Receives the message whose patch is a text, as `mp_replica::PatchLog::receive_text` does.
 #[unsafe(no_mangle)]
 pub extern "C" fn mergejoin_patch_log_receive(
     alloc: Global,
@@ -69,52 +62,31 @@ pub extern "C" fn mergejoin_patch_log_receive(
         result out.old out.new }
 {
     let Some(mut held) = log.take(alloc) else {
-        return report_live(Err(Stop::NotStarted), PATCH, out, limit);
+        return report_not_started(out);
     };
     let identity = Identity { sender, number };
-    let answer = receive(alloc, &mut held, epoch, identity, patch);
+    let reply = receive(alloc, &mut held, epoch, identity, patch, out, limit);
     log.put(alloc, held);
-    report_arrival(answer, out, limit)
+    reply
 }
 
+// The word takes no memory, so that none can run out once the patch is stored.
 fn receive(
     alloc: Global,
     log: &mut PatchLog,
     epoch: u64,
     identity: Identity,
     patch: &[u8],
-) -> Result<Arrival, Stop>
-    ensures { SaysArrival epoch identity patch.now log.old (arrival_answer result) log.new }
+    out: &mut [u8],
+    limit: usize,
+) -> Reply
+    ensures { HandleReplies limit status_patch
+        (λ answer. SaysArrival epoch identity patch.now log.old answer log.new)
+        result out.old out.new }
 {
-    let patch = patch_of(alloc, patch)?;
-    let message = Message {
-        epoch,
-        identity,
-        patch,
-    };
-    Ok(log.receive(alloc, &message)?)
-}
-
-// The patch that a text is.
-fn patch_of(alloc: Global, text: &[u8]) -> Result<Doc, Stop>
-    ensures { MatchResult result (λ patch. document_in text.now ≡ Ok (document patch))
-        (λ stop. IsNoPatch text.now stop) }
-{
-    match read_doc(alloc, text) {
-        Ok(patch) => Ok(patch),
-        Err(ReadFault::OutOfMemory) => Err(Stop::Fault(LiveFault::OutOfMemory)),
-        Err(why) => Err(stop_of(alloc, LiveFault::Document(why), text)),
-    }
-}
-
-// The word takes no memory, so that none can run out once the patch is stored.
-fn report_arrival(answer: Result<Arrival, Stop>, out: &mut [u8], limit: usize) -> Reply
-    ensures { IsReply (report_of_handle limit status_patch (arrival_answer answer)) result
-        out.old out.new }
-{
-    match answer {
+    match log.receive_text(alloc, epoch, identity, patch) {
         Ok(arrival) => write_result(word_of(arrival), out, limit),
-        Err(stop) => report_live(Err(stop), PATCH, out, limit),
+        Err(fault) => report_unread_text(alloc, fault, PATCH, patch, out),
     }
 }
 
@@ -143,17 +115,17 @@ pub extern "C" fn mergejoin_patch_log_document(
         result out.old out.new }
 {
     let Some(mut held) = log.take(alloc) else {
-        return report_live(Err(Stop::NotStarted), DOCUMENT, out, limit);
+        return report_not_started(out);
     };
     let answer = document(alloc, &mut held, limit);
     log.put(alloc, held);
-    report_live(answer, DOCUMENT, out, limit)
+    report_live(answer, out, limit)
 }
 
-fn document(alloc: Global, log: &mut PatchLog, limit: usize) -> Result<String, Stop>
-    ensures { OnlyReads (GivesLogDocument limit) log.old (handle_answer result) log.new }
+fn document(alloc: Global, log: &mut PatchLog, limit: usize) -> Result<String, LiveFault>
+    ensures { OnlyReads (GivesLogDocument limit) log.old (live_answer result) log.new }
 {
-    Ok(log.document_text(alloc, limit)?)
+    log.document_text(alloc, limit)
 }
 
 /// The text of each two patches of a log that conflict, as `mp_replica::PatchLog::conflicts_text_within` gives it.
@@ -170,7 +142,7 @@ pub extern "C" fn mergejoin_patch_log_conflicts(
         result out.old out.new }
 {
     let Some(held) = log.take(alloc) else {
-        return report_live(Err(Stop::NotStarted), DOCUMENT, out, limit);
+        return report_not_started(out);
     };
     let answer = held.conflicts_text_within(alloc, limit);
     log.put(alloc, held);
@@ -194,7 +166,7 @@ pub extern "C" fn mergejoin_patch_log_conflicts_of(
         result out.old out.new }
 {
     let Some(held) = log.take(alloc) else {
-        return report_live(Err(Stop::NotStarted), DOCUMENT, out, limit);
+        return report_not_started(out);
     };
     let answer = held.conflicts_of_text_within(alloc, Identity { sender, number }, limit);
     log.put(alloc, held);
@@ -208,7 +180,7 @@ fn report_conflicts(answer: Result<PairsText, LiveFault>, out: &mut [u8], limit:
     match answer {
         Ok(PairsText { text, more: true }) => write_first(text.as_str(), out, limit),
         Ok(PairsText { text, more: false }) => write_result(text.as_str(), out, limit),
-        Err(fault) => report_live(Err(Stop::Fault(fault)), DOCUMENT, out, limit),
+        Err(fault) => report_live_fault(fault, DOCUMENT, out),
     }
 }
 
@@ -225,15 +197,15 @@ pub extern "C" fn mergejoin_patch_log_count(
         result out.old out.new }
 {
     let Some(held) = log.take(alloc) else {
-        return report_live(Err(Stop::NotStarted), DOCUMENT, out, limit);
+        return report_not_started(out);
     };
     let answer = count(alloc, &held);
     log.put(alloc, held);
-    report_live(answer, DOCUMENT, out, limit)
+    report_live(answer, out, limit)
 }
 
-fn count(alloc: Global, log: &PatchLog) -> Result<String, Stop>
-    ensures { GivesCount log.now (handle_answer result) }
+fn count(alloc: Global, log: &PatchLog) -> Result<String, LiveFault>
+    ensures { GivesCount log.now (live_answer result) }
 {
     let count = Doc::Whole(Whole::from_u64(log.count() as u64));
     Ok(write_doc(alloc, &count)?)
@@ -253,24 +225,13 @@ pub extern "C" fn mergejoin_patch_log_decide(
         result out.old out.new }
 {
     let Some(mut held) = log.take(alloc) else {
-        return report_decided(Err(Undecided::NotStarted), out);
+        return report_not_started(out);
     };
-    let answer = decide(alloc, &mut held, chosen, limit);
+    let decided = held.decide(alloc, chosen, limit);
     log.put(alloc, held);
-    report_decided(answer, out)
-}
-
-fn decide(
-    alloc: Global,
-    log: &mut PatchLog,
-    chosen: &[Identity],
-    limit: usize,
-) -> Result<(), Undecided>
-    ensures { Decides limit chosen.now log.old (decide_answer result) log.new }
-{
-    match log.decide(alloc, chosen, limit) {
-        Ok(()) => Ok(()),
-        Err(fault) => Err(undecided_of(alloc, fault, chosen, limit)),
+    match decided {
+        Ok(()) => write(RESULT, 0, "", out),
+        Err(fault) => report_undecided(alloc, fault, chosen, out, limit),
     }
 }
 

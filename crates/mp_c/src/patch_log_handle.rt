@@ -5,7 +5,7 @@ ghost use Rattle.mp_replica.specs.PatchLog.{HeldLog};
 ghost use Rattle.mp_replica.specs.contracts.patch_log.PatchLog.{the_row};
 ghost use Rattle.mp_c.specs.Owned.{owned_at};
 
-use crate::box_at::BoxAt;
+use crate::box_at::{BoxAt, needs_send};
 use mp_replica::PatchLog;
 use std::alloc::Global;
 use std::marker::Model;
@@ -60,10 +60,6 @@ impl PatchLogHandle {
 }
 
 unsafe impl Send for PatchLogHandle {}
-
-fn needs_send<T: Send>(value: T) -> T {
-    value
-}
 
 // That a handle may move to another thread: this is refused if `Send` of what it owns is not proved.
 pub(crate) fn crosses(handle: PatchLogHandle) -> PatchLogHandle {

@@ -1,14 +1,17 @@
 //! Exports on patches without a start that stay in memory, for reduces and aggregates.
-ghost use Rattle.std.specs.Prelude.{◌≡◌, ◌≢◌, IfErr, MatchResult, None, OnErr, option_map, Some};
-ghost use Rattle.mp_c.specs.OnHandles.{GivesJoin, GivesKept, HasAdded, HasCombined, IsMadeOfKept, OfPatches, SaysConflict, patches_in};
-ghost use Rattle.mp_c.specs.Private.Stopping.{IsSaid, IsSaidOfKept, handle_answer, stop_answer};
+ghost use Rattle.std.specs.Prelude.{◌≡◌, MatchResult, None};
+ghost use Rattle.mp_replica.specs.Held.{held_places};
+ghost use Rattle.mp_c.specs.OnHandles.{GivesJoin, GivesKept, HasAdded, HasCombined, IsMadeOfKept, OfPatches, patches_in};
+ghost use Rattle.mp_c.specs.Private.Reporting.{ReportsAdded, ReportsConflict, ReportsFirstPlaces, ReportsNoJoin, live_answer};
 ghost use Rattle.mp_c.specs.Replies.{HandleReplies};
 ghost use Rattle.mp_c.specs.Report.{status_document, status_patch};
 
 use crate::patches_handle::PatchesHandle;
-use crate::replying::{DOCUMENT, PATCH, Reply};
-use crate::stopping::{Stop, conflict_at, report_live, stop_of};
-use mp_replica::{Added, LiveFault, Patches, laws as live};
+use crate::replying::{
+    DOCUMENT, MORE, PATCH, Reply, report_live, report_live_fault, report_no_memory, report_places,
+    report_unread_text, write_result,
+};
+use mp_replica::{Added, FirstPlaces, LiveFault, Patches, laws as live};
 use mp_tree::laws as tree;
 use std::alloc::{AllocFailed, Global};
 
@@ -39,54 +42,61 @@ pub extern "C" fn mergejoin_patches_add(
         (λ answer. OfPatches (HasAdded limit patch.now) patches.old.value answer patches.new.value)
         result out.old out.new }
 {
-    report_live(add_to(alloc, patches, patch, limit), PATCH, out, limit)
-}
-
-fn add_to(
-    alloc: Global,
-    patches: &mut PatchesHandle,
-    patch: &[u8],
-    limit: usize,
-) -> Result<String, Stop>
-    ensures { OfPatches (HasAdded limit patch.now) patches.old.value (handle_answer result)
-        patches.new.value }
-{
-    let mut held = held_or_none(alloc, patches)?;
-    let answer = add(alloc, &mut held, patch, limit);
+    let Ok(mut held) = held_or_none(alloc, patches) else {
+        return report_no_memory(out);
+    };
+    let reply = add(alloc, &mut held, patch, out, limit);
     patches.put(alloc, held);
-    answer
+    reply
 }
 
-fn add(alloc: Global, patches: &mut Patches, patch: &[u8], limit: usize) -> Result<String, Stop>
-    ensures { HasAdded limit patch.now patches.old (handle_answer result) patches.new }
+fn add(alloc: Global, patches: &mut Patches, patch: &[u8], out: &mut [u8], limit: usize) -> Reply
+    ensures { HandleReplies limit status_patch
+        (λ answer. HasAdded limit patch.now patches.old answer patches.new)
+        result out.old out.new }
 {
     match patches.add_text(alloc, patch) {
-        Ok(added) => said_of(alloc, added, patches, limit),
-        Err(fault) => Err(stop_of(alloc, fault, patch)),
+        Ok(added) => report_added(alloc, added, patches, out, limit),
+        Err(fault) => report_unread_text(alloc, fault, PATCH, patch, out),
     }
 }
 
 // What is said of patches that were to be taken.
-fn said_of(alloc: Global, added: Added, patches: &Patches, limit: usize) -> Result<String, Stop>
-    requires { added ≡ Added.Conflict → patches.now.places ≢ None }
-    ensures { IsSaid limit added patches.now (handle_answer result) }
+fn report_added(
+    alloc: Global,
+    added: Added,
+    patches: &Patches,
+    out: &mut [u8],
+    limit: usize,
+) -> Reply
+    ensures { ReportsAdded limit added patches.now result out.old out.new }
 {
     match added {
-        Added::Joined => Ok(String::new(alloc)),
-        Added::Conflict => Err(conflict_of(alloc, patches, limit)),
-        Added::Pending => Err(Stop::Fault(LiveFault::Pending)),
-        Added::Refused => Err(Stop::Fault(LiveFault::OutOfMemory)),
+        Added::Joined => write_result("", out, limit),
+        Added::Conflict => report_conflict(alloc, patches, out, limit),
+        Added::Pending => report_live_fault(LiveFault::Pending, DOCUMENT, out),
+        Added::Refused => report_no_memory(out),
     }
 }
 
-// Where patches conflict.
-fn conflict_of(alloc: Global, patches: &Patches, limit: usize) -> Stop
-    requires { patches.now.places ≢ None }
-    ensures { SaysConflict limit (stop_answer result) patches.now }
+// Where patches conflict, if they do.
+fn report_conflict(alloc: Global, patches: &Patches, out: &mut [u8], limit: usize) -> Reply
+    ensures { ReportsConflict limit patches.now.places result out.old out.new }
 {
     match patches.places() {
-        Some(found) => conflict_at(alloc, found, limit),
-        None => Stop::Fault(LiveFault::OutOfMemory),
+        Some(found) => report_first_places(alloc, found, out, limit),
+        None => write_result("", out, limit),
+    }
+}
+
+// The places of a conflict that were found, as many as the limit allows, and whether there are more.
+fn report_first_places(alloc: Global, found: &FirstPlaces, out: &mut [u8], limit: usize) -> Reply
+    ensures { ReportsFirstPlaces limit (held_places found.now) result out.old out.new }
+{
+    let places = found.places.as_slice();
+    Reply {
+        flags: if found.more { MORE } else { 0 },
+        ..report_places(alloc, places, places.len(), out, limit)
     }
 }
 
@@ -104,42 +114,32 @@ pub extern "C" fn mergejoin_patches_combine(
         answer (patches_in patches.new.value) (patches_in other.new.value))
         result out.old out.new }
 {
-    report_live(
-        combine_with(alloc, patches, other, limit),
-        DOCUMENT,
-        out,
-        limit,
-    )
-}
-
-fn combine_with(
-    alloc: Global,
-    patches: &mut PatchesHandle,
-    other: &mut PatchesHandle,
-    limit: usize,
-) -> Result<String, Stop>
-    ensures { HasCombined limit (patches_in patches.old.value) (patches_in other.old.value)
-        (handle_answer result) (patches_in patches.new.value) (patches_in other.new.value) }
-{
-    let mut held = held_or_none(alloc, patches)?;
-    let answer = combine_into(alloc, &mut held, other, limit);
+    let Ok(mut held) = held_or_none(alloc, patches) else {
+        return report_no_memory(out);
+    };
+    let reply = combine_into(alloc, &mut held, other, out, limit);
     patches.put(alloc, held);
-    answer
+    reply
 }
 
 fn combine_into(
     alloc: Global,
     patches: &mut Patches,
     other: &mut PatchesHandle,
+    out: &mut [u8],
     limit: usize,
-) -> Result<String, Stop>
-    ensures { HasCombined limit patches.old (patches_in other.old.value) (handle_answer result)
-        patches.new (patches_in other.new.value) }
+) -> Reply
+    ensures { HandleReplies limit status_document
+        (λ answer. HasCombined limit patches.old (patches_in other.old.value) answer patches.new
+        (patches_in other.new.value))
+        result out.old out.new }
 {
-    let mut held = held_or_none(alloc, other)?;
+    let Ok(mut held) = held_or_none(alloc, other) else {
+        return report_no_memory(out);
+    };
     let added = patches.combine(alloc, &mut held);
     other.put(alloc, held);
-    said_of(alloc, added, patches, limit)
+    report_added(alloc, added, patches, out, limit)
 }
 
 /// The text of the join of all that was taken, as `mp_replica::Patches::text` gives it.
@@ -154,35 +154,39 @@ pub extern "C" fn mergejoin_patches_text(
         (λ answer. OfPatches (GivesJoin limit) patches.old.value answer patches.new.value)
         result out.old out.new }
 {
-    report_live(text_of(alloc, patches, limit), DOCUMENT, out, limit)
-}
-
-fn text_of(alloc: Global, patches: &mut PatchesHandle, limit: usize) -> Result<String, Stop>
-    ensures { OfPatches (GivesJoin limit) patches.old.value (handle_answer result)
-        patches.new.value }
-{
     live::holds_join();
-    match patches.take(alloc) {
-        Some(mut held) => {
-            let answer = text(alloc, &mut held, limit);
-            patches.put(alloc, held);
-            answer
-        }
-        None => Err(Stop::Fault(LiveFault::NoPatches)),
-    }
+    let Some(mut held) = patches.take(alloc) else {
+        return report_live_fault(LiveFault::NoPatches, DOCUMENT, out);
+    };
+    let reply = text(alloc, &mut held, out, limit);
+    patches.put(alloc, held);
+    reply
 }
 
-fn text(alloc: Global, patches: &mut Patches, limit: usize) -> Result<String, Stop>
-    ensures { GivesJoin limit patches.old (handle_answer result) patches.new }
+fn text(alloc: Global, patches: &mut Patches, out: &mut [u8], limit: usize) -> Reply
+    ensures { HandleReplies limit status_document
+        (λ answer. GivesJoin limit patches.old answer patches.new) result out.old out.new }
 {
     let _settled = patches.settle(alloc);
     match patches.text(alloc, limit) {
-        Ok(joined) => Ok(joined),
-        Err(LiveFault::Conflict) => Err(conflict_of(alloc, patches, limit)),
-        Err(LiveFault::Pending) => Err(Stop::Fault(LiveFault::Pending)),
-        Err(LiveFault::NoPatches) => Err(Stop::Fault(LiveFault::NoPatches)),
-        Err(LiveFault::TooLarge) => Err(Stop::Fault(LiveFault::TooLarge)),
-        Err(_) => Err(Stop::Fault(LiveFault::OutOfMemory)),
+        Ok(joined) => write_result(joined.as_str(), out, limit),
+        Err(fault) => report_no_join(alloc, fault, patches, out, limit),
+    }
+}
+
+// Why there is no join: of a conflict, where.
+fn report_no_join(
+    alloc: Global,
+    fault: LiveFault,
+    patches: &Patches,
+    out: &mut [u8],
+    limit: usize,
+) -> Reply
+    ensures { ReportsNoJoin limit fault patches.now result out.old out.new }
+{
+    match fault {
+        LiveFault::Conflict => report_conflict(alloc, patches, out, limit),
+        other => report_live_fault(other, DOCUMENT, out),
     }
 }
 
@@ -198,28 +202,21 @@ pub extern "C" fn mergejoin_patches_kept(
         (λ answer. OfPatches (GivesKept limit) patches.old.value answer patches.new.value)
         result out.old out.new }
 {
-    report_live(kept_of(alloc, patches, limit), DOCUMENT, out, limit)
-}
-
-fn kept_of(alloc: Global, patches: &mut PatchesHandle, limit: usize) -> Result<String, Stop>
-    ensures { OfPatches (GivesKept limit) patches.old.value (handle_answer result)
-        patches.new.value }
-{
     live::holds_join();
     let Some(mut held) = patches.take(alloc) else {
-        return Ok(String::new(alloc));
+        return write_result("", out, limit);
     };
     let answer = kept(alloc, &mut held, limit);
     patches.put(alloc, held);
-    answer
+    report_live(answer, out, limit)
 }
 
-fn kept(alloc: Global, patches: &mut Patches, limit: usize) -> Result<String, Stop>
-    ensures { GivesKept limit patches.old (handle_answer result) patches.new }
+fn kept(alloc: Global, patches: &mut Patches, limit: usize) -> Result<String, LiveFault>
+    ensures { GivesKept limit patches.old (live_answer result) patches.new }
 {
     tree::readings_are_documents();
     let _settled = patches.settle(alloc);
-    Ok(patches.kept(alloc, limit)?)
+    patches.kept(alloc, limit)
 }
 
 /// The patches of a kept form, in the place of what was taken before, as `mp_replica::Patches::from_kept` gives them.
@@ -236,33 +233,16 @@ pub extern "C" fn mergejoin_patches_from_kept(
         patches.new.value)
         result out.old out.new }
 {
-    report_live(hold_kept(alloc, patches, kept, limit), DOCUMENT, out, limit)
-}
-
-fn hold_kept(
-    alloc: Global,
-    patches: &mut PatchesHandle,
-    kept: &[u8],
-    limit: usize,
-) -> Result<String, Stop>
-    ensures { OfPatches (IsMadeOfKept limit kept.now) patches.old.value (handle_answer result)
-        patches.new.value }
-{
-    let held = Patches::from_kept(alloc, kept)?;
-    let answer = kept_answer(alloc, &held, limit);
-    let held = Box::new(alloc, held)?;
+    let made = match Patches::from_kept(alloc, kept) {
+        Ok(made) => made,
+        Err(fault) => return report_live_fault(fault, DOCUMENT, out),
+    };
+    let Ok(held) = Box::new(alloc, made) else {
+        return report_no_memory(out);
+    };
+    let reply = report_conflict(alloc, &held, out, limit);
     patches.put(alloc, held);
-    answer
-}
-
-// What is said of patches that were kept: nothing, or where two of them conflict.
-fn kept_answer(alloc: Global, patches: &Patches, limit: usize) -> Result<String, Stop>
-    ensures { IsSaidOfKept limit patches.now (handle_answer result) }
-{
-    match patches.places() {
-        Some(found) => Err(conflict_at(alloc, found, limit)),
-        None => Ok(String::new(alloc)),
-    }
+    reply
 }
 
 /// Frees the patches, if some are held.

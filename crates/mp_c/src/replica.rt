@@ -1,18 +1,20 @@
 //! Exports on a replica that stays in memory.
+#![tactic(auto, using(crate::proofs::Started::not_started))]
+
 ghost use Rattle.std.specs.Prelude.{◌≡◌, None};
-ghost use Rattle.mp_tree.specs.View.{document};
 ghost use Rattle.mp_c.specs.OnHandles.{HasReceived, IsStarted, OfStarted, ShowsDocument, ShowsJoin, ShowsPart};
-ghost use Rattle.mp_c.specs.Private.Stopping.{handle_answer, IsConflictOf};
+ghost use Rattle.mp_c.specs.Private.Reporting.{ReportsConflicts, live_answer};
 ghost use Rattle.mp_c.specs.Replies.{HandleReplies};
 ghost use Rattle.mp_c.specs.Report.{status_document, status_patch};
 
 use crate::replica_handle::ReplicaHandle;
-use crate::replying::{DOCUMENT, PATCH, Reply};
-use crate::stopping::{Stop, report_live, stop_of, text_of_places};
+use crate::replying::{
+    DOCUMENT, PATCH, Reply, report_live, report_live_fault, report_no_memory, report_not_started,
+    report_not_utf8, report_places, report_unread_text, write_result,
+};
 use mp_merge::Conflicts;
 use mp_replica::{LiveFault, Received, Replica};
-use mp_tree::Doc;
-use std::alloc::Global;
+use std::alloc::{AllocError, Global};
 
 /// Starts a replica from the text of a document, in the place of one that was started before.
 #[unsafe(no_mangle)]
@@ -27,19 +29,15 @@ pub extern "C" fn mergejoin_replica_start(
         (λ answer. IsStarted start.now replica.old.value answer replica.new.value)
         result out.old out.new }
 {
-    report_live(start_replica(alloc, replica, start), DOCUMENT, out, limit)
-}
-
-fn start_replica(alloc: Global, replica: &mut ReplicaHandle, start: &[u8]) -> Result<String, Stop>
-    ensures { IsStarted start.now replica.old.value (handle_answer result) replica.new.value }
-{
     let started = match Replica::from_text(alloc, start) {
         Ok(started) => started,
-        Err(fault) => return Err(stop_of(alloc, fault, start)),
+        Err(fault) => return report_unread_text(alloc, fault, DOCUMENT, start, out),
     };
-    let held = Box::new(alloc, started)?;
+    let Ok(held) = Box::new(alloc, started) else {
+        return report_no_memory(out);
+    };
     replica.put(alloc, held);
-    Ok(String::new(alloc))
+    write_result("", out, limit)
 }
 
 /// Receives the patch of a text, as `mp_replica::Replica::receive_text` does.
@@ -57,39 +55,53 @@ pub extern "C" fn mergejoin_replica_receive(
         result out.old out.new }
 {
     let Some(mut held) = replica.take(alloc) else {
-        return report_live(Err(Stop::NotStarted), PATCH, out, limit);
+        return report_not_started(out);
     };
-    let answer = receive(alloc, &mut held, patch, limit);
+    let reply = receive(alloc, &mut held, patch, out, limit);
     replica.put(alloc, held);
-    report_live(answer, PATCH, out, limit)
+    reply
 }
 
-fn receive(alloc: Global, replica: &mut Replica, patch: &[u8], limit: usize) -> Result<String, Stop>
-    ensures { HasReceived limit patch.now replica.old (handle_answer result) replica.new }
+fn receive(
+    alloc: Global,
+    replica: &mut Replica,
+    patch: &[u8],
+    out: &mut [u8],
+    limit: usize,
+) -> Reply
+    ensures { HandleReplies limit status_patch
+        (λ answer. HasReceived limit patch.now replica.old answer replica.new)
+        result out.old out.new }
 {
     let received = match replica.receive_text(alloc, patch) {
         Ok(received) => received,
-        Err(fault) => return Err(stop_of(alloc, fault, patch)),
+        Err(fault) => return report_unread_text(alloc, fault, PATCH, patch, out),
     };
     match received {
-        Received::Taken => Ok(String::new(alloc)),
-        Received::Conflict(patch) => Err(conflict_with(alloc, replica, &patch, limit)),
-        Received::Pending => Err(Stop::Fault(LiveFault::Pending)),
-        Received::Refused => Err(Stop::Fault(LiveFault::OutOfMemory)),
+        Received::Taken => write_result("", out, limit),
+        Received::Conflict(back) => {
+            let found = replica.conflicts_within(alloc, &back, limit);
+            report_conflicts(alloc, found, out, limit)
+        }
+        Received::Pending => report_live_fault(LiveFault::Pending, PATCH, out),
+        Received::Refused => report_no_memory(out),
     }
 }
 
-// Where the patch conflicts with what was received. It is a conflict still if there is no memory for the places.
-fn conflict_with(alloc: Global, replica: &Replica, patch: &Doc, limit: usize) -> Stop
-    ensures { IsConflictOf limit replica.now (document patch.now) result }
+// Where a patch conflicts with what was received. It is a conflict still if there is no memory for the places.
+fn report_conflicts(
+    alloc: Global,
+    found: Result<Conflicts, AllocError>,
+    out: &mut [u8],
+    limit: usize,
+) -> Reply
+    ensures { ReportsConflicts limit found result out.old out.new }
 {
-    match replica.conflicts_within(alloc, patch, limit) {
-        Ok(Conflicts { places, total }) => Stop::Conflict {
-            total,
-            places: text_of_places(alloc, places.as_slice(), limit),
-            more: false,
-        },
-        Err(_) => Stop::Fault(LiveFault::Conflict),
+    match found {
+        Ok(Conflicts { places, total }) => {
+            report_places(alloc, places.as_slice(), total, out, limit)
+        }
+        Err(_) => report_live_fault(LiveFault::Conflict, PATCH, out),
     }
 }
 
@@ -106,18 +118,18 @@ pub extern "C" fn mergejoin_replica_document(
         result out.old out.new }
 {
     let Some(mut held) = replica.take(alloc) else {
-        return report_live(Err(Stop::NotStarted), DOCUMENT, out, limit);
+        return report_not_started(out);
     };
     let answer = document(alloc, &mut held, limit);
     replica.put(alloc, held);
-    report_live(answer, DOCUMENT, out, limit)
+    report_live(answer, out, limit)
 }
 
-fn document(alloc: Global, replica: &mut Replica, limit: usize) -> Result<String, Stop>
-    ensures { ShowsDocument limit replica.old (handle_answer result) replica.new }
+fn document(alloc: Global, replica: &mut Replica, limit: usize) -> Result<String, LiveFault>
+    ensures { ShowsDocument limit replica.old (live_answer result) replica.new }
 {
     let _settled = replica.settle(alloc);
-    Ok(replica.shown_text(alloc, limit)?)
+    replica.document_text(alloc, limit)
 }
 
 /// The text of the join of what a replica received.
@@ -133,18 +145,18 @@ pub extern "C" fn mergejoin_replica_joined(
         result out.old out.new }
 {
     let Some(mut held) = replica.take(alloc) else {
-        return report_live(Err(Stop::NotStarted), DOCUMENT, out, limit);
+        return report_not_started(out);
     };
     let answer = joined(alloc, &mut held, limit);
     replica.put(alloc, held);
-    report_live(answer, DOCUMENT, out, limit)
+    report_live(answer, out, limit)
 }
 
-fn joined(alloc: Global, replica: &mut Replica, limit: usize) -> Result<String, Stop>
-    ensures { ShowsJoin limit replica.old (handle_answer result) replica.new }
+fn joined(alloc: Global, replica: &mut Replica, limit: usize) -> Result<String, LiveFault>
+    ensures { ShowsJoin limit replica.old (live_answer result) replica.new }
 {
     let _settled = replica.settle(alloc);
-    Ok(replica.joined_text(alloc, limit)?)
+    replica.joined_text(alloc, limit)
 }
 
 /// The text of the part of what a replica shows that the pointer names (RFC 6901).
@@ -162,22 +174,24 @@ pub extern "C" fn mergejoin_replica_get(
         result out.old out.new }
 {
     let Some(mut held) = replica.take(alloc) else {
-        return report_live(Err(Stop::NotStarted), DOCUMENT, out, limit);
+        return report_not_started(out);
     };
-    let answer = part(alloc, &mut held, pointer, limit);
+    let reply = part(alloc, &mut held, pointer, out, limit);
     replica.put(alloc, held);
-    report_live(answer, DOCUMENT, out, limit)
+    reply
 }
 
-fn part(alloc: Global, replica: &mut Replica, pointer: &[u8], limit: usize) -> Result<String, Stop>
-    ensures { ShowsPart limit pointer.now replica.old (handle_answer result) replica.new }
+fn part(alloc: Global, replica: &mut Replica, pointer: &[u8], out: &mut [u8], limit: usize) -> Reply
+    ensures { HandleReplies limit status_document
+        (λ answer. ShowsPart limit pointer.now replica.old answer replica.new)
+        result out.old out.new }
 {
     match str::from_utf8(pointer) {
         Ok(pointer) => {
             let _settled = replica.settle(alloc);
-            Ok(replica.part_text(alloc, pointer, limit)?)
+            report_live(replica.get_text(alloc, pointer, limit), out, limit)
         }
-        Err(fault) => Err(Stop::NotUtf8(fault.valid_up_to())),
+        Err(fault) => report_not_utf8(fault.valid_up_to(), out),
     }
 }
 

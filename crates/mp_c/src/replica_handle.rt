@@ -5,7 +5,7 @@ ghost use Rattle.mp_replica.specs.Held.{HeldReplica};
 ghost use Rattle.mp_replica.specs.contracts.replica.Replica.{the_row};
 ghost use Rattle.mp_c.specs.Owned.{owned_at};
 
-use crate::box_at::BoxAt;
+use crate::box_at::{BoxAt, needs_send};
 use mp_replica::Replica;
 use std::alloc::Global;
 use std::marker::Model;
@@ -60,10 +60,6 @@ impl ReplicaHandle {
 }
 
 unsafe impl Send for ReplicaHandle {}
-
-fn needs_send<T: Send>(value: T) -> T {
-    value
-}
 
 // That a handle may move to another thread: this is refused if `Send` of what it owns is not proved.
 pub(crate) fn crosses(handle: ReplicaHandle) -> ReplicaHandle {

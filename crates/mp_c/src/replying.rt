@@ -1,14 +1,16 @@
 //! What a call leaves: the reply, and the text in the caller's buffer.
-ghost use Rattle.std.specs.Prelude.{[], ◌≡◌, string_bytes, IfOk, Some};
-ghost use Rattle.mp_c.specs.Answered.{IsPlaceAt, IsPlaceIn, not_utf8, read_text, said_with};
-ghost use Rattle.mp_c.specs.Private.Reporting.{Reports, ReportsCall, ReportsFault, ReportsList, ReportsUnread};
+ghost use Rattle.std.specs.Prelude.{[], ◌≡◌, ℕ, IfOk, List, Some, codes, string_bytes};
+ghost use Rattle.mp_c.specs.Answered.{IsPlaceIn, not_utf8, read_text, said_with};
+ghost use Rattle.mp_c.specs.OnHandles.{IsPlacesTextOrNone};
+ghost use Rattle.mp_c.specs.Private.Reporting.{Reports, ReportsCall, ReportsFault, ReportsList, ReportsUnread, ReportsUnreadText, live_answer};
 ghost use Rattle.mp_c.specs.Replies.{IsReply};
-ghost use Rattle.mp_c.specs.Report.{no_memory, numbered, report_of, report_of_apply, report_of_first, report_of_form, report_of_pointer, report_of_text, report_of_unread, report_of_words, status_patch, status_too_large, unnumbered};
+ghost use Rattle.mp_c.specs.Report.{no_memory, numbered, report_of, report_of_apply, report_of_first, report_of_form, report_of_handle, report_of_live_fault, report_of_places, report_of_pointer, report_of_text, report_of_unread, report_of_words, status_document, status_not_started, unnumbered};
 ghost use Rattle.mp_texts.specs.Texts.{given};
 
-use mp_merge::ListWithinFault;
+use mp_merge::{Conflicts, ListFault};
 use mp_patch::{ApplyFault, FormFault};
 use mp_pointer::{Pointer, PointerFault};
+use mp_replica::LiveFault;
 use mp_texts::{TextsFault, fault_place, write_places_within};
 use mp_tree::ReadFault;
 use std::alloc::{AllocError, Global};
@@ -42,10 +44,10 @@ pub(crate) const RESULT: u32 = 0;
 
 /// Two merge patches conflict: `first` and `second` are their numbers, `total` is at how many places, and the text is a JSON array of
 /// the first of them, as many as the limit allows.
-pub(crate) const CONFLICT: u32 = 1;
+const CONFLICT: u32 = 1;
 
 /// There is no patch to join.
-pub(crate) const NO_PATCHES: u32 = 2;
+const NO_PATCHES: u32 = 2;
 
 /// The operation of number `first` is refused, or a new start is.
 pub(crate) const REFUSED: u32 = 3;
@@ -63,20 +65,20 @@ pub(crate) const PATCH: u32 = 6;
 const FORM: u32 = 7;
 
 /// The text is not a pointer: `first` is the offset in bytes.
-pub(crate) const POINTER: u32 = 8;
+const POINTER: u32 = 8;
 
 /// Memory ran out.
-pub(crate) const NO_MEMORY: u32 = 9;
+const NO_MEMORY: u32 = 9;
 
 /// A patch is received, or taken, and memory ran out before it can be shown.
-pub(crate) const PENDING: u32 = 10;
+const PENDING: u32 = 10;
 
 /// The result, or something on the way to it, is larger than the caller allows: `first` is the number of the operation whose result
 /// weighs more, or how many operations of a rewriting fit, or 0 if the text is longer.
-pub(crate) const TOO_LARGE: u32 = 11;
+const TOO_LARGE: u32 = 11;
 
 /// There is no replica, or no patch log, yet.
-pub(crate) const NOT_STARTED: u32 = 12;
+const NOT_STARTED: u32 = 12;
 
 // The answer of a call over these texts, within a limit.
 pub(crate) fn report(
@@ -101,7 +103,7 @@ pub(crate) fn write_result(text: &str, out: &mut [u8], limit: usize) -> Reply
     ensures { IsReply (report_of_text limit text.now) result out.old out.new }
 {
     if text.len() > limit {
-        report_too_large(out)
+        write(TOO_LARGE, 0, "", out)
     } else {
         write(RESULT, 0, text, out)
     }
@@ -112,19 +114,12 @@ pub(crate) fn write_first(text: &str, out: &mut [u8], limit: usize) -> Reply
     ensures { IsReply (report_of_first limit text.now) result out.old out.new }
 {
     if limit < text.len() {
-        return report_too_large(out);
+        return write(TOO_LARGE, 0, "", out);
     }
     Reply {
         flags: MORE,
         ..write(RESULT, 0, text, out)
     }
-}
-
-// Nothing of a text that is longer than the caller allows.
-fn report_too_large(out: &mut [u8]) -> Reply
-    ensures { IsReply (unnumbered status_too_large []) result out.old out.new }
-{
-    write(TOO_LARGE, 0, "", out)
 }
 
 // The bytes of a pointer that are no text from the offset on.
@@ -146,9 +141,10 @@ fn report_fault(
 {
     match fault {
         TextsFault::Document(why) => report_unread(alloc, DOCUMENT, 0, why, document, out),
-        TextsFault::Patch { number, fault: why } => {
-            report_unread_patch(alloc, number, why, patches, out)
-        }
+        TextsFault::Patch { number, fault: why } => match patches.get(number) {
+            Some(text) => report_unread(alloc, PATCH, number, why, text, out),
+            None => write_unread(alloc, PATCH, number, why, None, out),
+        },
         TextsFault::List(fault) => report_list_fault(alloc, fault, out, limit),
         TextsFault::Form(fault) => report_form_fault(fault, out),
         TextsFault::Refused(fault) => report_run_fault(fault, out),
@@ -156,23 +152,6 @@ fn report_fault(
         TextsFault::Missing => write(MISSING, 0, "missing", out),
         TextsFault::TooLarge { number } => write(TOO_LARGE, number, "", out),
         TextsFault::OutOfMemory => report_no_memory(out),
-    }
-}
-
-// The patch of that number is no document.
-fn report_unread_patch(
-    alloc: Global,
-    number: usize,
-    why: ReadFault,
-    patches: &[&[u8]],
-    out: &mut [u8],
-) -> Reply
-    ensures { ReportsUnread status_patch number why (IsPlaceAt why (given patches.now) number)
-        result out.old out.new }
-{
-    match patches.get(number) {
-        Some(text) => report_unread(alloc, PATCH, number, why, text, out),
-        None => write_unread(alloc, PATCH, number, why, None, out),
     }
 }
 
@@ -193,7 +172,7 @@ pub(crate) fn report_unread(
     }
 }
 
-pub(crate) fn write_unread(
+fn write_unread(
     alloc: Global,
     status: u32,
     number: usize,
@@ -210,7 +189,7 @@ pub(crate) fn write_unread(
 }
 
 // Why a text is no document, in words.
-pub(crate) fn words_of(why: ReadFault) -> &'static str
+fn words_of(why: ReadFault) -> &'static str
     ensures { result.now ≡ read_text why }
 {
     match why {
@@ -244,7 +223,7 @@ fn write_words(
     }
 }
 
-pub(crate) fn with_place(alloc: Global, words: &str, place: &Pointer) -> Result<String, AllocError>
+fn with_place(alloc: Global, words: &str, place: &Pointer) -> Result<String, AllocError>
     ensures { IfOk result (λ text.
         string_bytes text ≡ said_with words.now (Some place.now)) }
 {
@@ -254,24 +233,29 @@ pub(crate) fn with_place(alloc: Global, words: &str, place: &Pointer) -> Result<
     Ok(text)
 }
 
-fn report_list_fault(alloc: Global, fault: ListWithinFault, out: &mut [u8], limit: usize) -> Reply
+fn report_list_fault(
+    alloc: Global,
+    fault: ListFault<Conflicts>,
+    out: &mut [u8],
+    limit: usize,
+) -> Reply
     ensures { ReportsList limit fault result out.old out.new }
 {
     match fault {
-        ListWithinFault::NoPatches => write(NO_PATCHES, 0, "no patches", out),
-        ListWithinFault::ConflictOf {
+        ListFault::NoPatches => write(NO_PATCHES, 0, "no patches", out),
+        ListFault::ConflictOf {
             first,
             second,
-            conflicts,
-        } => match write_places_within(alloc, conflicts.places.as_slice(), limit) {
+            places,
+        } => match write_places_within(alloc, places.places.as_slice(), limit) {
             Ok(text) => Reply {
                 second,
-                total: conflicts.total,
+                total: places.total,
                 ..write(CONFLICT, first, text.as_str(), out)
             },
             Err(_) => report_no_memory(out),
         },
-        ListWithinFault::OutOfMemory => report_no_memory(out),
+        ListFault::OutOfMemory => report_no_memory(out),
     }
 }
 
@@ -294,7 +278,7 @@ fn report_run_fault(fault: ApplyFault, out: &mut [u8]) -> Reply
     }
 }
 
-pub(crate) fn report_pointer_fault(fault: PointerFault, out: &mut [u8]) -> Reply
+fn report_pointer_fault(fault: PointerFault, out: &mut [u8]) -> Reply
     ensures { IsReply (report_of_pointer fault) result out.old out.new }
 {
     match fault {
@@ -326,5 +310,89 @@ pub(crate) fn write(status: u32, number: usize, text: &str, out: &mut [u8]) -> R
         spare: 0,
         status,
         flags: 0,
+    }
+}
+
+// No replica, or no patch log, is held.
+pub(crate) fn report_not_started(out: &mut [u8]) -> Reply
+    ensures { IsReply (unnumbered status_not_started (codes "not started")) result
+        out.old out.new }
+{
+    write(NOT_STARTED, 0, "not started", out)
+}
+
+// The answer of a call that reads what is held.
+pub(crate) fn report_live(answer: Result<String, LiveFault>, out: &mut [u8], limit: usize) -> Reply
+    ensures { IsReply (report_of_handle limit status_document (live_answer answer)) result
+        out.old out.new }
+{
+    match answer {
+        Ok(text) => write_result(text.as_str(), out, limit),
+        Err(fault) => report_live_fault(fault, DOCUMENT, out),
+    }
+}
+
+// Why a call on a handle has no result; `unread` is the status of a text that is no document.
+pub(crate) fn report_live_fault(fault: LiveFault, unread: u32, out: &mut [u8]) -> Reply
+    ensures { IsReply (report_of_live_fault unread fault) result out.old out.new }
+{
+    match fault {
+        LiveFault::Document(ReadFault::OutOfMemory) => report_no_memory(out),
+        LiveFault::Document(why) => write(unread, 0, words_of(why), out),
+        LiveFault::Pointer(fault) => report_pointer_fault(fault, out),
+        LiveFault::Missing => write(MISSING, 0, "missing", out),
+        LiveFault::NoPatches => write(NO_PATCHES, 0, "no patches", out),
+        LiveFault::Conflict => Reply {
+            flags: MORE,
+            ..write(CONFLICT, 0, "", out)
+        },
+        LiveFault::Pending => write(PENDING, 0, "pending", out),
+        LiveFault::TooLarge => write(TOO_LARGE, 0, "", out),
+        LiveFault::NotKept => write(unread, 0, "not kept patches", out),
+        LiveFault::OutOfMemory => report_no_memory(out),
+    }
+}
+
+// Why a call on this text has no result: of a text that is no document, where it has the value for which it is none.
+pub(crate) fn report_unread_text(
+    alloc: Global,
+    fault: LiveFault,
+    unread: u32,
+    text: &[u8],
+    out: &mut [u8],
+) -> Reply
+    ensures { ReportsUnreadText unread text.now fault result out.old out.new }
+{
+    match fault {
+        LiveFault::Document(why) => report_unread(alloc, unread, 0, why, text, out),
+        other => report_live_fault(other, unread, out),
+    }
+}
+
+// How many places patches conflict at, and the text of the array of as many of these as the limit allows.
+pub(crate) fn report_places(
+    alloc: Global,
+    places: &[Pointer],
+    total: usize,
+    out: &mut [u8],
+    limit: usize,
+) -> Reply
+    ensures { (array : List ℕ) × IsPlacesTextOrNone limit places.now array
+        × IsReply (report_of_places 0 0 total array) result out.old out.new }
+{
+    let text = text_of_places(alloc, places, limit);
+    Reply {
+        total,
+        ..write(CONFLICT, 0, text.as_str(), out)
+    }
+}
+
+// The text of the array of as many places as the limit allows; none if there is no memory for it.
+fn text_of_places(alloc: Global, places: &[Pointer], limit: usize) -> String
+    ensures { IsPlacesTextOrNone limit places.now (string_bytes result) }
+{
+    match write_places_within(alloc, places, limit) {
+        Ok(text) => text,
+        Err(_) => String::new(alloc),
     }
 }

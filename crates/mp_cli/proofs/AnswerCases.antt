@@ -2,7 +2,10 @@
 use Rattle.std.proofs.Common.{◌≡◌, ◌≢◌, ℕ, List, [], ◌∷◌, Some, map, refl, sym, subst}
 use Rattle.mp_tree.specs.Document.{Document}
 use Rattle.mp_tree.specs.View.{items_by}
-use Rattle.mp_merge.specs.Lists.{IsJoinAllFault, IsReplayFault}
+use Rattle.mp_patch.specs.Work.{no_limit}
+use Rattle.mp_merge.specs.Laws.{ReportedWithoutLimit}
+use Rattle.mp_merge.specs.Within.{IsJoinAllWithinFault, IsReplayWithinFault}
+use Rattle.mp_merge.specs.declared.comparing.Conflicts.{Conflicts}
 use Rattle.mp_merge.specs.declared.fault.ListFault.{ListFault}
 use Rattle.mp_merge.specs.declared.fault.ListFault.TheVariants.{NoPatches, ConflictOf, OutOfMemory}
 use Rattle.mp_cli.specs.Answered.{IsJoinAnswer, none_joined, join_refused, IsReplayAnswer, replay_refused, IsPatchAnswerTo, IsReplayAnswerTo, IsRewriteAnswerTo, IsGetAnswerTo, IsPartAnswer}
@@ -10,15 +13,16 @@ use Rattle.mp_cli.specs.Lines.{Output, wrong_shape}
 use Rattle.mp_cli.specs.Private.Answers.{list_fault}
 use Rattle.mp_tree.proofs.Facts.{list_of-by}
 
-pub no_join : (fault : ListFault) (patches : List Document) (a : Output) → IsJoinAllFault fault patches → list_fault fault ≡ Some a → IsJoinAnswer patches a
-no_join NoPatches patches a none is = none_joined none (cc)
-no_join (ConflictOf first second places) patches a clash is = join_refused first second places.items clash (cc)
-no_join OutOfMemory patches a none is = absurd (cc)
+module _ (whole : ReportedWithoutLimit) where
+  pub no_join : (fault : ListFault Conflicts) (patches : List Document) (a : Output) → IsJoinAllWithinFault no_limit fault patches → list_fault fault ≡ Some a → IsJoinAnswer patches a
+  no_join NoPatches patches a none is = none_joined none (cc)
+  no_join (ConflictOf first second conflicts) patches a clash is = join_refused first second conflicts.places.items (whole patches first second conflicts.places.items conflicts.total clash) (cc)
+  no_join OutOfMemory patches a none is = absurd (cc)
 
-pub no_replay : (fault : ListFault) (start : Document) (patches : List Document) (a : Output) → IsReplayFault fault patches → list_fault fault ≡ Some a → IsReplayAnswer start patches a
-no_replay NoPatches start patches a never is = absurd never
-no_replay (ConflictOf first second places) start patches a clash is = replay_refused first second places.items clash (cc)
-no_replay OutOfMemory start patches a none is = absurd (cc)
+  pub no_replay : (fault : ListFault Conflicts) (start : Document) (patches : List Document) (a : Output) → IsReplayWithinFault no_limit fault patches → list_fault fault ≡ Some a → IsReplayAnswer start patches a
+  no_replay NoPatches start patches a never is = absurd never
+  no_replay (ConflictOf first second conflicts) start patches a clash is = replay_refused first second conflicts.places.items (whole patches first second conflicts.places.items conflicts.total clash) (cc)
+  no_replay OutOfMemory start patches a none is = absurd (cc)
 
 -- the input of `replay` is its start and the patches
 pub replay_answer_by : {V : Type 0} (f : V → Document) (vs ps : List V) (v : V) (a : Output) → vs ≡ v ∷ ps → IsReplayAnswer (f v) (map f ps) a → IsReplayAnswerTo (items_by f vs) a

@@ -112,9 +112,9 @@ module _ (texts : TextLaws) (merges : MergeLaws) where
       absurd (All-contains (λ r. ⊥) [] p (All-nil (λ r. ⊥)) (subst (λ (ps : List Document). Contains ps p) none one))
   join_reports patches a all clash (join_refused first second places reported is) = reports patches a first second places reported is
 
-  pub clashes_are_reported : ClashesAreReported
+  pub conflicts_are_reported : ClashesAreReported
   unfolding IsAnswered
-  clashes_are_reported input start ps a reads clash answered =
+  conflicts_are_reported input start ps a reads clash answered =
       let all = readable_documents (list_of (item start ps)) (texts.readable input (item start ps) reads) in
       replay_reports start (list_of ps) a (All-head IsDocument start (list_of ps) all) (All-tail IsDocument start (list_of ps) all) clash (subst (λ r. IsChecked Replay r a) reads answered)
 

@@ -1,7 +1,7 @@
 //! The answer to an input: the checks in their order, and then the command's work.
 ghost use Rattle.std.specs.Prelude.{map, IfOk};
 ghost use Rattle.mp_tree.specs.Values.{value_document, value_items};
-ghost use Rattle.mp_patch.specs.View.{value_operations};
+ghost use Rattle.mp_patch.specs.View.{operations_by};
 ghost use Rattle.mp_cli.specs.Answered.{IsAnswered, IsGetAnswerTo, IsJoinAnswer, IsPatchAnswer, IsPatchAnswerTo, IsReplayAnswerTo, IsRewriteAnswer, IsRewriteAnswerTo, IsRunAnswer, answered_by, merge_answer};
 ghost use Rattle.mp_cli.specs.Private.Answers.{Gives};
 
@@ -12,9 +12,11 @@ use crate::lines::{
     apply_fault, form_fault, input_fault, list_fault, part_line, result_line, spelling_fault,
     wrong_shape,
 };
-use mp_merge::{join_all_values, merge_value, replay_values, rewrite_value};
-use mp_patch::{ValueOp, apply_to_value, ops_of_value, write_patch};
-use mp_pointer::{Pointer, get_value};
+use mp_merge::{
+    RewriteFault, join_all_within, laws as merging, merge_owned, replay_within, rewrite_within,
+};
+use mp_patch::{Op, apply_within, laws as patching, write_patch};
+use mp_pointer::{Pointer, part_in};
 use mp_tree::{read_values, write_value};
 use serde_json::Value;
 use std::alloc::{AllocError, Global};
@@ -58,7 +60,7 @@ fn get(alloc: Global, pointer: &str, values: Vec<Value>) -> Result<Answer, Alloc
         return wrong_shape(alloc);
     };
     match Pointer::parse(alloc, pointer) {
-        Ok(pointer) => part_line(alloc, get_value(&doc, &pointer)),
+        Ok(pointer) => part_line(alloc, part_in(&doc, &pointer, pointer.len())),
         Err(fault) => spelling_fault(alloc, fault),
     }
 }
@@ -76,19 +78,20 @@ fn read_and_apply(alloc: Global, doc: Value, patch: Value) -> Result<Answer, All
     ensures { IfOk result (λ a.
         IsPatchAnswer (value_document doc) (value_document patch) (answered_by a)) }
 {
-    match ops_of_value(alloc, patch) {
+    match Op::list_from(alloc, patch) {
         Ok(ops) => apply_patch(alloc, doc, ops),
         Err(fault) => form_fault(alloc, fault),
     }
 }
 
-fn apply_patch(alloc: Global, doc: Value, ops: Vec<ValueOp>) -> Result<Answer, AllocError>
-    ensures { IfOk result (λ a.
-        IsRunAnswer (value_document doc) (value_operations ops.items) (answered_by a)) }
+fn apply_patch(alloc: Global, doc: Value, ops: Vec<Op<Value>>) -> Result<Answer, AllocError>
+    ensures { IfOk result (λ a. IsRunAnswer (value_document doc)
+        (operations_by value_document ops.items) (answered_by a)) }
 {
-    match apply_to_value(alloc, doc, ops) {
+    patching::limits_change_nothing();
+    match apply_within(alloc, doc, ops, usize::MAX) {
         Ok(result) => result_line(write_value(alloc, &result)?),
-        Err(fault) => apply_fault(alloc, fault),
+        Err(fault) => apply_fault(alloc, fault.without_limit()),
     }
 }
 
@@ -99,7 +102,7 @@ fn merge(alloc: Global, values: Vec<Value>) -> Result<Answer, AllocError>
         return wrong_shape(alloc);
     };
     for patch in patches {
-        value = merge_value(alloc, Some(value), patch)?;
+        value = merge_owned(alloc, Some(value), patch)?;
     }
     result_line(write_value(alloc, &value)?)
 }
@@ -107,7 +110,8 @@ fn merge(alloc: Global, values: Vec<Value>) -> Result<Answer, AllocError>
 fn join(alloc: Global, patches: &[Value]) -> Result<Answer, AllocError>
     ensures { IfOk result (λ a. IsJoinAnswer (map value_document patches.now) (answered_by a)) }
 {
-    match join_all_values(alloc, patches) {
+    merging::first_conflicts();
+    match join_all_within(alloc, patches, usize::MAX) {
         Ok(joined) => result_line(write_value(alloc, &joined)?),
         Err(fault) => list_fault(alloc, fault),
     }
@@ -119,7 +123,8 @@ fn replay(alloc: Global, values: Vec<Value>) -> Result<Answer, AllocError>
     let Some((start, patches)) = first_and_rest(values) else {
         return wrong_shape(alloc);
     };
-    match replay_values(alloc, start, patches.as_slice()) {
+    merging::first_conflicts();
+    match replay_within(alloc, start, patches.as_slice(), usize::MAX) {
         Ok(value) => result_line(write_value(alloc, &value)?),
         Err(fault) => list_fault(alloc, fault),
     }
@@ -138,6 +143,9 @@ fn rewrite_patch(alloc: Global, doc: &Value, patch: &Value) -> Result<Answer, Al
     ensures { IfOk result (λ a.
         IsRewriteAnswer (value_document doc.now) (value_document patch.now) (answered_by a)) }
 {
-    let edits = rewrite_value(alloc, doc, patch)?;
-    result_line(write_patch(alloc, &edits)?)
+    match rewrite_within(alloc, doc, patch, usize::MAX) {
+        Ok(edits) => result_line(write_patch(alloc, &edits)?),
+        Err(RewriteFault::TooLarge { fitting: _ }) => unreachable!(),
+        Err(RewriteFault::OutOfMemory) => Err(AllocError),
+    }
 }

@@ -40,7 +40,7 @@ pub fn replicas_print_the_same()
 
 /// Conflicts are reported: if two members of a list conflict, each answer of `replay` and of `join` has status 1 and is the
 /// line of the pair that is reported of the list. It is never a document.
-pub fn clashes_are_reported()
+pub fn conflicts_are_reported()
     ensures replay { ClashesAreReported }
     ensures join { JoinReportsClashes }
 {

@@ -9,7 +9,7 @@ ghost use Rattle.mp_cli.specs.Private.Answers.{Gives, GivesLine};
 
 use crate::answers::Answer;
 use crate::running::RunFault;
-use mp_merge::ListFault;
+use mp_merge::{Conflicts, ListFault};
 use mp_patch::{ApplyFault, FormFault};
 use mp_pointer::{Pointer, PointerFault};
 use mp_tree::{DocsFault, write_text, write_value};
@@ -116,7 +116,7 @@ fn operation_line(alloc: Global, op: usize, words: &str, status: u8) -> Result<A
     ended(text, status)
 }
 
-pub(crate) fn list_fault(alloc: Global, fault: ListFault) -> Result<Answer, AllocError>
+pub(crate) fn list_fault(alloc: Global, fault: ListFault<Conflicts>) -> Result<Answer, AllocError>
     ensures { GivesLine result (answers.list_fault fault) }
 {
     match fault {
@@ -124,7 +124,7 @@ pub(crate) fn list_fault(alloc: Global, fault: ListFault) -> Result<Answer, Allo
         ListFault::ConflictOf {
             first,
             second,
-            places,
+            places: Conflicts { places, total: _ },
         } => conflict_line(alloc, first, second, places),
         ListFault::OutOfMemory => Err(AllocError),
     }

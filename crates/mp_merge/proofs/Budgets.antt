@@ -1,25 +1,15 @@
 -- What a budget takes of a list: as many elements from its front as weigh at most the budget together.
 use Rattle.std.proofs.Common.{◌≡◌, ◌≤◌, ◌<◌, ◌+◌, ◌-◌, ◌⊎◌, inl, inr, ℕ, List, [], ◌∷◌, ◌++◌, Bool, true, false, if◌then◌else◌, Option, Some, None, MatchOption, nat_lt, refl, sym, ap, ◌∙◌, arith}
 use Rattle.std.proofs.lemmas.Bool.{ltb-true, ltb-false}
+use Rattle.std.proofs.lemmas.Bool.Decides.{eqb_tells}
 use Rattle.std.proofs.lemmas.List.Sums.{sum_by-cons}
 use Rattle.std.specs.List.{sum_by}
-use Rattle.mp_merge.specs.Private.Budgets.{left_after, budget_of, add_each, if_left, admit}
+use Rattle.mp_patch.specs.Work.{no_limit}
+use Rattle.mp_merge.specs.Private.Budgets.{IsBudget, left_after, budget_of, add_each, if_left, admit}
 use Rattle.mp_merge.specs.declared.budget.Budget.{Budget}
 use Rattle.mp_merge.specs.declared.budget.Budget.TheVariants.{Unlimited, Left, Over}
 
 -- ---- one weight, and another
-
-pub left_if : (w budget : ℕ) (left : Option ℕ) → MatchOption left (budget < w) (λ l. l + w ≡ budget) → budget_of left ≡ left_after w (Left budget)
-left_if w budget None over = by (nat_lt budget w) refl
-  where
-    by : (b : Bool) → nat_lt budget w ≡ b → Over ≡ (if b then Over else Left (budget - w))
-    by true is = refl
-    by false is = absurd (omega (arith, over, ltb-false budget w is))
-left_if w budget (Some left) sum = by (nat_lt budget w) refl
-  where
-    by : (b : Bool) → nat_lt budget w ≡ b → Left left ≡ (if b then Over else Left (budget - w))
-    by true is = absurd (omega (arith, sum, ltb-true budget w is))
-    by false is = let same : left ≡ budget - w = omega (arith, sum) in ap Left same
 
 pub left_after_both : (v w : ℕ) (b : Budget) → left_after w (left_after v b) ≡ left_after (v + w) b
 left_after_both v w Unlimited = refl
@@ -143,3 +133,9 @@ module _ {X : Type 0} (weigh : X → ℕ) (limit : ℕ) where
       let behind = same_front places others rest more (before + weigh w) later (omega (arith, fits, here)) (omega (arith, also, there, alike))
       (λ u us is. omega (arith, ends u us is, here)) (λ u us is. omega (arith, also_ends u us is, there, alike)) in
       ap (λ u. u ∷ places) first ∙ ap (λ us. v ∷ us) behind
+
+-- ---- a limit
+
+-- with each limit a walk has a budget
+pub some_budget : (limit : ℕ) → (b : Budget) × IsBudget limit b
+some_budget limit = elim (eqb_tells limit no_limit) [ inl (tested, none) ↦ (Unlimited, none) | inr (tested, limited) ↦ (Left limit, (limited, refl)) ]

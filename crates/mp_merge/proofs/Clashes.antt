@@ -3,6 +3,5 @@ pub mod ByName
 pub mod Conflicts
 pub mod Exchange
 pub mod FirstOf
-pub mod OfLists
 pub mod Reported
 pub mod ReportedPair

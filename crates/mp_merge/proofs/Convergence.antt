@@ -1,5 +1,5 @@
 -- Replicas that receive the same compatible patches converge.
-use Rattle.std.proofs.Common.{◌≡◌, ◌≢◌, ◌≤◌, ℕ, List, [], ◌∷◌, Some, refl, sym, subst}
+use Rattle.std.proofs.Common.{◌≡◌, ◌≢◌, ◌≤◌, ℕ, List, [], ◌∷◌, Some, Vec, Global, refl, sym, subst}
 use Rattle.std.proofs.lemmas.List.Elements.{All-contains, All-contains_itself, All-weaker}
 use Rattle.std.specs.List.{All, Contains}
 use Rattle.mp_tree.specs.Document.{Document, IsDocument, depth, depth_limit}
@@ -10,9 +10,10 @@ use Rattle.mp_merge.specs.Convergence.{Converge, LeadsTo, ReachesEnd, ReplicasCo
 use Rattle.mp_merge.specs.Join.{IsJoin}
 use Rattle.mp_merge.specs.Laws.{RewritingRuns}
 use Rattle.mp_merge.specs.Lists.{HaveSameMembers}
-use Rattle.mp_merge.specs.Lists.{PairwiseCompatible, AreWithin, IsJoinAllFault, IsReplayFault}
+use Rattle.mp_merge.specs.Lists.{PairwiseCompatible, AreNoDeeper, IsJoinAllFault, IsReplayFault}
 use Rattle.mp_merge.specs.Outcome.{IsOutcome}
 use Rattle.mp_merge.specs.Rewriting.{IsRewriting}
+use Rattle.mp_pointer.specs.declared.pointer.Pointer.{Pointer}
 use Rattle.mp_merge.specs.declared.fault.ListFault.{ListFault}
 use Rattle.mp_merge.specs.declared.fault.ListFault.TheVariants.{NoPatches, ConflictOf, OutOfMemory}
 use Rattle.mp_merge.proofs.Application.ByName.{IsDocument-merge_patch}
@@ -49,12 +50,12 @@ module _ (laws : RunLaws) (start : Document) (patches : List Document) (good : I
     received_some [] is none = some is
     received_some (p ∷ ps) is none = Contains-nil p (subst (λ (rs : List Document). Contains rs p) none ((same p).0 (subst (λ (rs : List Document). Contains rs p) (sym is) (Contains-head p ps))))
 
-    joins : (fault : ListFault) → IsJoinAllFault fault received → fault ≡ OutOfMemory
+    joins : (fault : ListFault (Vec Pointer Global)) → IsJoinAllFault fault received → fault ≡ OutOfMemory
     joins NoPatches none = absurd (received_some patches refl none)
     joins (ConflictOf first second places) reported = absurd (compatible_have_none received first second places.items reported received_compatible)
     joins OutOfMemory is = refl
 
-    replays : (fault : ListFault) → IsReplayFault fault received → fault ≡ OutOfMemory
+    replays : (fault : ListFault (Vec Pointer Global)) → IsReplayFault fault received → fault ≡ OutOfMemory
     replays NoPatches never = absurd never
     replays (ConflictOf first second places) reported = joins (ConflictOf first second places) reported
     replays OutOfMemory is = refl
@@ -92,7 +93,7 @@ module _ (laws : RunLaws) (start : Document) (patches : List Document) (good : I
   converge : Converge start patches
   converge =
       let edits = rewriting_exists start j patch in
-      let no_deeper : (n : ℕ) → AreWithin n patches → depth j ≤ n = λ n within. join_is_no_deeper patches j n patch all joined within in
+      let no_deeper : (n : ℕ) → AreNoDeeper n patches → depth j ≤ n = λ n within. join_is_no_deeper patches j n patch all joined within in
       record {
         joined = j;
         is_document = patch;

@@ -1,5 +1,6 @@
 -- What replicas of one document come to that receive the same merge patches, in one statement.
-use Rattle.std.specs.Prelude.{◌≡◌, ◌≢◌, ◌≤◌, ℕ, List, [], Some}
+use Rattle.std.specs.Prelude.{◌≡◌, ◌≢◌, ◌≤◌, ℕ, List, [], Some, Vec}
+use Rattle.std.specs.declared.alloc.Global.{Global}
 use Rattle.std.specs.List.{All}
 use Rattle.mp_tree.specs.Document.{Document, IsDocument, depth, depth_limit}
 use Rattle.mp_patch.specs.Operation.{Operation}
@@ -7,17 +8,18 @@ use Rattle.mp_patch.specs.Run.{Runs, RefusedAt}
 use Rattle.mp_patch.specs.declared.fault.Cause.{Cause}
 use Rattle.mp_merge.specs.Application.{merge_patch, in_turn}
 use Rattle.mp_merge.specs.Join.{IsJoin}
-use Rattle.mp_merge.specs.Lists.{HaveSameMembers, PairwiseCompatible, AreWithin, IsJoinAllFault, IsReplayFault}
+use Rattle.mp_merge.specs.Lists.{HaveSameMembers, PairwiseCompatible, AreNoDeeper, IsJoinAllFault, IsReplayFault}
 use Rattle.mp_merge.specs.Outcome.{IsOutcome}
 use Rattle.mp_merge.specs.Rewriting.{IsRewriting}
+use Rattle.mp_pointer.specs.declared.pointer.Pointer.{Pointer}
 use Rattle.mp_merge.specs.declared.fault.ListFault.{ListFault}
 use Rattle.mp_merge.specs.declared.fault.ListFault.TheVariants.{OutOfMemory}
 
 -- a replica that received these patches is not refused, and comes to the end by the join that all have
 pub record ReachesEnd (start joined end : Document) (received : List Document) : Type 0 where
   -- neither for their join nor for their replay is there any error but out of memory
-  pub joins : (fault : ListFault) → IsJoinAllFault fault received → fault ≡ OutOfMemory
-  pub replays : (fault : ListFault) → IsReplayFault fault received → fault ≡ OutOfMemory
+  pub joins : (fault : ListFault (Vec Pointer Global)) → IsJoinAllFault fault received → fault ≡ OutOfMemory
+  pub replays : (fault : ListFault (Vec Pointer Global)) → IsReplayFault fault received → fault ≡ OutOfMemory
   pub is_join : IsJoin received joined
   pub one_join : (j : Document) → IsDocument j → IsJoin received j → j ≡ joined
   pub is_outcome : IsOutcome start received end
@@ -40,10 +42,10 @@ pub record Converge (start : Document) (patches : List Document) : Type 0 where
   pub reached : (received : List Document) → HaveSameMembers patches received
       → ReachesEnd start joined (merge_patch (Some start) joined) received
   -- the join is no deeper than the patches; rewritten against the start, it is a JSON Patch that leads to the end
-  pub no_deeper : (n : ℕ) → AreWithin n patches → depth joined ≤ n
+  pub no_deeper : (n : ℕ) → AreNoDeeper n patches → depth joined ≤ n
   pub operations : List Operation
   pub rewritten : IsRewriting start joined operations
-  pub leads : AreWithin depth_limit patches → LeadsTo start (merge_patch (Some start) joined) operations
+  pub leads : AreNoDeeper depth_limit patches → LeadsTo start (merge_patch (Some start) joined) operations
 
 -- pairwise compatible patches, at least one, bring all replicas of a document to the same document
 abbrev pub ReplicasConverge : Type 0

@@ -15,12 +15,13 @@ use Rattle.mp_merge.specs.EditPlace.{IsEditPlace}
 use Rattle.mp_merge.specs.Application.{merge_patch, in_turn, target_members, after_patch}
 use Rattle.mp_merge.specs.Clash.{Clash, Compatible, AreAllClashes}
 use Rattle.mp_merge.specs.Join.{IsJoin, JoinsNames, HasJoin, AreJoinTries}
-use Rattle.mp_merge.specs.Lists.{PairwiseCompatible, AreWithin, IsReportedPair, HaveSameMembers}
+use Rattle.mp_merge.specs.Lists.{PairwiseCompatible, AreNoDeeper, IsReportedPair, HaveSameMembers}
 use Rattle.mp_merge.specs.Outcome.{IsOutcome, HasOutcome}
 use Rattle.mp_merge.specs.Resumption.{AreTries, last_of}
 use Rattle.mp_merge.specs.Rewriting.{IsRewriting, ListsEdits}
 use Rattle.mp_merge.specs.Within.{places_weight, AreFirstConflicts, IsReportedPairWithin, IsTooLargeRewriting}
 use Rattle.mp_patch.specs.Weight.{operations_weight}
+use Rattle.mp_patch.specs.Work.{no_limit}
 
 -- ---- application (RFC 7396 section 2)
 
@@ -132,10 +133,11 @@ HaveOneFront = (limit : ℕ) (p q : Document) (places others : List Path) (total
     → AreFirstConflicts limit p q places total → AreFirstConflicts limit p q others other_total
     → (places ≡ others) × (total ≡ other_total)
 
--- they are all conflicts exactly if all weigh at most the limit together
+-- they are all conflicts exactly if there is no limit, or all weigh at most the limit together
 abbrev pub AllIfWithin : Type 0
 AllIfWithin = (limit : ℕ) (p q : Document) (all places : List Path) (total : ℕ) → AreAllClashes p q all
-    → AreFirstConflicts limit p q places total → (places ≡ all) ↔ (places_weight all ≤ limit)
+    → AreFirstConflicts limit p q places total
+    → (places ≡ all) ↔ ((limit ≡ no_limit) ⊎ (places_weight all ≤ limit))
 
 -- a list of patches is pairwise compatible, or there is the pair that is reported of it
 abbrev pub CompatibleOrReported : Type 0
@@ -170,6 +172,12 @@ HasOneReportWithin =
     → IsReportedPairWithin limit patches first second places total
     → IsReportedPairWithin limit patches other_first other_second other_places other_total
     → (first ≡ other_first) × (second ≡ other_second) × (places ≡ other_places) × (total ≡ other_total)
+
+-- and without a limit the pair has all its conflicts
+abbrev pub ReportedWithoutLimit : Type 0
+ReportedWithoutLimit = (patches : List Document) (first second : ℕ) (places : List Path) (total : ℕ)
+    → IsReportedPairWithin no_limit patches first second places total
+    → IsReportedPair patches first second places
 
 -- a patch clashes with a join exactly if it clashes with one of the patches that were joined
 abbrev pub ClashesWithAMember : List Document → Document → Path → Type 0
@@ -274,7 +282,7 @@ PairHasJoin = (p q : Document) → IsDocument p → IsDocument q → HasJoin (p 
 -- a join is no deeper than its deepest patch
 abbrev pub JoinIsNoDeeper : Type 0
 JoinIsNoDeeper = (patches : List Document) (j : Document) (n : ℕ) → IsDocument j → All IsDocument patches
-    → IsJoin patches j → AreWithin n patches → depth j ≤ n
+    → IsJoin patches j → AreNoDeeper n patches → depth j ≤ n
 
 -- and it can be read if they can
 abbrev pub JoinIsReadable : Type 0

@@ -1,15 +1,17 @@
 -- Lists of merge patches, numbered from 0: how deep they are, and their conflicts.
-use Rattle.std.specs.Prelude.{◌≡◌, ◌<◌, ◌≤◌, ℕ, List, [], Some, slice_get, ⊤, ◌↔◌}
+use Rattle.std.specs.Prelude.{◌≡◌, ◌<◌, ◌≤◌, ℕ, List, [], Some, slice_get, ⊤, ◌↔◌, Vec}
+use Rattle.std.specs.declared.alloc.Global.{Global}
 use Rattle.std.specs.List.{All, Contains}
 use Rattle.mp_tree.specs.Document.{Document, depth}
 use Rattle.mp_tree.specs.Look.{Path}
 use Rattle.mp_merge.specs.Clash.{Compatible, AreConflictsOfPair}
+use Rattle.mp_pointer.specs.declared.pointer.Pointer.{Pointer}
 use Rattle.mp_merge.specs.declared.fault.ListFault.{ListFault}
 use Rattle.mp_merge.specs.declared.fault.ListFault.TheVariants.{NoPatches, ConflictOf, OutOfMemory}
 
 -- no patch of the list is deeper than n
-abbrev pub AreWithin : ℕ → List Document → Type 0
-AreWithin n patches = All (λ p. depth p ≤ n) patches
+abbrev pub AreNoDeeper : ℕ → List Document → Type 0
+AreNoDeeper n patches = All (λ p. depth p ≤ n) patches
 
 -- each two patches of the list are compatible
 abbrev pub PairwiseCompatible : List Document → Type 0
@@ -37,13 +39,13 @@ pub record IsReportedPair (patches : List Document) (first second : ℕ) (places
   pub least_second : (k : ℕ) (q : Document) → k < second → slice_get patches k ≡ Some q → CompatibleBelow patches k q
 
 -- why a list has no join; out of memory says nothing of it
-abbrev pub IsJoinAllFault : ListFault → List Document → Type 0
+abbrev pub IsJoinAllFault : ListFault (Vec Pointer Global) → List Document → Type 0
 IsJoinAllFault NoPatches patches = patches ≡ []
 IsJoinAllFault (ConflictOf first second places) patches = IsReportedPair patches first second places.items
 IsJoinAllFault OutOfMemory patches = ⊤
 
 -- why a list can't be replayed: the empty list can
-abbrev pub IsReplayFault : ListFault → List Document → Type 0
+abbrev pub IsReplayFault : ListFault (Vec Pointer Global) → List Document → Type 0
 IsReplayFault NoPatches patches = ⊥
 IsReplayFault (ConflictOf first second places) patches = IsReportedPair patches first second places.items
 IsReplayFault OutOfMemory patches = ⊤

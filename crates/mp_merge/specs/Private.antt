@@ -4,5 +4,4 @@ pub mod Clashes
 pub mod Edits
 pub mod Growth
 pub mod Merging
-pub mod Reports
 pub mod Unions

@@ -4,7 +4,7 @@ ghost use Rattle.mp_tree.specs.Weight.{weight};
 ghost use Rattle.mp_pointer.specs.Weight.{place_weight};
 ghost use Rattle.mp_patch.specs.View.{operation_of};
 ghost use Rattle.mp_patch.specs.Weight.{operation_weight};
-ghost use Rattle.mp_merge.specs.Private.Budgets.{budget_of, left_after};
+ghost use Rattle.mp_merge.specs.Private.Budgets.{IsBudget, budget_of, left_after};
 
 use mp_patch::Op;
 use mp_pointer::Pointer;
@@ -22,6 +22,16 @@ pub(crate) enum Budget {
 }
 
 impl Budget {
+    // That of a call with this limit in bytes. `usize::MAX` is none, and then nothing is weighed.
+    pub(crate) fn within(limit: usize) -> Budget
+        ensures { IsBudget limit result }
+    {
+        if limit == usize::MAX {
+            return Budget::Unlimited;
+        }
+        Budget::Left(limit)
+    }
+
     pub(crate) fn is_over(self) -> bool
         ensures { IsTrue result ↔ (self ≡ Budget.Over) }
     {

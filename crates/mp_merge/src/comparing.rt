@@ -1,16 +1,14 @@
 //! Whether two merge patches are compatible, and where they conflict.
 ghost use Rattle.std.specs.Prelude.{◌≡◌, ◌↔◌, Some, IsTrue, IfOk, OnOk};
 ghost use Rattle.mp_tree.specs.Document.{object, IsDocument};
-ghost use Rattle.mp_tree.specs.Values.{value_document};
 ghost use Rattle.mp_tree.specs.View.{document, members_by};
 ghost use Rattle.mp_merge.specs.Clash.{Compatible, AreAllClashes};
-ghost use Rattle.mp_merge.specs.Private.Clashes.{AreReportedConflicts, IsOneClash, Passed, WalksClashes, WalksMembers, report, reported_of};
+ghost use Rattle.mp_merge.specs.Private.Clashes.{IsOneClash, Passed, WalksClashes, WalksMembers, report, reported_of};
 ghost use Rattle.mp_merge.specs.Within.{AreFirstConflicts};
 
 use crate::budget::Budget;
 use mp_pointer::Pointer;
 use mp_tree::{Doc, Node};
-use serde_json::Value;
 use std::alloc::{AllocError, Global};
 use std::collections::BTreeMap;
 
@@ -24,17 +22,6 @@ use std::collections::BTreeMap;
 /// ```
 pub fn compatible(p: &Doc, q: &Doc) -> bool
     ensures { IsTrue result ↔ Compatible (document p.now) (document q.now) }
-{
-    are_compatible(p, q)
-}
-
-/// As `compatible`, of patches that are values. Takes no memory.
-///
-/// ```text
-/// compatible_values(&p, &q)  // true for {"a":{"x":1}} and {"a":{"y":null}}, false for {"a":1} and {"a":2}
-/// ```
-pub fn compatible_values(p: &Value, q: &Value) -> bool
-    ensures { IsTrue result ↔ Compatible (value_document p.now) (value_document q.now) }
 {
     are_compatible(p, q)
 }
@@ -82,19 +69,8 @@ pub fn conflict(alloc: Global, p: &Doc, q: &Doc) -> Result<Vec<Pointer>, AllocEr
     ensures { IfOk result (λ places.
         AreAllClashes (document p.now) (document q.now) places.items) }
 {
-    all_clashes(alloc, p, q)
-}
-
-/// As `conflict`, of patches that are values. `AllocError` if memory ran out.
-///
-/// ```text
-/// conflict_values(alloc, &p, &q)  // /a/z and /b for {"a":{"z":1},"b":1} and {"a":{"z":2},"b":2}
-/// ```
-pub fn conflict_values(alloc: Global, p: &Value, q: &Value) -> Result<Vec<Pointer>, AllocError>
-    ensures { IfOk result (λ places.
-        AreAllClashes (value_document p.now) (value_document q.now) places.items) }
-{
-    all_clashes(alloc, p, q)
+    let Conflicts { places, total: _ } = conflict_within(alloc, p, q, usize::MAX)?;
+    Ok(places)
 }
 
 /// The conflicts of two patches that come first, and how many there are.
@@ -106,65 +82,28 @@ pub struct Conflicts {
     pub total: usize,
 }
 
-/// As `conflict`, within a limit in bytes: the places that come first, as many as weigh at most `limit` together, and the
-/// number of all. A place weighs 128 bytes, 8 for each token, and the bytes of its spelling.
+/// As `conflict`, of any `Node` and within a limit in bytes: the places that come first, as many as weigh at most `limit` together,
+/// and the number of all. A place weighs 128 bytes, 8 for each token, and the bytes of its spelling. A limit of `usize::MAX` is
+/// none: then all places are there, and nothing is weighed.
 ///
 /// Besides these places it takes the memory of one path. `AllocError` if memory ran out.
 ///
 /// ```text
 /// conflict_within(alloc, &p, &q, 150)  // /a/z, of 2, for {"a":{"z":1},"b":1} and {"a":{"z":2},"b":2}
 /// ```
-pub fn conflict_within(
-    alloc: Global,
-    p: &Doc,
-    q: &Doc,
-    limit: usize,
-) -> Result<Conflicts, AllocError>
-    ensures { IfOk result (λ c.
-        AreFirstConflicts limit (document p.now) (document q.now) c.places.items c.total) }
-{
-    reported_conflicts(alloc, p, q, Budget::Left(limit))
-}
-
-/// As `conflict_within`, of patches that are values. `AllocError` if memory ran out.
-///
-/// ```text
-/// conflict_values_within(alloc, &p, &q, 150)  // /a/z, of 2, for {"a":{"z":1},"b":1} and {"a":{"z":2},"b":2}
-/// ```
-pub fn conflict_values_within(
-    alloc: Global,
-    p: &Value,
-    q: &Value,
-    limit: usize,
-) -> Result<Conflicts, AllocError>
-    ensures { IfOk result (λ c.
-        AreFirstConflicts limit (value_document p.now) (value_document q.now)
-        c.places.items c.total) }
-{
-    reported_conflicts::<Value>(alloc, p, q, Budget::Left(limit))
-}
-
-pub(crate) fn all_clashes<T: Node>(alloc: Global, p: &T, q: &T) -> Result<Vec<Pointer>, AllocError>
-    requires { IsDocument (T.means p.now) }
-    ensures { IfOk result (λ places. AreAllClashes (T.means p.now) (T.means q.now) places.items) }
-{
-    let Conflicts { places, total: _ } = reported_conflicts(alloc, p, q, Budget::Unlimited)?;
-    Ok(places)
-}
-
-pub(crate) fn reported_conflicts<T: Node>(
+pub fn conflict_within<T: Node>(
     alloc: Global,
     p: &T,
     q: &T,
-    budget: Budget,
+    limit: usize,
 ) -> Result<Conflicts, AllocError>
-    requires { IsDocument (T.means p.now) }
     ensures { IfOk result (λ c.
-        AreReportedConflicts budget (T.means p.now) (T.means q.now) c.places.items c.total) }
+        AreFirstConflicts limit (T.means p.now) (T.means q.now) c.places.items c.total) }
 {
+    nodes_are_documents(p);
     let mut found = Found {
         places: Vec::new(alloc),
-        budget,
+        budget: Budget::within(limit),
         total: 0,
     };
     let mut path = Pointer::empty(alloc);
@@ -175,6 +114,13 @@ pub(crate) fn reported_conflicts<T: Node>(
         total,
     } = found;
     Ok(Conflicts { places, total })
+}
+
+// What the type of the node promises of each of its kind. It runs nothing: what the method answers is not looked at.
+pub(crate) fn nodes_are_documents<T: Node>(node: &T)
+    ensures { (d : T) → IsDocument (T.means d) }
+{
+    let _members = node.members();
 }
 
 // The places that the budget took, what is left of it, and how many places the walk has passed.

@@ -3,7 +3,7 @@ ghost use Rattle.std.specs.Prelude.{◌≡◌, map, IfOk, IfErr, MatchResult};
 ghost use Rattle.mp_tree.specs.Document.{depth_limit};
 ghost use Rattle.mp_tree.specs.View.{document};
 ghost use Rattle.mp_merge.specs.Converged.{IsConverged, IsConvergeFault};
-ghost use Rattle.mp_merge.specs.Lists.{AreWithin};
+ghost use Rattle.mp_merge.specs.Lists.{AreNoDeeper};
 ghost use Rattle.mp_merge.specs.Replicas.{AreReplicas};
 
 use crate::fault::ConvergeFault;
@@ -64,10 +64,10 @@ pub fn converge(
     ensures merged { AreReplicas (map document here.now) (map document there.now)
         → IfOk result (λ c. document c.merged ≡ document c.here) }
     ensures patched { AreReplicas (map document here.now) (map document there.now)
-        → AreWithin depth_limit (map document here.now)
+        → AreNoDeeper depth_limit (map document here.now)
         → IfOk result (λ c. document c.patched ≡ document c.here) }
     ensures refused { AreReplicas (map document here.now) (map document there.now)
-        → AreWithin depth_limit (map document here.now)
+        → AreNoDeeper depth_limit (map document here.now)
         → IfErr result (λ fault. fault ≡ ConvergeFault.OutOfMemory) }
 {
     mp_tree::laws::docs_are_documents();

@@ -28,14 +28,15 @@ impl From<AllocError> for JoinFault {
     }
 }
 
-/// Why the patches of a list have no join, or can't be replayed. Patches are numbered from 0.
+/// Why the patches of a list have no join, or can't be replayed. Patches are numbered from 0. `P` is what is reported of the places
+/// of a conflict: all of them, or within a limit the first and how many there are, as [`Conflicts`].
 #[derive(Debug, Drop, Error)]
-pub enum ListFault {
+pub enum ListFault<P = Vec<Pointer>> {
     /// The list is empty: no patch leaves every document as it is, so there is no join of none.
     #[error("no patches")]
     NoPatches,
     /// `second` is the least number of a patch that conflicts with an earlier one, `first` the least number of a patch
-    /// that conflicts with it, and `places` lead to all conflicts of the two, in the order of paths.
+    /// that conflicts with it, and `places` lead to all conflicts of the two, in the order of paths, or to the first.
     #[error("conflict: patches {first} and {second}")]
     ConflictOf {
         /// The number of the earlier patch.
@@ -43,52 +44,20 @@ pub enum ListFault {
         /// The number of the later patch.
         second: usize,
         /// The paths at which the two disagree, in the order of paths.
-        places: Vec<Pointer>,
+        places: P,
     },
     /// Memory ran out.
     #[error("out of memory")]
     OutOfMemory,
 }
 
-impl From<AllocError> for ListFault {
+impl<P: Drop> From<AllocError> for ListFault<P> {
     ghost use Rattle.mp_merge.specs.declared.fault.ListFault.TheVariants.{OutOfMemory};
 
     ghost from_gives = { λ _ fault. fault ≡ OutOfMemory };
 
-    fn from(_refused: AllocError) -> ListFault {
+    fn from(_refused: AllocError) -> ListFault<P> {
         ListFault::OutOfMemory
-    }
-}
-
-/// Why the patches of a list have no join within a limit, or can't be replayed. Patches are numbered from 0.
-#[derive(Debug, Drop, Error)]
-pub enum ListWithinFault {
-    /// The list is empty: no patch leaves every document as it is, so there is no join of none.
-    #[error("no patches")]
-    NoPatches,
-    /// `second` is the least number of a patch that conflicts with an earlier one, `first` the least number of a patch
-    /// that conflicts with it, and `conflicts` are those of the two that the limit allows, and how many they have.
-    #[error("conflict: patches {first} and {second}")]
-    ConflictOf {
-        /// The number of the earlier patch.
-        first: usize,
-        /// The number of the later patch.
-        second: usize,
-        /// The first paths at which the two disagree, and how many there are.
-        conflicts: Conflicts,
-    },
-    /// Memory ran out.
-    #[error("out of memory")]
-    OutOfMemory,
-}
-
-impl From<AllocError> for ListWithinFault {
-    ghost use Rattle.mp_merge.specs.declared.fault.ListWithinFault.TheVariants.{OutOfMemory};
-
-    ghost from_gives = { λ _ fault. fault ≡ OutOfMemory };
-
-    fn from(_refused: AllocError) -> ListWithinFault {
-        ListWithinFault::OutOfMemory
     }
 }
 

@@ -1,5 +1,5 @@
 //! The join of two merge patches.
-ghost use Rattle.std.specs.Prelude.{◌≤◌, ◌⊎◌, ◌∷◌, [], max, Some, IfOk, IsOk, OnErr, OnOk, MatchResult};
+ghost use Rattle.std.specs.Prelude.{◌≡◌, ◌≤◌, ◌⊎◌, ◌∷◌, [], max, Some, IfOk, IsFalse, IsOk, OnErr, OnOk, MatchResult};
 ghost use Rattle.mp_tree.specs.Document.{depth, find, object, IsDocument};
 ghost use Rattle.mp_tree.specs.View.{document, members_by};
 ghost use Rattle.mp_merge.specs.Clash.{Compatible};
@@ -55,6 +55,7 @@ pub fn join(alloc: Global, p: &Doc, q: &Doc) -> Result<Doc, JoinFault>
 pub fn join_into(alloc: Global, joined: &mut Doc, patch: &Doc) -> Result<bool, AllocError>
     ensures joined { IfOk result (λ united.
         JoinsInto united (document joined.old) (document patch.now) (document joined.new)) }
+    ensures unchanged { IfOk result (λ united. IsFalse united → joined.new ≡ joined.old) }
     ensures depth { OnOk result (depth (document joined.new)
         ≤ max (depth (document joined.old)) (depth (document patch.now))) }
     ensures resumes { OnErr result

@@ -1,6 +1,6 @@
 //! Laws over documents and merge patches alone: each function runs nothing, and its contract is the law.
 ghost use Rattle.mp_merge.specs.Convergence.{ReplicasConverge};
-ghost use Rattle.mp_merge.specs.Laws.{JoinIsReadable, MergedIsDocument, MergedIsReadable, RewritingIsNoDeeper, RewritingIsWritable, AppliesAtEachName, OthersReplace, MergesIntoNull, AppliedOnce, TriesResume, ApplicationIsOutcome, HasOneOutcome, AppliedInTurn, OutcomeExists, ReplicasAgree, Exchange, ClashesExist, HaveOneList, EmptyIfCompatible, CompatibleOrReported, CompatibleHaveNone, HasOneReportedPair, ClashWithAJoin, CompatibleByNames, CompatibleIfEqual, JoinByNames, JoinOfEqual, JoinIsIdempotent, JoinIsCommutative, JoinIsAssociative, JoinGrows, JoinInParts, JoinOfSame, JoinOfOne, JoinAbsorbs, JoinTriesResume, OutcomeGrows, OutcomeOfNone, OutcomeOfSame, HasOneJoin, EmptyHasNoJoin, JoinExists, PairHasJoin, JoinIsNoDeeper, JoinGivesOutcome, RewritingExists, HasOneRewriting, RewritingHasDocuments, GuardedList, RefusedGuardShows, EmptyRewriting, EditsInAnyOrder, RewritingRuns, FirstConflictsExist, HaveOneFront, AllIfWithin, ReportedWithin, HasOneReportWithin, RewritingIsWithinOrNot, WithinIsNotTooLarge, HasOneFitting};
+ghost use Rattle.mp_merge.specs.Laws.{JoinIsReadable, MergedIsDocument, MergedIsReadable, RewritingIsNoDeeper, RewritingIsWritable, AppliesAtEachName, OthersReplace, MergesIntoNull, AppliedOnce, TriesResume, ApplicationIsOutcome, HasOneOutcome, AppliedInTurn, OutcomeExists, ReplicasAgree, Exchange, ClashesExist, HaveOneList, EmptyIfCompatible, CompatibleOrReported, CompatibleHaveNone, HasOneReportedPair, ClashWithAJoin, CompatibleByNames, CompatibleIfEqual, JoinByNames, JoinOfEqual, JoinIsIdempotent, JoinIsCommutative, JoinIsAssociative, JoinGrows, JoinInParts, JoinOfSame, JoinOfOne, JoinAbsorbs, JoinTriesResume, OutcomeGrows, OutcomeOfNone, OutcomeOfSame, HasOneJoin, EmptyHasNoJoin, JoinExists, PairHasJoin, JoinIsNoDeeper, JoinGivesOutcome, RewritingExists, HasOneRewriting, RewritingHasDocuments, GuardedList, RefusedGuardShows, EmptyRewriting, EditsInAnyOrder, RewritingRuns, FirstConflictsExist, HaveOneFront, AllIfWithin, ReportedWithin, ReportedWithoutLimit, HasOneReportWithin, RewritingIsWithinOrNot, WithinIsNotTooLarge, HasOneFitting};
 
 /// Application in the words of RFC 7396 section 2: a patch that is not an object is the result. An object makes an
 /// object of every target, in which a name that the patch does not carry stays as it was, a null removes it, and any
@@ -82,19 +82,20 @@ pub fn reported_pair()
 {}
 
 /// Whatever the limit, two patches have conflicts that come first within it, and these alone; they are all conflicts exactly if
-/// all weigh at most the limit together. Of a list of patches the same pair is reported within a limit as without one, with
-/// one list of conflicts and one number of all.
+/// there is no limit, or all weigh at most the limit together. Of a list of patches the same pair is reported within a limit as
+/// without one, with one list of conflicts and one number of all; without a limit that list has all of them.
 pub fn first_conflicts()
     ensures exist { FirstConflictsExist }
     ensures one { HaveOneFront }
     ensures all { AllIfWithin }
     ensures reported { ReportedWithin }
     ensures one_report { HasOneReportWithin }
+    ensures without_limit { ReportedWithoutLimit }
 {}
 
 /// A patch conflicts with a join exactly if it conflicts with one of the patches that were joined: so a replica that
 /// keeps only the join of what it received still learns of every conflict.
-pub fn clash_with_a_join()
+pub fn conflict_with_a_join()
     ensures { ClashWithAJoin }
 {}
 

@@ -13,17 +13,11 @@ mod lists;
 mod merging;
 mod rewriting;
 
-pub use comparing::{
-    Conflicts, compatible, compatible_values, conflict, conflict_values, conflict_values_within,
-    conflict_within,
-};
+pub use comparing::{Conflicts, compatible, conflict, conflict_within};
 pub use converging::{Converged, converge};
-pub use fault::{ConvergeFault, JoinFault, ListFault, ListWithinFault, RewriteFault};
+pub use fault::{ConvergeFault, JoinFault, ListFault, RewriteFault};
 pub use in_place::merge_into;
 pub use joining::{join, join_into};
-pub use lists::{
-    join_all, join_all_values, join_all_values_within, join_all_within, replay, replay_owned,
-    replay_values, replay_values_within, replay_within,
-};
-pub use merging::{merge, merge_owned, merge_value};
-pub use rewriting::{rewrite, rewrite_value, rewrite_values_within, rewrite_within};
+pub use lists::{join_all, join_all_within, replay, replay_owned, replay_within};
+pub use merging::{merge, merge_owned};
+pub use rewriting::{rewrite, rewrite_within};

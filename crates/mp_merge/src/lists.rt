@@ -1,22 +1,19 @@
 //! Lists of merge patches: their join, and the document that they make of a start.
 ghost use Rattle.std.specs.Prelude.{◌≡◌, ◌<◌, ◌≤◌, ◌+◌, ℕ, List, [], length, map, take, slice_get, Some, IfOk, MatchOption, MatchResult};
-ghost use Rattle.mp_tree.specs.Document.{depth, IsDocument};
-ghost use Rattle.mp_tree.specs.Values.{value_document};
+ghost use Rattle.mp_tree.specs.Document.{Document, depth, IsDocument};
 ghost use Rattle.mp_tree.specs.View.{document};
+ghost use Rattle.mp_patch.specs.Work.{no_limit};
 ghost use Rattle.mp_merge.specs.Join.{IsJoin};
-ghost use Rattle.mp_merge.specs.Lists.{AreWithin, IsJoinAllFault, IsReplayFault};
-ghost use Rattle.mp_merge.specs.Private.Clashes.{IsFreeBelow};
-ghost use Rattle.mp_merge.specs.Private.Reports.{IsJoinAllFaultAt, IsReplayFaultAt, IsReportedBelow, list_fault_of};
+ghost use Rattle.mp_merge.specs.Lists.{AreNoDeeper, IsJoinAllFault, IsReplayFault};
+ghost use Rattle.mp_merge.specs.Private.Clashes.{IsFreeBelow, IsReportedBelow};
 ghost use Rattle.mp_merge.specs.Outcome.{IsOutcome};
 ghost use Rattle.mp_merge.specs.Within.{IsJoinAllWithinFault, IsReplayWithinFault};
 
-use crate::budget::Budget;
-use crate::comparing::{Conflicts, are_compatible, reported_conflicts};
-use crate::fault::{ListFault, ListWithinFault};
+use crate::comparing::{Conflicts, are_compatible, conflict_within, nodes_are_documents};
+use crate::fault::ListFault;
 use crate::joining::unite;
-use crate::merging::merged;
+use crate::merging::merge_owned;
 use mp_tree::{Doc, Node};
-use serde_json::Value;
 use std::alloc::{AllocError, Global};
 
 /// The join of a list of patches: one patch with the effect of all, in any order and with any repeats.
@@ -33,118 +30,64 @@ pub fn join_all(alloc: Global, patches: &[Doc]) -> Result<Doc, ListFault>
     ensures joined { MatchResult result (λ j. IsJoin (map document patches.now) (document j))
         (λ fault. IsJoinAllFault fault (map document patches.now)) }
     ensures depth { IfOk result (λ j. (n : ℕ)
-        → AreWithin n (map document patches.now) → depth (document j) ≤ n) }
+        → AreNoDeeper n (map document patches.now) → depth (document j) ≤ n) }
 {
-    joined(alloc, patches)
+    match join_all_within(alloc, patches, usize::MAX) {
+        Ok(joined) => Ok(joined),
+        Err(fault) => Err(with_all_places(fault)),
+    }
 }
 
-/// As `join_all`, of patches that are values: what is read needs no tree of its own. `NoPatches`, `ConflictOf` and `OutOfMemory`
-/// come when `join_all` answers them.
-///
-/// ```text
-/// join_all_values(alloc, &patches)  // {"a":1,"b":2} for {"a":1}, {"b":2} and {"a":1}
-/// ```
-pub fn join_all_values(alloc: Global, patches: &[Value]) -> Result<Value, ListFault>
-    ensures joined { MatchResult result
-        (λ j. IsJoin (map value_document patches.now) (value_document j))
-        (λ fault. IsJoinAllFault fault (map value_document patches.now)) }
-    ensures depth { IfOk result (λ j. (n : ℕ)
-        → AreWithin n (map value_document patches.now) → depth (value_document j) ≤ n) }
-{
-    joined(alloc, patches)
-}
-
-/// As `join_all`, within a limit in bytes on the places that are reported: `ConflictOf` has of the conflicts those that come first,
-/// as many as weigh at most `limit` together, and the number of all, as `conflict_within` has them.
+/// As `join_all`, of any `Node` and within a limit in bytes on the places that are reported: `ConflictOf` has of the conflicts those
+/// that come first, as many as weigh at most `limit` together, and the number of all, as `conflict_within` has them. A limit of
+/// `usize::MAX` is none.
 ///
 /// `NoPatches`, `ConflictOf` and `OutOfMemory` come when `join_all` answers them.
 ///
 /// ```text
 /// join_all_within(alloc, &patches, 150)  // ConflictOf of 0 and 1 with /a, of 2, for {"a":1,"b":1} and {"a":2,"b":2}
 /// ```
-pub fn join_all_within(alloc: Global, patches: &[Doc], limit: usize) -> Result<Doc, ListWithinFault>
-    ensures joined { MatchResult result (λ j. IsJoin (map document patches.now) (document j))
-        (λ fault. IsJoinAllWithinFault limit fault (map document patches.now)) }
-    ensures depth { IfOk result (λ j. (n : ℕ)
-        → AreWithin n (map document patches.now) → depth (document j) ≤ n) }
-{
-    joined_within(alloc, patches, Budget::Left(limit))
-}
-
-/// As `join_all_within`, of patches that are values. `NoPatches`, `ConflictOf` and `OutOfMemory` come when `join_all_within`
-/// answers them.
-///
-/// ```text
-/// join_all_values_within(alloc, &patches, 150)  // {"a":1,"b":2} for {"a":1}, {"b":2} and {"a":1}
-/// ```
-pub fn join_all_values_within(
+pub fn join_all_within<T: Node>(
     alloc: Global,
-    patches: &[Value],
+    patches: &[T],
     limit: usize,
-) -> Result<Value, ListWithinFault>
-    ensures joined { MatchResult result
-        (λ j. IsJoin (map value_document patches.now) (value_document j))
-        (λ fault. IsJoinAllWithinFault limit fault (map value_document patches.now)) }
-    ensures depth { IfOk result (λ j. (n : ℕ)
-        → AreWithin n (map value_document patches.now) → depth (value_document j) ≤ n) }
-{
-    joined_within::<Value>(alloc, patches, Budget::Left(limit))
-}
-
-fn joined<T: Node>(alloc: Global, patches: &[T]) -> Result<T, ListFault>
-    requires documents { (d : T) → IsDocument (T.means d) }
+) -> Result<T, ListFault<Conflicts>>
     ensures joined { MatchResult result (λ j. IsJoin (map T.means patches.now) (T.means j))
-        (λ fault. IsJoinAllFault fault (map T.means patches.now)) }
+        (λ fault. IsJoinAllWithinFault limit fault (map T.means patches.now)) }
     ensures depth { IfOk result (λ j. (n : ℕ)
-        → AreWithin n (map T.means patches.now) → depth (T.means j) ≤ n) }
+        → AreNoDeeper n (map T.means patches.now) → depth (T.means j) ≤ n) }
 {
-    match joined_within(alloc, patches, Budget::Unlimited) {
-        Ok(joined) => Ok(joined),
-        Err(fault) => Err(with_all_places(fault)),
+    let Some(first) = patches.first() else {
+        return Err(ListFault::NoPatches);
+    };
+    nodes_are_documents(first);
+    let mut joined = first.copied(alloc)?;
+    for second in 1..patches.len() {
+        joined = join_next(alloc, patches, second, joined, limit)?;
     }
+    Ok(joined)
 }
 
 // Without a limit each place is there, so that their number says nothing more.
-fn with_all_places(fault: ListWithinFault) -> ListFault
-    ensures { result ≡ list_fault_of fault }
+fn with_all_places(fault: ListFault<Conflicts>) -> ListFault
+    ensures joins { (patches : List Document) → IsJoinAllWithinFault no_limit fault patches
+        → IsJoinAllFault result patches }
+    ensures replays { (patches : List Document) → IsReplayWithinFault no_limit fault patches
+        → IsReplayFault result patches }
 {
     match fault {
-        ListWithinFault::NoPatches => ListFault::NoPatches,
-        ListWithinFault::ConflictOf {
+        ListFault::NoPatches => ListFault::NoPatches,
+        ListFault::ConflictOf {
             first,
             second,
-            conflicts,
-        } => {
-            let Conflicts { places, total: _ } = conflicts;
-            ListFault::ConflictOf {
-                first,
-                second,
-                places,
-            }
-        }
-        ListWithinFault::OutOfMemory => ListFault::OutOfMemory,
+            places: Conflicts { places, total: _ },
+        } => ListFault::ConflictOf {
+            first,
+            second,
+            places,
+        },
+        ListFault::OutOfMemory => ListFault::OutOfMemory,
     }
-}
-
-fn joined_within<T: Node>(
-    alloc: Global,
-    patches: &[T],
-    budget: Budget,
-) -> Result<T, ListWithinFault>
-    requires documents { (d : T) → IsDocument (T.means d) }
-    ensures joined { MatchResult result (λ j. IsJoin (map T.means patches.now) (T.means j))
-        (λ fault. IsJoinAllFaultAt budget fault (map T.means patches.now)) }
-    ensures depth { IfOk result (λ j. (n : ℕ)
-        → AreWithin n (map T.means patches.now) → depth (T.means j) ≤ n) }
-{
-    let Some(first) = patches.first() else {
-        return Err(ListWithinFault::NoPatches);
-    };
-    let mut joined = first.copied(alloc)?;
-    for second in 1..patches.len() {
-        joined = join_next(alloc, patches, second, joined, budget)?;
-    }
-    Ok(joined)
 }
 
 // The join of the patches up to and with number `second`, from the join of those before it.
@@ -153,48 +96,48 @@ fn join_next<T: Node>(
     patches: &[T],
     second: usize,
     mut joined: T,
-    budget: Budget,
-) -> Result<T, ListWithinFault>
+    limit: usize,
+) -> Result<T, ListFault<Conflicts>>
     requires documents { (d : T) → IsDocument (T.means d) }
     requires within { second < length patches.now }
     requires joined { IsJoin (take second (map T.means patches.now)) (T.means joined) }
     ensures { MatchResult result
         (λ j. IsJoin (take (second + 1) (map T.means patches.now)) (T.means j))
-        (λ fault. IsReplayFaultAt budget fault (map T.means patches.now)) }
+        (λ fault. IsReplayWithinFault limit fault (map T.means patches.now)) }
 {
     let patch = &patches[second];
     if unite(patch, &mut joined, alloc)? {
         return Ok(joined);
     }
     drop(joined);
-    let Some((first, conflicts)) = clash_before(alloc, patches, second, budget)? else {
+    let Some((first, places)) = clash_before(alloc, patches, second, limit)? else {
         unreachable!();
     };
-    Err(ListWithinFault::ConflictOf {
+    Err(ListFault::ConflictOf {
         first,
         second,
-        conflicts,
+        places,
     })
 }
 
 // The first of the patches below number `second` that conflicts with it, and of the conflicts of the two those that the
-// budget allows.
+// limit allows.
 fn clash_before<T: Node>(
     alloc: Global,
     patches: &[T],
     second: usize,
-    budget: Budget,
+    limit: usize,
 ) -> Result<Option<(usize, Conflicts)>, AllocError>
     requires documents { (d : T) → IsDocument (T.means d) }
     requires within { second < length patches.now }
     ensures { IfOk result (λ found.
         MatchOption found (IsFreeBelow (map T.means patches.now) second)
-        (λ c. IsReportedBelow budget (map T.means patches.now) c.0 second c.1)) }
+        (λ c. IsReportedBelow limit (map T.means patches.now) c.0 second c.1)) }
 {
     let patch = &patches[second];
     for first in 0..second {
         if !are_compatible(&patches[first], patch) {
-            let conflicts = reported_conflicts(alloc, &patches[first], patch, budget)?;
+            let conflicts = conflict_within(alloc, &patches[first], patch, limit)?;
             return Ok(Some((first, conflicts)));
         }
     }
@@ -215,7 +158,7 @@ pub fn replay(alloc: Global, start: &Doc, patches: &[Doc]) -> Result<Doc, ListFa
         (λ e. IsOutcome (document start.now) (map document patches.now) (document e))
         (λ fault. IsReplayFault fault (map document patches.now)) }
     ensures depth { IfOk result (λ e. (n : ℕ) → depth (document start.now) ≤ n
-        → AreWithin n (map document patches.now) → depth (document e) ≤ n) }
+        → AreNoDeeper n (map document patches.now) → depth (document e) ≤ n) }
     ensures none { patches.now ≡ [] → IfOk result (λ e. document e ≡ document start.now) }
 {
     replay_owned(alloc, start.copy(alloc)?, patches)
@@ -227,107 +170,40 @@ pub fn replay_owned(alloc: Global, start: Doc, patches: &[Doc]) -> Result<Doc, L
         (λ e. IsOutcome (document start) (map document patches.now) (document e))
         (λ fault. IsReplayFault fault (map document patches.now)) }
     ensures depth { IfOk result (λ e. (n : ℕ) → depth (document start) ≤ n
-        → AreWithin n (map document patches.now) → depth (document e) ≤ n) }
+        → AreNoDeeper n (map document patches.now) → depth (document e) ≤ n) }
     ensures none { patches.now ≡ [] → IfOk result (λ e. document e ≡ document start) }
 {
-    replayed(alloc, start, patches)
-}
-
-/// As `replay_owned`, of a start and patches that are values. `ConflictOf` and `OutOfMemory` come when `replay_owned` answers
-/// them.
-///
-/// ```text
-/// replay_values(alloc, start, &patches)  // {"a":1} for {"k":0} and {"a":1}, {"k":null}
-/// ```
-pub fn replay_values(alloc: Global, start: Value, patches: &[Value]) -> Result<Value, ListFault>
-    ensures outcome { MatchResult result
-        (λ e. IsOutcome (value_document start) (map value_document patches.now) (value_document e))
-        (λ fault. IsReplayFault fault (map value_document patches.now)) }
-    ensures depth { IfOk result (λ e. (n : ℕ) → depth (value_document start) ≤ n
-        → AreWithin n (map value_document patches.now) → depth (value_document e) ≤ n) }
-    ensures none { patches.now ≡ [] → IfOk result (λ e. value_document e ≡ value_document start) }
-{
-    replayed(alloc, start, patches)
-}
-
-/// As `replay`, within a limit in bytes on the places that are reported: `ConflictOf` has of the conflicts what `join_all_within`
-/// has.
-///
-/// `ConflictOf` exactly if `join_all_within` answers it, never `NoPatches`; `OutOfMemory` may come at any point.
-///
-/// ```text
-/// replay_within(alloc, &start, &patches, 150)  // ConflictOf of 0 and 1 with /a, of 2, for {"a":1,"b":1} and {"a":2,"b":2}
-/// ```
-pub fn replay_within(
-    alloc: Global,
-    start: &Doc,
-    patches: &[Doc],
-    limit: usize,
-) -> Result<Doc, ListWithinFault>
-    ensures outcome { MatchResult result
-        (λ e. IsOutcome (document start.now) (map document patches.now) (document e))
-        (λ fault. IsReplayWithinFault limit fault (map document patches.now)) }
-    ensures depth { IfOk result (λ e. (n : ℕ) → depth (document start.now) ≤ n
-        → AreWithin n (map document patches.now) → depth (document e) ≤ n) }
-    ensures none { patches.now ≡ [] → IfOk result (λ e. document e ≡ document start.now) }
-{
-    replayed_within(alloc, start.copy(alloc)?, patches, Budget::Left(limit))
-}
-
-/// As `replay_within`, of a start that is owned, and of patches, that are values. `ConflictOf` and `OutOfMemory` come when
-/// `replay_within` answers them.
-///
-/// ```text
-/// replay_values_within(alloc, start, &patches, 150)  // {"a":1} for {"k":0} and {"a":1}, {"k":null}
-/// ```
-pub fn replay_values_within(
-    alloc: Global,
-    start: Value,
-    patches: &[Value],
-    limit: usize,
-) -> Result<Value, ListWithinFault>
-    ensures outcome { MatchResult result
-        (λ e. IsOutcome (value_document start) (map value_document patches.now) (value_document e))
-        (λ fault. IsReplayWithinFault limit fault (map value_document patches.now)) }
-    ensures depth { IfOk result (λ e. (n : ℕ) → depth (value_document start) ≤ n
-        → AreWithin n (map value_document patches.now) → depth (value_document e) ≤ n) }
-    ensures none { patches.now ≡ [] → IfOk result (λ e. value_document e ≡ value_document start) }
-{
-    replayed_within(alloc, start, patches, Budget::Left(limit))
-}
-
-fn replayed<T: Node>(alloc: Global, start: T, patches: &[T]) -> Result<T, ListFault>
-    requires documents { (d : T) → IsDocument (T.means d) }
-    ensures outcome { MatchResult result
-        (λ e. IsOutcome (T.means start) (map T.means patches.now) (T.means e))
-        (λ fault. IsReplayFault fault (map T.means patches.now)) }
-    ensures depth { IfOk result (λ e. (n : ℕ) → depth (T.means start) ≤ n
-        → AreWithin n (map T.means patches.now) → depth (T.means e) ≤ n) }
-    ensures none { patches.now ≡ [] → IfOk result (λ e. T.means e ≡ T.means start) }
-{
-    match replayed_within(alloc, start, patches, Budget::Unlimited) {
+    match replay_within(alloc, start, patches, usize::MAX) {
         Ok(end) => Ok(end),
         Err(fault) => Err(with_all_places(fault)),
     }
 }
 
-fn replayed_within<T: Node>(
+/// As `replay_owned`, of any `Node` and within a limit in bytes on the places that are reported: `ConflictOf` has of the conflicts
+/// what `join_all_within` has. A limit of `usize::MAX` is none.
+///
+/// `ConflictOf` exactly if `join_all_within` answers it, never `NoPatches`; `OutOfMemory` may come at any point.
+///
+/// ```text
+/// replay_within(alloc, start, &patches, 150)  // ConflictOf of 0 and 1 with /a, of 2, for {"a":1,"b":1} and {"a":2,"b":2}
+/// ```
+pub fn replay_within<T: Node>(
     alloc: Global,
     start: T,
     patches: &[T],
-    budget: Budget,
-) -> Result<T, ListWithinFault>
-    requires documents { (d : T) → IsDocument (T.means d) }
+    limit: usize,
+) -> Result<T, ListFault<Conflicts>>
     ensures outcome { MatchResult result
         (λ e. IsOutcome (T.means start) (map T.means patches.now) (T.means e))
-        (λ fault. IsReplayFaultAt budget fault (map T.means patches.now)) }
+        (λ fault. IsReplayWithinFault limit fault (map T.means patches.now)) }
     ensures depth { IfOk result (λ e. (n : ℕ) → depth (T.means start) ≤ n
-        → AreWithin n (map T.means patches.now) → depth (T.means e) ≤ n) }
+        → AreNoDeeper n (map T.means patches.now) → depth (T.means e) ≤ n) }
     ensures none { patches.now ≡ [] → IfOk result (λ e. T.means e ≡ T.means start) }
 {
     if patches.is_empty() {
         return Ok(start);
     }
-    let joined = joined_within(alloc, patches, budget)?;
-    Ok(merged(joined, Some(start), alloc)?)
+    nodes_are_documents(&start);
+    let joined = join_all_within(alloc, patches, limit)?;
+    Ok(merge_owned(alloc, Some(start), joined)?)
 }

@@ -1,13 +1,11 @@
 //! Applying a merge patch (RFC 7396 section 2).
 ghost use Rattle.std.specs.Prelude.{◌≡◌, ◌≤◌, length, max, Some, IfOk, OnOk, option_map, string_bytes};
 ghost use Rattle.mp_tree.specs.Document.{find, depth, IsDocument};
-ghost use Rattle.mp_tree.specs.Values.{value_document};
 ghost use Rattle.mp_tree.specs.View.{document, members_by};
 ghost use Rattle.mp_merge.specs.Application.{set_or_remove, depth_of, merge_patch, merge_patch_members, target_members};
 
 use crate::in_place::merge_into;
 use mp_tree::{Doc, Node};
-use serde_json::Value;
 use std::alloc::{AllocError, Global};
 use std::collections::BTreeMap;
 use std::mem;
@@ -38,30 +36,24 @@ pub fn merge(alloc: Global, target: Option<&Doc>, patch: &Doc) -> Result<Doc, Al
     Ok(merged)
 }
 
-/// As `merge`, of a target and a patch that are owned: their parts are moved and not copied.
-pub fn merge_owned(alloc: Global, target: Option<Doc>, patch: Doc) -> Result<Doc, AllocError>
+/// As `merge`, of a target and a patch that are owned, of any `Node`: their parts are moved and not copied. `AllocError` if memory
+/// ran out.
+///
+/// ```text
+/// merge_owned(alloc, Some(doc), patch)  // {"a":1,"c":3} for {"a":1,"b":2} and {"b":null,"c":3}
+/// ```
+pub fn merge_owned<T: Node>(alloc: Global, target: Option<T>, patch: T) -> Result<T, AllocError>
     ensures merged { IfOk result (λ d.
-        document d ≡ merge_patch (option_map document target) (document patch)) }
-    ensures depth { IfOk result (λ d. depth (document d)
-        ≤ max (depth_of (option_map document target)) (depth (document patch))) }
-{
-    merged(patch, target, alloc)
-}
-
-/// As `merge_owned`: the target after the merge patch (RFC 7396 section 2); `None` is a target that is absent. Parts of the
-/// target and of the patch are moved and not copied. `AllocError` if memory ran out.
-pub fn merge_value(alloc: Global, target: Option<Value>, patch: Value) -> Result<Value, AllocError>
-    ensures merged { IfOk result (λ v. value_document v
-        ≡ merge_patch (option_map value_document target) (value_document patch)) }
-    ensures depth { IfOk result (λ v. depth (value_document v)
-        ≤ max (depth_of (option_map value_document target)) (depth (value_document patch))) }
+        T.means d ≡ merge_patch (option_map T.means target) (T.means patch)) }
+    ensures depth { IfOk result (λ d. depth (T.means d)
+        ≤ max (depth_of (option_map T.means target)) (depth (T.means patch))) }
 {
     merged(patch, target, alloc)
 }
 
 // The patch comes first: the recursion goes down it.
 #[cycle(merged)]
-pub(crate) fn merged<T: Node>(patch: T, target: Option<T>, alloc: Global) -> Result<T, AllocError>
+fn merged<T: Node>(patch: T, target: Option<T>, alloc: Global) -> Result<T, AllocError>
     ensures { IfOk result (λ d.
         T.means d ≡ merge_patch (option_map T.means target) (T.means patch)) }
 {

@@ -1,9 +1,8 @@
 //! Merge patches rewritten as JSON Patches.
-ghost use Rattle.std.specs.Prelude.{◌≡◌, ◌≤◌, ◌++◌, ◌∷◌, [], None, Some, IfOk, OnOk, MatchResult, option_map};
+ghost use Rattle.std.specs.Prelude.{◌≡◌, ◌≢◌, ◌≤◌, ◌++◌, ◌∷◌, [], None, Some, IfOk, OnOk, MatchResult, option_map};
 ghost use Rattle.mp_patch.specs.Operation.{test};
 ghost use Rattle.mp_tree.specs.Document.{depth, depth_limit, no_members, IsDocument};
 ghost use Rattle.mp_tree.specs.Private.Entries.{members};
-ghost use Rattle.mp_tree.specs.Values.{value_document};
 ghost use Rattle.mp_tree.specs.View.{document, members_by};
 ghost use Rattle.mp_patch.specs.Run.{Runs};
 ghost use Rattle.mp_patch.specs.View.{operation_of, operations_of};
@@ -12,14 +11,15 @@ ghost use Rattle.mp_merge.specs.Private.Edits.{IsOneEdit, NotBothMaps, AreEdits,
 ghost use Rattle.mp_merge.specs.Rewriting.{IsRewriting};
 ghost use Rattle.mp_merge.specs.Within.{IsRewriteFault};
 ghost use Rattle.mp_patch.specs.Weight.{operations_weight};
+ghost use Rattle.mp_patch.specs.Work.{no_limit};
 
 use crate::budget::Budget;
+use crate::comparing::nodes_are_documents;
 use crate::fault::RewriteFault;
 use crate::laws;
 use mp_patch::{JsonPatch, Op};
 use mp_pointer::Pointer;
 use mp_tree::{Doc, Node};
-use serde_json::Value;
 use std::alloc::{AllocError, Global};
 use std::collections::BTreeMap;
 
@@ -49,28 +49,17 @@ pub fn rewrite(alloc: Global, doc: &Doc, patch: &Doc) -> Result<JsonPatch, Alloc
         → Runs (document doc.now) (operations_of ops)
         (merge_patch (Some (document doc.now)) (document patch.now))) }
 {
-    rewritten(alloc, doc, patch)
+    match rewrite_within(alloc, doc, patch, usize::MAX) {
+        Ok(edits) => Ok(edits),
+        Err(RewriteFault::TooLarge { fitting: _ }) => unreachable!(),
+        Err(RewriteFault::OutOfMemory) => Err(AllocError),
+    }
 }
 
-/// As `rewrite`, of a document and a patch that are values: of both, what stands in the result alone becomes a document.
-///
-/// ```text
-/// // [{"op":"test","path":"/b/c","value":2},{"op":"remove","path":"/b/c"}], for {"a":1,"b":{"c":2}} and {"b":{"c":null}}
-/// rewrite_value(alloc, &doc, &patch)
-/// ```
-pub fn rewrite_value(alloc: Global, doc: &Value, patch: &Value) -> Result<JsonPatch, AllocError>
-    ensures rewriting { IfOk result (λ ops.
-        IsRewriting (value_document doc.now) (value_document patch.now) (operations_of ops)) }
-    ensures runs { IfOk result (λ ops. depth (value_document patch.now) ≤ depth_limit
-        → Runs (value_document doc.now) (operations_of ops)
-        (merge_patch (Some (value_document doc.now)) (value_document patch.now))) }
-{
-    rewritten(alloc, doc, patch)
-}
-
-/// As `rewrite`, within a limit in bytes: the rewriting exactly if its operations weigh at most `limit` together. An operation
-/// weighs what its place and its value do: 128 bytes, 8 for each token and the bytes of the spelling, and what `mp_tree::left_of`
-/// takes from a budget.
+/// As `rewrite`, of any `Node` and within a limit in bytes: the rewriting exactly if its operations weigh at most `limit` together.
+/// An operation weighs what its place and its value do: 128 bytes, 8 for each token and the bytes of the spelling, and what
+/// `mp_tree::left_of` takes from a budget. A limit of `usize::MAX` is none: then nothing is weighed. Of the document and of the
+/// patch, what stands in the result alone becomes a `Doc`.
 ///
 /// `TooLarge` exactly if they weigh more, with the number of those that fit; `OutOfMemory` may come at any point. It never
 /// holds more than `limit` and one value of the patch besides: what the document has is weighed before it is copied, and after
@@ -80,78 +69,24 @@ pub fn rewrite_value(alloc: Global, doc: &Value, patch: &Value) -> Result<JsonPa
 /// rewrite_within(alloc, &doc, &patch, 1_000)  // as rewrite, if doc is {"a":1,"b":{"c":2}} and patch {"b":{"c":null}}
 /// rewrite_within(alloc, &doc, &patch, 300)    // TooLarge, and 0 operations fit
 /// ```
-pub fn rewrite_within(
-    alloc: Global,
-    doc: &Doc,
-    patch: &Doc,
-    limit: usize,
-) -> Result<JsonPatch, RewriteFault>
-    ensures rewriting { IfOk result (λ ops.
-        IsRewriting (document doc.now) (document patch.now) (operations_of ops)) }
-    ensures runs { IfOk result (λ ops. depth (document patch.now) ≤ depth_limit
-        → Runs (document doc.now) (operations_of ops)
-        (merge_patch (Some (document doc.now)) (document patch.now))) }
-    ensures within { MatchResult result (λ ops. operations_weight (operations_of ops) ≤ limit)
-        (λ fault. IsRewriteFault limit fault (document doc.now) (document patch.now)) }
-{
-    rewritten_within(alloc, doc, patch, limit)
-}
-
-/// As `rewrite_within`, of a document and a patch that are values. `TooLarge` and `OutOfMemory` come when `rewrite_within` answers
-/// them.
-///
-/// ```text
-/// // TooLarge, and 0 operations fit, if doc is {"a":1,"b":{"c":2}} and patch {"b":{"c":null}}
-/// rewrite_values_within(alloc, &doc, &patch, 300)
-/// ```
-pub fn rewrite_values_within(
-    alloc: Global,
-    doc: &Value,
-    patch: &Value,
-    limit: usize,
-) -> Result<JsonPatch, RewriteFault>
-    ensures rewriting { IfOk result (λ ops.
-        IsRewriting (value_document doc.now) (value_document patch.now) (operations_of ops)) }
-    ensures runs { IfOk result (λ ops. depth (value_document patch.now) ≤ depth_limit
-        → Runs (value_document doc.now) (operations_of ops)
-        (merge_patch (Some (value_document doc.now)) (value_document patch.now))) }
-    ensures within { MatchResult result (λ ops. operations_weight (operations_of ops) ≤ limit)
-        (λ fault. IsRewriteFault limit fault (value_document doc.now)
-        (value_document patch.now)) }
-{
-    rewritten_within::<Value>(alloc, doc, patch, limit)
-}
-
-fn rewritten<T: Node>(alloc: Global, doc: &T, patch: &T) -> Result<JsonPatch, AllocError>
-    requires documents { (d : T) → IsDocument (T.means d) }
-    ensures rewriting { IfOk result (λ ops.
-        IsRewriting (T.means doc.now) (T.means patch.now) (operations_of ops)) }
-    ensures runs { IfOk result (λ ops. depth (T.means patch.now) ≤ depth_limit
-        → Runs (T.means doc.now) (operations_of ops)
-        (merge_patch (Some (T.means doc.now)) (T.means patch.now))) }
-{
-    laws::rewriting_runs();
-    let found = gathered(alloc, doc, patch, Budget::Unlimited)?;
-    tests_then_edits(found)
-}
-
-fn rewritten_within<T: Node>(
+pub fn rewrite_within<T: Node>(
     alloc: Global,
     doc: &T,
     patch: &T,
     limit: usize,
 ) -> Result<JsonPatch, RewriteFault>
-    requires documents { (d : T) → IsDocument (T.means d) }
     ensures rewriting { IfOk result (λ ops.
         IsRewriting (T.means doc.now) (T.means patch.now) (operations_of ops)) }
     ensures runs { IfOk result (λ ops. depth (T.means patch.now) ≤ depth_limit
         → Runs (T.means doc.now) (operations_of ops)
         (merge_patch (Some (T.means doc.now)) (T.means patch.now))) }
-    ensures within { MatchResult result (λ ops. operations_weight (operations_of ops) ≤ limit)
+    ensures within { MatchResult result
+        (λ ops. limit ≢ no_limit → operations_weight (operations_of ops) ≤ limit)
         (λ fault. IsRewriteFault limit fault (T.means doc.now) (T.means patch.now)) }
 {
     laws::rewriting_runs();
-    let found = gathered(alloc, doc, patch, Budget::Left(limit))?;
+    nodes_are_documents(patch);
+    let found = gathered(alloc, doc, patch, Budget::within(limit))?;
     if found.budget.is_over() {
         let fitting = found.guards.ops().len() + found.edits.len();
         return Err(RewriteFault::TooLarge { fitting });

@@ -2,17 +2,18 @@
 use Rattle.std.specs.Prelude.{◌≡◌, ◌≢◌, ◌≤◌, ◌+◌, ◌⊎◌, ◌<◌, ℕ, suc, List, [], length, take, Some, ⊤}
 use Rattle.std.specs.List.{All}
 use Rattle.mp_tree.specs.Document.{Document, IsDocument, IsReadable, depth, depth_limit}
-use Rattle.mp_tree.specs.Weight.{weight}
+use Rattle.mp_tree.specs.declared.doc.Doc.{Doc}
 use Rattle.mp_pointer.specs.Part.{part}
 use Rattle.mp_pointer.specs.Spelling.{Tokens, IsProperPrefix}
 use Rattle.mp_patch.specs.Writable.{IsWritable}
 use Rattle.mp_patch.specs.Form.{AreForms, IsFormFault, deepest, shapes}
 use Rattle.mp_patch.specs.Operation.{Operation, add, remove, replace, move, copy, test, HaveDocuments}
 use Rattle.mp_patch.specs.Refusal.{HasNoPlace, LeavesNoPlace}
-use Rattle.mp_patch.specs.Run.{Runs, IsRefused, RefusedAt}
+use Rattle.mp_patch.specs.Run.{Runs, IsApplyFault, IsRefused, RefusedAt}
 use Rattle.mp_patch.specs.View.{operations_of}
-use Rattle.mp_patch.specs.Within.{RunsWithin, RunsWorking, IsApplyWithinFault}
-use Rattle.mp_patch.specs.Work.{AllowsWork}
+use Rattle.mp_patch.specs.Within.{AllowsWeight, RunsWithin, RunsWorking, IsApplyWithinFault, within_fault_of}
+use Rattle.mp_patch.specs.Work.{AllowsWork, no_limit}
+use Rattle.mp_patch.specs.declared.fault.ApplyFault.{ApplyFault}
 use Rattle.mp_patch.specs.declared.fault.ApplyWithinFault.{ApplyWithinFault}
 use Rattle.mp_patch.specs.declared.fault.ApplyWithinFault.TheVariants as within_fault
 use Rattle.mp_patch.specs.declared.fault.Cause.{Cause}
@@ -22,7 +23,7 @@ use Rattle.mp_patch.specs.declared.op.Op.{Op}
 
 -- every list of `Op` is one of these
 abbrev pub PatchesHaveDocuments : Type 0
-PatchesHaveDocuments = (ops : List Op) → HaveDocuments (operations_of ops)
+PatchesHaveDocuments = (ops : List (Op Doc)) → HaveDocuments (operations_of ops)
 
 -- when an operation on d is not refused: if what it names is there, and what it adds has a place and fits
 pub record TakesOperations (d : Document) : Type 0 where
@@ -113,10 +114,10 @@ abbrev pub RunsAreReadable : Type 0
 RunsAreReadable = (d e : Document) (operations : List Operation)
     → IsReadable d → All IsWritable operations → Runs d operations e → IsReadable e
 
--- each result on the way weighs at most the limit, whatever the first document weighs
+-- a limit allows the weight of each result on the way, whatever the first document weighs
 abbrev pub StaysWithin : ℕ → Document → List Operation → Type 0
 StaysWithin limit d operations = (k : ℕ) (m : Document)
-    → k < length operations → Runs d (take (suc k) operations) m → weight m ≤ limit
+    → k < length operations → Runs d (take (suc k) operations) m → AllowsWeight limit m
 
 -- a limit allows the work of the operations together
 abbrev pub WorksWithin : ℕ → Document → List Operation → Type 0
@@ -127,8 +128,10 @@ pub record LimitsChangeNothing (limit : ℕ) (d : Document) (operations : List O
   pub runs : (e : Document) → Runs d operations e → StaysWithin limit d operations → WorksWithin limit d operations
       → RunsWithin limit d operations e
   pub is_run : (e : Document) → RunsWithin limit d operations e → Runs d operations e
-  pub is_refused : (k : ℕ) (cause : Cause)
-      → IsApplyWithinFault limit (within_fault.Refused k cause) d operations → RefusedAt d operations k cause
+  pub is_fault : (fault : ApplyFault)
+      → IsApplyWithinFault limit (within_fault_of fault) d operations → IsApplyFault fault d operations
+  -- and the limit that bounds nothing ends none
+  pub unlimited : (k : ℕ) → limit ≡ no_limit → ¬ IsApplyWithinFault limit (within_fault.TooLarge k) d operations
 
 -- and so it is for every patch
 abbrev pub LimitsChangeNoAnswer : Type 0

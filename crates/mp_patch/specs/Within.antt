@@ -1,13 +1,22 @@
 -- Applying a patch within a limit on the weight of each result, and on the work of all operations together.
-use Rattle.std.specs.Prelude.{◌≡◌, ◌≤◌, ◌<◌, ◌⊎◌, ◌+◌, ℕ, List, [], ◌∷◌, take, slice_get, Some, ⊤}
+use Rattle.std.specs.Prelude.{◌≡◌, ◌≢◌, ◌≤◌, ◌<◌, ◌⊎◌, ◌+◌, ℕ, List, [], ◌∷◌, take, slice_get, Some, ⊤}
 use Rattle.mp_tree.specs.Document.{Document}
 use Rattle.mp_tree.specs.Weight.{weight}
 use Rattle.mp_patch.specs.Operation.{Operation, Step}
 use Rattle.mp_patch.specs.Refusal.{RefusedBy}
 use Rattle.mp_patch.specs.Run.{IsRefused}
-use Rattle.mp_patch.specs.Work.{IsWork, AllowsWork, ExceedsWork}
+use Rattle.mp_patch.specs.Work.{IsWork, AllowsWork, ExceedsWork, no_limit}
+use Rattle.mp_patch.specs.declared.fault.ApplyFault.{ApplyFault}
+use Rattle.mp_patch.specs.declared.fault.ApplyFault.TheVariants as apply
 use Rattle.mp_patch.specs.declared.fault.ApplyWithinFault.{ApplyWithinFault}
 use Rattle.mp_patch.specs.declared.fault.ApplyWithinFault.TheVariants.{Refused, TooLarge, OutOfMemory}
+
+-- what a limit says of the weight of a result: nothing, if it is the one that bounds nothing
+abbrev pub AllowsWeight : ℕ → Document → Type 0
+AllowsWeight limit m = limit ≢ no_limit → weight m ≤ limit
+
+abbrev pub ExceedsWeight : ℕ → Document → Type 0
+ExceedsWeight limit m = (limit ≢ no_limit) × (limit < weight m)
 
 -- the operations lead from d to e, none is refused if it is taken, the result of each is as `Good` says, and their work is
 -- together w
@@ -17,9 +26,9 @@ RunsWorking Good d (o ∷ rest) e w =
     ¬ IsRefused d o × (m : Document) × Step d o m × Good m
     × (first later : ℕ) × IsWork d o first × (w ≡ first + later) × RunsWorking Good m rest e later
 
--- the same if the result of each weighs at most the limit, and the limit allows the work
+-- the same if the limit allows the weight of each result, and the work
 abbrev pub RunsWithinBy : ℕ → Document → List Operation → Document → ℕ → Type 0
-RunsWithinBy limit d operations e w = RunsWorking (λ m. weight m ≤ limit) d operations e w × AllowsWork limit w
+RunsWithinBy limit d operations e w = RunsWorking (AllowsWeight limit) d operations e w × AllowsWork limit w
 
 abbrev pub RunsWithin : ℕ → Document → List Operation → Document → Type 0
 RunsWithin limit d operations e = (w : ℕ) × RunsWithinBy limit d operations e w
@@ -28,7 +37,7 @@ RunsWithin limit d operations e = (w : ℕ) × RunsWithinBy limit d operations e
 abbrev pub IsTooLarge : ℕ → ℕ → Document → Operation → Type 0
 IsTooLarge limit done d o =
     ¬ IsRefused d o × (m : Document) × Step d o m × (w : ℕ) × IsWork d o w
-    × ((limit < weight m) ⊎ ExceedsWork limit (done + w))
+    × (ExceedsWeight limit m ⊎ ExceedsWork limit (done + w))
 
 -- the first k operations lead, within the limit, to a document m, and operation k is so of their work and of m
 abbrev pub StopsAt : (ℕ → Document → Operation → Type 0) → ℕ → Document → List Operation → ℕ → Type 0
@@ -42,3 +51,8 @@ IsApplyWithinFault limit (Refused number cause) d operations =
     StopsAt (λ done m o. RefusedBy m o cause) limit d operations number
 IsApplyWithinFault limit (TooLarge number) d operations = StopsAt (IsTooLarge limit) limit d operations number
 IsApplyWithinFault limit OutOfMemory d operations = ⊤
+
+-- an error of a call that has no limit, as a call within a limit has it
+abbrev pub within_fault_of : ApplyFault → ApplyWithinFault
+within_fault_of (apply.Refused number cause) = Refused number cause
+within_fault_of apply.OutOfMemory = OutOfMemory

@@ -45,12 +45,12 @@ IsWork d (test t v) w = w ≡ 0
 abbrev pub work_factor : ℕ
 work_factor = 16
 
--- the limit that bounds no work
-abbrev pub unbounded : ℕ
-unbounded = 2 ^ 64 - 1
+-- the limit that bounds nothing
+abbrev pub no_limit : ℕ
+no_limit = 2 ^ 64 - 1
 
 abbrev pub AllowsWork : ℕ → ℕ → Type 0
-AllowsWork limit w = limit ≢ unbounded → w ≤ work_factor * limit
+AllowsWork limit w = limit ≢ no_limit → w ≤ work_factor * limit
 
 abbrev pub ExceedsWork : ℕ → ℕ → Type 0
-ExceedsWork limit w = (limit ≢ unbounded) × (work_factor * limit < w)
+ExceedsWork limit w = (limit ≢ no_limit) × (work_factor * limit < w)

@@ -1,18 +1,21 @@
-//! Applying a patch to a document.
-ghost use Rattle.std.specs.Prelude.{◌≤◌, map, MatchResult, IfOk};
+//! Applying a patch to a document, with or without a limit.
+ghost use Rattle.std.specs.Prelude.{◌≤◌, List, MatchResult, IfOk};
+ghost use Rattle.std.specs.Iterator.{AlwaysYields, UpTo};
 ghost use Rattle.mp_tree.specs.Document.{IsDocument, depth, depth_limit};
-ghost use Rattle.mp_tree.specs.Values.{value_document};
 ghost use Rattle.mp_tree.specs.View.{document};
+ghost use Rattle.mp_patch.specs.Operation.{Operation};
 ghost use Rattle.mp_patch.specs.Run.{Runs, IsApplyFault};
-ghost use Rattle.mp_patch.specs.View.{operations_of, value_operations};
+ghost use Rattle.mp_patch.specs.View.{operations_by, operations_of};
+ghost use Rattle.mp_patch.specs.Within.{RunsWithin, IsApplyWithinFault};
 
 use crate::bound::DepthBound;
-use crate::fault::ApplyFault;
-use crate::op::ValueOp;
+use crate::fault::{ApplyFault, ApplyWithinFault};
+use crate::op::Op;
 use crate::patch::JsonPatch;
-use crate::steps::{StepOwned, step};
+use crate::scale::Scale;
+use crate::steps::StepOwned;
+use crate::steps_within::step_under;
 use mp_tree::{Doc, Node};
-use serde_json::Value;
 use std::alloc::Global;
 
 /// The document after all operations of the patch, in order, each on what the one before left (RFC 6902 sections 3
@@ -42,59 +45,74 @@ pub fn apply_owned(alloc: Global, doc: Doc, patch: &JsonPatch) -> Result<Doc, Ap
     ensures depth { IfOk result (λ e. depth (document doc) ≤ depth_limit
         → depth (document e) ≤ depth_limit) }
 {
-    let mut result = doc;
-    let mut bound = DepthBound::unknown();
-    for (number, op) in patch.ops().iter().enumerate() {
-        if let Err(refusal) = step(op, &mut result, &mut bound, alloc) {
-            return Err(refusal.of_operation(number));
-        }
+    match run(doc, patch.ops().iter(), usize::MAX, alloc) {
+        Ok(result) => Ok(result),
+        Err(fault) => Err(fault.without_limit()),
     }
-    Ok(result)
 }
 
-/// As `apply_owned`, of a patch that is owned too: its values are moved into the document and not copied.
-pub fn apply_once(alloc: Global, doc: Doc, patch: JsonPatch) -> Result<Doc, ApplyFault>
-    ensures runs { MatchResult result
-        (λ e. Runs (document doc) (operations_of patch) (document e))
-        (λ fault. IsApplyFault fault (document doc) (operations_of patch)) }
-    ensures depth { IfOk result (λ e. depth (document doc) ≤ depth_limit
-        → depth (document e) ≤ depth_limit) }
-{
-    run(doc, patch.into_ops(), alloc)
-}
-
-/// As `apply_once`, of a document and of operations that are values: the document is changed in place, and what the operations
-/// set is moved into it.
+/// The node after the operations, as `apply` has it, if the result of each operation weighs no more than `limit`, and the work of all
+/// is at most 16 times `limit`. A limit of `usize::MAX` bounds nothing: nothing is weighed, and the answer is that of `apply`.
+/// `mp_tree::left_of` says what a node weighs. The work is what a `copy` copies, as its weight, and 1 for each element of an array
+/// that an addition, a removal or a move shifts.
+///
+/// The node is changed in place, and is dropped if there is no result. The values of the operations are moved into it, and not
+/// copied. `JsonPatch::into_ops` gives those of a patch.
+///
+/// `Refused` as `apply` has it, if nothing before it was too much. `TooLarge` with the first operation, counted from 0, that
+/// is not refused, and whose result weighs more, or by which the work is more; what `doc` itself weighs is no error.
+/// `OutOfMemory` may come at any point.
+///
+/// Within a limit the node is walked once, to weigh it, and then what each operation adds, removes or replaces. What `add`, `copy` and
+/// `replace` add is weighed before it is added or copied, so that no result is made that weighs more than `limit`. So the time is at
+/// most in proportion to `limit`, and to what the node and the operations weigh.
 ///
 /// ```text
-/// apply_to_value(alloc, value, ops)  // {"l":[1,3]}, for {"l":[1,2]} and [{"op":"replace","path":"/l/1","value":3}]
+/// apply_within(alloc, doc, ops, usize::MAX)  // {"a":1}, for {} and [{"op":"add","path":"/a","value":1}]
+/// apply_within(alloc, doc, ops, 1_000)       // Err(TooLarge { op: 0 })
 /// ```
-pub fn apply_to_value(alloc: Global, value: Value, ops: Vec<ValueOp>) -> Result<Value, ApplyFault>
-    ensures runs { MatchResult result
-        (λ e. Runs (value_document value) (value_operations ops.items) (value_document e))
-        (λ fault. IsApplyFault fault (value_document value) (value_operations ops.items)) }
-    ensures depth { IfOk result (λ e. depth (value_document value) ≤ depth_limit
-        → depth (value_document e) ≤ depth_limit) }
+pub fn apply_within<T: Node>(
+    alloc: Global,
+    doc: T,
+    ops: Vec<Op<T>>,
+    limit: usize,
+) -> Result<T, ApplyWithinFault>
+    ensures runs { let operations = operations_by T.means ops.items in
+        MatchResult result
+        (λ e. RunsWithin limit (T.means doc) operations (T.means e))
+        (λ fault. IsApplyWithinFault limit fault (T.means doc) operations) }
+    ensures depth { IfOk result (λ e. depth (T.means doc) ≤ depth_limit
+        → depth (T.means e) ≤ depth_limit) }
 {
-    run(value, ops, alloc)
+    // Each node means a document, as `members` ensures.
+    let _members = doc.members();
+    run(doc, ops.into_iter(), limit, alloc)
 }
 
 // The operations in order, on a node that is owned: each is counted as it is taken.
-fn run<T: Node, O: StepOwned<T>>(doc: T, ops: Vec<O>, alloc: Global) -> Result<T, ApplyFault>
+fn run<T: Node, O: StepOwned<T>, I: Iterator<Item = O> + Drop>(
+    doc: T,
+    ops: I,
+    limit: usize,
+    alloc: Global,
+) -> Result<T, ApplyWithinFault>
     requires documents { (d : T) → IsDocument (T.means d) }
-    ensures runs { MatchResult result
-        (λ e. Runs (T.means doc) (map O.means ops.items) (T.means e))
-        (λ fault. IsApplyFault fault (T.means doc) (map O.means ops.items)) }
+    requires can_next { I.can_next ops }
+    requires few { UpTo (I.remaining ops) usize.MAX }
+    ensures runs { (operations : List Operation)
+        → AlwaysYields I.next_gives O.means ops operations
+        → MatchResult result
+        (λ e. RunsWithin limit (T.means doc) operations (T.means e))
+        (λ fault. IsApplyWithinFault limit fault (T.means doc) operations) }
     ensures depth { IfOk result (λ e. depth (T.means doc) ≤ depth_limit
         → depth (T.means e) ≤ depth_limit) }
 {
     let mut result = doc;
     let mut bound = DepthBound::unknown();
+    let mut scale = Scale::of(&result, limit)?;
     let mut done = 0;
     for op in ops {
-        if let Err(refusal) = op.step_owned(&mut result, &mut bound, alloc) {
-            return Err(refusal.of_operation(done));
-        }
+        scale = step_under(op, done, &mut result, &mut bound, scale, alloc)?;
         done += 1;
     }
     Ok(result)

@@ -1,7 +1,8 @@
 //! Why a patch is refused.
-ghost use Rattle.std.specs.Prelude.{◌≡◌};
+ghost use Rattle.std.specs.Prelude.{◌≡◌, ◌≢◌};
 ghost use Rattle.mp_patch.specs.Texts.{cause_text, form_text};
-ghost use Rattle.mp_patch.specs.Private.Faults.{fault_of_element, fault_of_operation, within_fault_of};
+ghost use Rattle.mp_patch.specs.Private.Faults.{fault_of_element, fault_of_operation};
+ghost use Rattle.mp_patch.specs.Within.{within_fault_of};
 
 use std::alloc::{AllocError, AllocFailed};
 use thiserror::Error;
@@ -67,7 +68,8 @@ impl From<AllocError> for ApplyFault {
     }
 }
 
-/// Why a patch has no result within a limit on the weight of each result, and on the work of all operations.
+/// Why a patch has no result within a limit on the weight of each result, and on the work of all operations. If the limit bounds
+/// nothing, as `usize::MAX`, it is never `TooLarge`.
 #[derive(Clone, Copy, Debug, Drop, PartialEq, Eq, Error)]
 pub enum ApplyWithinFault {
     /// The first operation that is refused, counted from 0. Each result before it is within the limit, and so is their work.
@@ -97,6 +99,20 @@ impl From<AllocError> for ApplyWithinFault {
 
     fn from(_refused: AllocError) -> ApplyWithinFault {
         ApplyWithinFault::OutOfMemory
+    }
+}
+
+impl ApplyWithinFault {
+    /// The error as `ApplyFault` has it: of a call that has no limit, which has no `TooLarge`.
+    pub fn without_limit(self) -> ApplyFault
+        requires { (op : _) → self ≢ ApplyWithinFault.TooLarge op }
+        ensures { within_fault_of result ≡ self }
+    {
+        match self {
+            ApplyWithinFault::Refused { op, cause } => ApplyFault::Refused { op, cause },
+            ApplyWithinFault::TooLarge { .. } => unreachable!(),
+            ApplyWithinFault::OutOfMemory => ApplyFault::OutOfMemory,
+        }
     }
 }
 
@@ -186,18 +202,8 @@ pub(crate) enum Refusal<C> {
 
 impl Refusal<Cause> {
     // As the error of the operation with that number.
-    pub(crate) fn of_operation(self, number: usize) -> ApplyFault
+    pub(crate) fn of_operation(self, number: usize) -> ApplyWithinFault
         ensures { result ≡ fault_of_operation number self }
-    {
-        match self {
-            Refusal::By(cause) => ApplyFault::Refused { op: number, cause },
-            Refusal::OutOfMemory => ApplyFault::OutOfMemory,
-        }
-    }
-
-    // As the error of the operation with that number, within a limit.
-    pub(crate) fn of_operation_within(self, number: usize) -> ApplyWithinFault
-        ensures { result ≡ within_fault_of number self }
     {
         match self {
             Refusal::By(cause) => ApplyWithinFault::Refused { op: number, cause },

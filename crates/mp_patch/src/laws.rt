@@ -89,9 +89,9 @@ pub fn runs_are_readable()
     ensures { RunsAreReadable }
 {}
 
-/// A limit changes no answer below it: if each result on the way weighs at most the limit, and it allows the work of all operations, a
-/// patch that leads to an end leads there within the limit; what it leads to within the limit it leads to without one; and an
-/// operation that is refused within the limit is refused without one, by the same cause.
+/// A limit changes no answer below it: if it allows the weight of each result on the way, and the work of all operations, a patch
+/// that leads to an end leads there within the limit; what it leads to within the limit it leads to without one; and an operation
+/// that is refused within the limit is refused without one, by the same cause. The limit `usize::MAX` ends no patch.
 pub fn limits_change_nothing()
     ensures { LimitsChangeNoAnswer }
 {}

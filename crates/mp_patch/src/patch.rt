@@ -8,7 +8,6 @@ ghost use Rattle.mp_patch.specs.View.{operations_of};
 use crate::fault::FormFault;
 use crate::making::docs_of;
 use crate::op::Op;
-use crate::reading::read_ops;
 use mp_tree::Doc;
 use std::alloc::{AllocError, Global};
 use std::marker::Model;
@@ -31,12 +30,14 @@ impl Model for JsonPatch {
     ghost use Rattle.std.specs.Prelude.{List};
     ghost use Rattle.mp_patch.specs.contracts.op.Op as op;
     ghost use Rattle.mp_patch.specs.declared.op.Op.{Op};
+    ghost use Rattle.mp_tree.specs.contracts.doc.Doc as doc;
+    ghost use Rattle.mp_tree.specs.declared.doc.Doc.{Doc};
 
-    ghost Value = { List Op };
+    ghost Value = { List (Op Doc) };
 
     ghost view = { λ p. p.ops.items };
 
-    ghost coded = { Prim.hlevel (codes, op.the_row.coded) };
+    ghost coded = { Prim.hlevel (codes, (op.the_row doc.the_row).coded) };
 }
 
 impl JsonPatch {
@@ -105,8 +106,12 @@ impl JsonPatch {
         true
     }
 
-    // The operations of `ops`, given away.
-    pub(crate) fn into_ops(self) -> Vec<Op>
+    /// The operations, in order, moved out of the patch. Takes no memory.
+    ///
+    /// ```text
+    /// apply_within(alloc, doc, patch.into_ops(), 1_000)
+    /// ```
+    pub fn into_ops(self) -> Vec<Op>
         ensures { result.items ≡ self }
     {
         self.ops
@@ -114,7 +119,7 @@ impl JsonPatch {
 
     /// The patch that the document is a form of (RFC 6902 section 3): an array of objects, one for each operation, with
     /// the members `op`, `path` and, if the operation needs it, `value` or `from`. Further members are ignored.
-    /// The document is copied once: `from_doc_owned` copies nothing.
+    /// The document is copied once: `Op::list_from` copies no value.
     ///
     /// `NotAnArray` if the document is not an array; `Form` with the first element that is not an operation, counted from
     /// 0, and its first cause; `OutOfMemory` may come at any point.
@@ -127,19 +132,8 @@ impl JsonPatch {
         ensures { MatchResult result (λ p. AreForms (document doc.now) (operations_of p))
             (λ fault. IsFormFault fault (document doc.now)) }
     {
-        JsonPatch::from_doc_owned(alloc, doc.copy(alloc)?)
-    }
-
-    /// As `from_doc`, of a document that is owned: the values are moved out of it and not copied.
-    pub fn from_doc_owned(alloc: Global, doc: Doc) -> Result<JsonPatch, FormFault>
-        ensures { MatchResult result (λ p. AreForms (document doc) (operations_of p))
-            (λ fault. IsFormFault fault (document doc)) }
-    {
-        let Doc::Items(elements) = doc else {
-            return Err(FormFault::NotAnArray);
-        };
         Ok(JsonPatch {
-            ops: read_ops(elements, alloc)?,
+            ops: Op::list_from(alloc, doc.copy(alloc)?)?,
         })
     }
 

@@ -1,23 +1,21 @@
-// From a document to the operations that it is a form of (RFC 6902 sections 3 and 4).
-ghost use Rattle.std.specs.Prelude.{◌≡◌, ◌≢◌, codes, map, string_bytes, Some, None, MatchOption, MatchResult};
+//! From a document to the operations that it is a form of (RFC 6902 sections 3 and 4).
+ghost use Rattle.std.specs.Prelude.{◌≡◌, ◌≢◌, codes, string_bytes, Some, None, MatchOption, MatchResult};
 ghost use Rattle.std.specs.Option.{option_copied};
 ghost use Rattle.mp_tree.specs.Document.{IsDocument, find, list, object};
-ghost use Rattle.mp_tree.specs.Values.{value_document};
-ghost use Rattle.mp_tree.specs.View.{document, items_by, members_by};
+ghost use Rattle.mp_tree.specs.View.{items_by, members_by};
 ghost use Rattle.mp_pointer.specs.Spelling.{spell};
 ghost use Rattle.mp_patch.specs.Form.{AreForms, Carries, EachForm, IsFormFault, IsForm, needed_members, text_at as text_under};
-ghost use Rattle.mp_patch.specs.Operation.{Operation};
-ghost use Rattle.mp_patch.specs.Private.Reading.{drafted, IsElementFault, IsMapFault, IsOriginFault, IsTextFault, IsValueFault};
-ghost use Rattle.mp_patch.specs.View.{operation_of, value_operation_of, value_operations};
+ghost use Rattle.mp_patch.specs.Private.Reading.{IsElementFault, IsMapFault, IsOriginFault, IsTextFault, IsValueFault};
+ghost use Rattle.mp_patch.specs.View.{operation_by, operations_by};
 
 use crate::fault::{FormCause, FormFault, Refusal};
 use crate::name::{OpName, op_named};
-use crate::op::{Op, ValueOp};
+use crate::op::Op;
 use mp_pointer::{Pointer, PointerFault};
-use mp_tree::{Doc, Node};
-use serde_json::Value;
-use std::alloc::{AllocError, Global};
+use mp_tree::Node;
+use std::alloc::Global;
 use std::collections::BTreeMap;
+use std::mem;
 
 // Where a part is, and where it goes.
 #[derive(Drop)]
@@ -26,83 +24,43 @@ struct Pointers {
     path: Pointer,
 }
 
-// An operation as it is read, before it is one of those that callers have.
-#[derive(Drop)]
-pub(crate) enum Draft<T> {
-    Add(Pointer, T),
-    Remove(Pointer),
-    Replace(Pointer, T),
-    Move { origin: Pointer, path: Pointer },
-    Copy { origin: Pointer, path: Pointer },
-    Test(Pointer, T),
-}
-
-// The operations whose values are nodes of one type.
-pub(crate) trait FromDraft<T: Node>: Drop {
-    ghost means: { Self → Operation };
-
-    fn from_draft(draft: Draft<T>) -> Self
-        ensures { means result ≡ drafted T.means draft };
-}
-
-impl FromDraft<Doc> for Op {
-    ghost means = { operation_of };
-
-    fn from_draft(draft: Draft<Doc>) -> Op
-        ensures { operation_of result ≡ drafted document draft }
+impl<T: Node> Op<T> {
+    /// The operations that the document is a form of (RFC 6902 section 3): an array of objects, one for each operation, with the
+    /// members `op`, `path` and, if the operation needs it, `value` or `from`. Further members are ignored. The values are moved
+    /// out of the document, and nothing is copied but the pointers.
+    ///
+    /// `NotAnArray` if the document is not an array; `Form` with the first element that is not an operation, counted from
+    /// 0, and its first cause; `OutOfMemory` may come at any point.
+    ///
+    /// ```text
+    /// Op::list_from(alloc, value)  // for [{"op":"remove","path":"/a"}]: a list of one Op::Remove
+    /// Op::list_from(alloc, value)  // for [{"op":"add","path":""}]: Form { op: 0, cause: NoValue }
+    /// ```
+    pub fn list_from(alloc: Global, form: T) -> Result<Vec<Op<T>>, FormFault>
+        ensures { MatchResult result
+            (λ ops. AreForms (T.means form) (operations_by T.means ops.items))
+            (λ fault. IsFormFault fault (T.means form)) }
     {
-        match draft {
-            Draft::Add(path, value) => Op::Add(path, value),
-            Draft::Remove(path) => Op::Remove(path),
-            Draft::Replace(path, value) => Op::Replace(path, value),
-            Draft::Move { origin, path } => Op::Move { origin, path },
-            Draft::Copy { origin, path } => Op::Copy { origin, path },
-            Draft::Test(path, value) => Op::Test(path, value),
+        match elements_of(form, alloc) {
+            Some(elements) => read_ops(elements, alloc),
+            None => Err(FormFault::NotAnArray),
         }
     }
 }
 
-impl FromDraft<Value> for ValueOp {
-    ghost means = { value_operation_of };
-
-    fn from_draft(draft: Draft<Value>) -> ValueOp
-        ensures { value_operation_of result ≡ drafted value_document draft }
-    {
-        match draft {
-            Draft::Add(path, value) => ValueOp::Add(path, value),
-            Draft::Remove(path) => ValueOp::Remove(path),
-            Draft::Replace(path, value) => ValueOp::Replace(path, value),
-            Draft::Move { origin, path } => ValueOp::Move { origin, path },
-            Draft::Copy { origin, path } => ValueOp::Copy { origin, path },
-            Draft::Test(path, value) => ValueOp::Test(path, value),
-        }
-    }
-}
-
-/// As `JsonPatch::from_doc_owned`, of a value that `serde_json` read: the operations that it is a form of (RFC 6902 section 3).
-///
-/// ```text
-/// ops_of_value(alloc, value)  // for [{"op":"remove","path":"/a"}]: a list of one ValueOp::Remove
-/// ops_of_value(alloc, value)  // for [{"op":"add","path":""}]: Form { op: 0, cause: NoValue }
-/// ```
-pub fn ops_of_value(alloc: Global, value: Value) -> Result<Vec<ValueOp>, FormFault>
-    ensures { MatchResult result
-        (λ ops. AreForms (value_document value) (value_operations ops.items))
-        (λ fault. IsFormFault fault (value_document value)) }
+// The elements of an array, moved out of it.
+fn elements_of<T: Node>(form: T, alloc: Global) -> Option<Vec<T>>
+    ensures { MatchOption result ((ds : _) → T.means form ≢ list ds)
+        (λ v. T.means form ≡ list (items_by T.means v.items)) }
 {
-    match value {
-        Value::Array(elements) => read_ops(elements, alloc),
-        _ => Err(FormFault::NotAnArray),
-    }
+    let mut form = form;
+    let elements = form.items_mut()?;
+    Some(mem::replace(elements, Vec::new(alloc)))
 }
 
-// The values are moved out of the array.
-pub(crate) fn read_ops<T: Node, O: FromDraft<T>>(
-    elements: Vec<T>,
-    alloc: Global,
-) -> Result<Vec<O>, FormFault>
+fn read_ops<T: Node>(elements: Vec<T>, alloc: Global) -> Result<Vec<Op<T>>, FormFault>
     ensures { MatchResult result
-        (λ ops. EachForm (items_by T.means elements.items) (map O.means ops.items))
+        (λ ops. EachForm (items_by T.means elements.items) (operations_by T.means ops.items))
         (λ fault. IsFormFault fault (list (items_by T.means elements.items))) }
 {
     let mut ops = Vec::new(alloc);
@@ -115,42 +73,41 @@ pub(crate) fn read_ops<T: Node, O: FromDraft<T>>(
     Ok(ops)
 }
 
-fn read_op<T: Node, O: FromDraft<T>>(element: T, alloc: Global) -> Result<O, Refusal<FormCause>>
-    ensures { MatchResult result (λ op. IsForm (T.means element) (O.means op))
+fn read_op<T: Node>(element: T, alloc: Global) -> Result<Op<T>, Refusal<FormCause>>
+    ensures { MatchResult result (λ op. IsForm (T.means element) (operation_by T.means op))
         (λ fault. IsElementFault fault (T.means element)) }
 {
     let Some(_) = element.members() else {
         return Err(Refusal::By(FormCause::NotAnObject));
     };
-    let draft = read_draft(element.into_members(alloc), alloc)?;
-    Ok(O::from_draft(draft))
+    read_members(element.into_members(alloc), alloc)
 }
 
-fn read_draft<T: Node>(
+fn read_members<T: Node>(
     entries: BTreeMap<String, T>,
     alloc: Global,
-) -> Result<Draft<T>, Refusal<FormCause>>
+) -> Result<Op<T>, Refusal<FormCause>>
     requires documents { (d : T) → IsDocument (T.means d) }
     ensures { let ms = members_by T.means entries.entries in
-        MatchResult result (λ draft. Carries ms (needed_members (drafted T.means draft)))
+        MatchResult result (λ op. Carries ms (needed_members (operation_by T.means op)))
         (λ fault. IsMapFault fault (object ms)) }
 {
     let word = text_at(&entries, "op").ok_or(FormCause::NoOp)?;
     let name = op_named(word).ok_or(FormCause::UnknownOp)?;
     let spelling = text_at(&entries, "path").ok_or(FormCause::NoPath)?;
     match name {
-        OpName::Add => Ok(Draft::Add(pointer_of(spelling, alloc)?, value_of(entries)?)),
-        OpName::Remove => Ok(Draft::Remove(pointer_of(spelling, alloc)?)),
-        OpName::Replace => Ok(Draft::Replace(pointer_of(spelling, alloc)?, value_of(entries)?)),
+        OpName::Add => Ok(Op::Add(pointer_of(spelling, alloc)?, value_of(entries)?)),
+        OpName::Remove => Ok(Op::Remove(pointer_of(spelling, alloc)?)),
+        OpName::Replace => Ok(Op::Replace(pointer_of(spelling, alloc)?, value_of(entries)?)),
         OpName::Move => {
             let Pointers { origin, path } = pointers_in(spelling, &entries, alloc)?;
-            Ok(Draft::Move { origin, path })
+            Ok(Op::Move { origin, path })
         }
         OpName::Copy => {
             let Pointers { origin, path } = pointers_in(spelling, &entries, alloc)?;
-            Ok(Draft::Copy { origin, path })
+            Ok(Op::Copy { origin, path })
         }
-        OpName::Test => Ok(Draft::Test(pointer_of(spelling, alloc)?, value_of(entries)?)),
+        OpName::Test => Ok(Op::Test(pointer_of(spelling, alloc)?, value_of(entries)?)),
     }
 }
 

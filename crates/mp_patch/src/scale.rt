@@ -1,7 +1,6 @@
 // What a document weighs, and what the operations that follow may do.
-ghost use Rattle.std.specs.Prelude.{◌≡◌, ◌≤◌, ◌<◌, IfOk, MatchOption};
-ghost use Rattle.mp_tree.specs.Weight.{weight};
-ghost use Rattle.mp_patch.specs.Private.Within.{ExceedsLeft, HasLeft, LeavesWork};
+ghost use Rattle.std.specs.Prelude.{◌≡◌, ◌+◌, ◌≤◌, ◌<◌, IfOk, MatchOption};
+ghost use Rattle.mp_patch.specs.Private.Within.{IsScale};
 
 use crate::weighing::whole_weight;
 use mp_tree::Node;
@@ -10,42 +9,39 @@ use std::alloc::AllocError;
 // So much work is allowed for each byte of a limit.
 const WORK_FACTOR: u128 = 16;
 
-// What a document weighs, what a result may weigh, and what work is left; None if that has no bound.
+// What a document weighs, what a result may weigh, and what work is left.
 #[derive(Clone, Copy, Drop)]
 pub(crate) struct Scale {
     pub(crate) weight: usize,
     pub(crate) limit: usize,
-    pub(crate) work: Option<u128>,
+    pub(crate) work: u128,
 }
 
 impl Scale {
-    // Before the first operation. `AllocError` as `whole_weight` has it.
-    pub(crate) fn of<T: Node>(node: &T, limit: usize) -> Result<Scale, AllocError>
-        ensures weight { IfOk result (λ scale. scale.weight ≡ weight (T.means node.now)) }
-        ensures limit { IfOk result (λ scale. scale.limit ≡ limit) }
-        ensures work { IfOk result (λ scale. HasLeft limit 0 scale.work) }
+    // Before the first operation. None if the limit bounds nothing: then nothing is weighed. `AllocError` as `whole_weight` has it.
+    pub(crate) fn of<T: Node>(node: &T, limit: usize) -> Result<Option<Scale>, AllocError>
+        ensures { IfOk result (λ scale. IsScale limit 0 scale (T.means node.now)) }
     {
-        Ok(Scale {
+        if limit == usize::MAX {
+            return Ok(None);
+        }
+        Ok(Some(Scale {
             weight: whole_weight(node)?,
             limit,
-            work: all_work(limit),
-        })
+            work: WORK_FACTOR * limit as u128,
+        }))
     }
 
     // The scale once the document weighs so much, and so much work is done. None if that is more than what is left.
     pub(crate) fn after(self, weight: usize, work: u128) -> Option<Scale>
-        ensures { MatchOption result (ExceedsLeft self.work work)
+        ensures { MatchOption result (self.work < work)
             (λ next. (next.weight ≡ weight) × (next.limit ≡ self.limit)
-            × LeavesWork self.work work next.work) }
+            × (next.work + work ≡ self.work)) }
     {
-        let left = match self.work {
-            Some(left) => Some(left.checked_sub(work)?),
-            None => None,
-        };
         Some(Scale {
             weight,
             limit: self.limit,
-            work: left,
+            work: self.work.checked_sub(work)?,
         })
     }
 
@@ -59,16 +55,5 @@ impl Scale {
         } else {
             None
         }
-    }
-}
-
-// All the work that a limit allows. None if that has no bound.
-fn all_work(limit: usize) -> Option<u128>
-    ensures { HasLeft limit 0 result }
-{
-    if limit == usize::MAX {
-        None
-    } else {
-        Some(WORK_FACTOR * limit as u128)
     }
 }

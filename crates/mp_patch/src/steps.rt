@@ -1,45 +1,44 @@
 // One operation at a time (RFC 6902 section 4), on a document that is owned.
 ghost use Rattle.std.specs.Prelude.{◌≡◌, ◌≢◌, ◌+◌, ◌≤◌, ◌↔◌, ◌++◌, ◌∷◌, [], length, take, IsTrue, Some, MatchOption, MatchResult, IfOk, IfSome, OnOk, Err};
 ghost use Rattle.mp_tree.specs.Document.{IsDocument, depth, depth_limit};
-ghost use Rattle.mp_tree.specs.Values.{value_document};
-ghost use Rattle.mp_tree.specs.View.{document};
 ghost use Rattle.mp_pointer.specs.Part.{part};
 ghost use Rattle.mp_patch.specs.Operation.{Operation, add as add_operation, remove as remove_operation, replace as replace_operation, move as move_operation, copy as copy_operation, test as test_operation, Removes};
 ghost use Rattle.mp_patch.specs.Refusal.{RefusedBy};
 ghost use Rattle.mp_patch.specs.Run.{IsRefused};
 ghost use Rattle.mp_patch.specs.Private.Bounds.{Bounds};
 ghost use Rattle.mp_patch.specs.Private.Steps.{Answers};
-ghost use Rattle.mp_patch.specs.Private.Within.{TakesToMove, viewed};
-ghost use Rattle.mp_patch.specs.View.{operation_of, value_operation_of};
+ghost use Rattle.mp_patch.specs.Private.Within.{TakesToMove};
+ghost use Rattle.mp_patch.specs.View.{operation_by};
 
 use crate::bound::DepthBound;
 use crate::containers::{insert, set, take};
 use crate::fault::{Cause, Refusal};
-use crate::op::{Op, ValueOp};
-use crate::view::{Change, View};
-use mp_pointer::{Pointer, edit_part_in, part_in};
-use mp_tree::{Doc, Node};
-use serde_json::Value;
+use crate::op::Op;
+use crate::parts::part_at;
+use mp_pointer::{Pointer, edit_part_in};
+use mp_tree::Node;
 use std::alloc::Global;
 
 // On an error the document is not used again.
-pub(crate) fn step(
-    op: &Op,
-    doc: &mut Doc,
+fn step<T: Node>(
+    op: &Op<T>,
+    doc: &mut T,
     bound: &mut DepthBound,
     alloc: Global,
 ) -> Result<(), Refusal<Cause>>
-    requires { Bounds bound.old.most 0 (document doc.old) }
-    ensures answer { Answers result (document doc.old) (operation_of op.now) (document doc.new) }
-    ensures bounds { OnOk result (Bounds bound.new.most 0 (document doc.new)) }
+    requires documents { (d : T) → IsDocument (T.means d) }
+    requires bounds { Bounds bound.old.most 0 (T.means doc.old) }
+    ensures answer { Answers result (T.means doc.old) (operation_by T.means op.now)
+        (T.means doc.new) }
+    ensures bounds { OnOk result (Bounds bound.new.most 0 (T.means doc.new)) }
 {
     match op {
-        Op::Add(path, value) => add(doc, path, value.copy(alloc)?, bound, alloc),
+        Op::Add(path, value) => add(doc, path, value.copied(alloc)?, bound, alloc),
         Op::Remove(path) => {
             drop(remove(doc, path, alloc)?);
             Ok(())
         }
-        Op::Replace(path, value) => replace(doc, path, value.copy(alloc)?, bound),
+        Op::Replace(path, value) => replace(doc, path, value.copied(alloc)?, bound),
         Op::Move { origin, path } => move_part(doc, origin, path, bound, alloc),
         Op::Copy { origin, path } => copy_part(doc, origin, path, bound, alloc),
         Op::Test(path, value) => check(doc, path, value),
@@ -50,9 +49,9 @@ pub(crate) fn step(
 pub(crate) trait StepOwned<T: Node>: Drop {
     ghost means: { Self → Operation };
 
-    // How it is looked at before it is taken.
-    fn view(&self) -> View<'_, T>
-        ensures { viewed T.means result ≡ means self.now };
+    // The operation itself, to look at before it is taken.
+    fn as_op(&self) -> &Op<T>
+        ensures { operation_by T.means result.now ≡ means self.now };
 
     fn step_owned(
         self,
@@ -60,28 +59,22 @@ pub(crate) trait StepOwned<T: Node>: Drop {
         bound: &mut DepthBound,
         alloc: Global,
     ) -> Result<(), Refusal<Cause>>
-        requires { Bounds bound.old.most 0 (T.means doc.old) }
+        requires documents { (d : T) → IsDocument (T.means d) }
+        requires bounds { Bounds bound.old.most 0 (T.means doc.old) }
         ensures answer { Answers result (T.means doc.old) (means self) (T.means doc.new) }
         ensures bounds { OnOk result (Bounds bound.new.most 0 (T.means doc.new)) };
 }
 
-impl StepOwned<Doc> for Op {
-    ghost means = { operation_of };
+impl<T: Node> StepOwned<T> for Op<T> {
+    ghost means = { operation_by T.means };
 
-    fn view(&self) -> View<'_, Doc> {
-        match self {
-            Op::Add(path, value) => View::Change(Change::Add(path, value)),
-            Op::Remove(path) => View::Change(Change::Remove(path)),
-            Op::Replace(path, value) => View::Change(Change::Replace(path, value)),
-            Op::Move { origin, path } => View::Move(origin, path),
-            Op::Copy { origin, path } => View::Change(Change::Copy(origin, path)),
-            Op::Test(path, value) => View::Change(Change::Test(path, value)),
-        }
+    fn as_op(&self) -> &Op<T> {
+        self
     }
 
     fn step_owned(
         self,
-        doc: &mut Doc,
+        doc: &mut T,
         bound: &mut DepthBound,
         alloc: Global,
     ) -> Result<(), Refusal<Cause>> {
@@ -94,54 +87,20 @@ impl StepOwned<Doc> for Op {
 }
 
 // If it is borrowed, its value is copied.
-impl StepOwned<Doc> for &Op {
-    ghost means = { λ op. operation_of op.now };
+impl<T: Node> StepOwned<T> for &Op<T> {
+    ghost means = { λ op. operation_by T.means op.now };
 
-    fn view(&self) -> View<'_, Doc> {
-        (*self).view()
+    fn as_op(&self) -> &Op<T> {
+        *self
     }
 
     fn step_owned(
         self,
-        doc: &mut Doc,
+        doc: &mut T,
         bound: &mut DepthBound,
         alloc: Global,
     ) -> Result<(), Refusal<Cause>> {
         step(self, doc, bound, alloc)
-    }
-}
-
-impl StepOwned<Value> for ValueOp {
-    ghost means = { value_operation_of };
-
-    fn view(&self) -> View<'_, Value> {
-        match self {
-            ValueOp::Add(path, value) => View::Change(Change::Add(path, value)),
-            ValueOp::Remove(path) => View::Change(Change::Remove(path)),
-            ValueOp::Replace(path, value) => View::Change(Change::Replace(path, value)),
-            ValueOp::Move { origin, path } => View::Move(origin, path),
-            ValueOp::Copy { origin, path } => View::Change(Change::Copy(origin, path)),
-            ValueOp::Test(path, value) => View::Change(Change::Test(path, value)),
-        }
-    }
-
-    fn step_owned(
-        self,
-        doc: &mut Value,
-        bound: &mut DepthBound,
-        alloc: Global,
-    ) -> Result<(), Refusal<Cause>> {
-        match self {
-            ValueOp::Add(path, value) => add(doc, &path, value, bound, alloc),
-            ValueOp::Remove(path) => {
-                drop(remove(doc, &path, alloc)?);
-                Ok(())
-            }
-            ValueOp::Replace(path, value) => replace(doc, &path, value, bound),
-            ValueOp::Move { origin, path } => move_part(doc, &origin, &path, bound, alloc),
-            ValueOp::Copy { origin, path } => copy_part(doc, &origin, &path, bound, alloc),
-            ValueOp::Test(path, value) => check(doc, &path, &value),
-        }
     }
 }
 
@@ -271,7 +230,7 @@ pub(crate) fn take_to_move<T: Node>(
         return Err(Refusal::By(Cause::IntoItself));
     }
     if origin == path {
-        return match part_in(doc, origin) {
+        return match part_at(doc, origin) {
             Some(_) => Ok(None),
             None => Err(Refusal::By(Cause::Missing)),
         };
@@ -294,7 +253,7 @@ fn copy_part<T: Node>(
         (T.means doc.new) }
     ensures bounds { OnOk result (Bounds bound.new.most 0 (T.means doc.new)) }
 {
-    let part = match part_in(doc, origin) {
+    let part = match part_at(doc, origin) {
         Some(part) => part.copied(alloc)?,
         None => return Err(Refusal::By(Cause::Missing)),
     };
@@ -306,7 +265,7 @@ fn check<T: Node>(doc: &T, path: &Pointer, value: &T) -> Result<(), Refusal<Caus
     ensures { Answers result (T.means doc.now) (test_operation path.now (T.means value.now))
         (T.means doc.now) }
 {
-    match part_in(doc, path) {
+    match part_at(doc, path) {
         Some(part) => if part.equals(value) {
             Ok(())
         } else {

@@ -1,44 +1,48 @@
 // What a document weighs once an operation is done, found before it is done: nothing is allocated.
-ghost use Rattle.std.specs.Prelude.{◌≡◌, ◌≤◌, ◌<◌, ◌+◌, length, MatchOption, IfOk, Some};
+ghost use Rattle.std.specs.Prelude.{◌≡◌, ◌≢◌, ◌≤◌, ◌<◌, ◌+◌, length, MatchOption, IfOk, Some};
 ghost use Rattle.mp_tree.specs.Document.{Document, IsDocument};
 ghost use Rattle.mp_tree.specs.Weight.{name_weight, weight};
 ghost use Rattle.mp_patch.specs.Operation.{add as add_operation, remove as remove_operation, replace as replace_operation, test as test_operation};
 ghost use Rattle.mp_patch.specs.Refusal.{HasNoPlace, LacksPlace};
 ghost use Rattle.mp_patch.specs.Private.Bounds.{Bounds};
 ghost use Rattle.mp_patch.specs.Private.Exchange.{IsExchange, TakesAt, gives_at, takes_at};
-ghost use Rattle.mp_patch.specs.Private.Within.{Fits, Judges, changed};
+ghost use Rattle.mp_patch.specs.Private.Within.{Fits, Judges};
+ghost use Rattle.mp_patch.specs.View.{operation_by};
 
 use crate::bound::DepthBound;
 use crate::containers::index_in;
+use crate::op::Op;
+use crate::parts::part_at;
 use crate::scale::Scale;
 use crate::steps::last_token;
-use crate::view::Change;
-use mp_pointer::{Pointer, front_part_in, part_in};
+use mp_pointer::{Pointer, part_in};
 use mp_tree::{Node, left_of, left_of_name};
 use std::alloc::AllocError;
 
-// What the document weighs once the change is made, if that is not refused: None if it is not refused, and the weight is more than
+// What the document weighs once the operation, which is no move, is done, if that is not refused: None if it is not refused, and the weight is more than
 // the limit. If it is refused, the number says nothing. Only a value that weighs too much is asked for its depth.
 pub(crate) fn judge<T: Node>(
-    change: Change<'_, T>,
+    op: &Op<T>,
     doc: &T,
     bound: &mut DepthBound,
     scale: Scale,
 ) -> Option<usize>
     requires documents { (d : T) → IsDocument (T.means d) }
+    requires change { (s t : _) → op.now ≢ Op.Move s t }
     requires weight { scale.weight ≡ weight (T.means doc.now) }
-    ensures judged { Judges scale.limit result (T.means doc.now) (changed T.means change.entry) }
+    ensures judged { Judges scale.limit result (T.means doc.now) (operation_by T.means op.now) }
     ensures kept { (d : Document) → Bounds bound.old.most 0 d → Bounds bound.new.most 0 d }
 {
-    match change {
-        Change::Add(path, value) => judge_addition(doc, path, value, bound, scale),
-        Change::Remove(path) => judge_removal(doc, path, scale),
-        Change::Replace(path, value) => judge_replacement(doc, path, value, bound, scale),
-        Change::Copy(origin, path) => match part_in(doc, origin) {
+    match op {
+        Op::Add(path, value) => judge_addition(doc, path, value, bound, scale),
+        Op::Remove(path) => judge_removal(doc, path, scale),
+        Op::Replace(path, value) => judge_replacement(doc, path, value, bound, scale),
+        Op::Move { .. } => unreachable!(),
+        Op::Copy { origin, path } => match part_at(doc, origin) {
             Some(part) => judge_addition(doc, path, part, bound, scale),
             None => Some(scale.weight),
         },
-        Change::Test(path, value) => judge_test(doc, path, value, scale),
+        Op::Test(path, value) => judge_test(doc, path, value, scale),
     }
 }
 
@@ -99,7 +103,7 @@ fn judge_removal<T: Node>(doc: &T, path: &Pointer, scale: Scale) -> Option<usize
     if path.is_empty() {
         return Some(scale.weight);
     }
-    match part_in(doc, path) {
+    match part_at(doc, path) {
         Some(part) => {
             let unnamed = scale.weight - name_at(doc, path);
             at_most(unnamed - weight_of(part, unnamed), scale.limit)
@@ -121,7 +125,7 @@ fn judge_replacement<T: Node>(
         (replace_operation path.now (T.means value.now)) }
     ensures kept { (d : Document) → Bounds bound.old.most 0 d → Bounds bound.new.most 0 d }
 {
-    let Some(part) = part_in(doc, path) else {
+    let Some(part) = part_at(doc, path) else {
         return Some(scale.weight);
     };
     match weight_with(
@@ -147,7 +151,7 @@ fn judge_test<T: Node>(doc: &T, path: &Pointer, value: &T, scale: Scale) -> Opti
     if scale.weight <= scale.limit {
         return Some(scale.weight);
     }
-    match part_in(doc, path) {
+    match part_at(doc, path) {
         Some(part) if part.equals(value) => None,
         _ => Some(scale.weight),
     }
@@ -164,7 +168,7 @@ fn exchange<T: Node>(doc: &T, path: &Pointer, limit: usize) -> Option<(usize, us
     let Some((last, token)) = last_token(path) else {
         return Some((weight_of(doc, limit), 0));
     };
-    match front_part_in(doc, path, last) {
+    match part_in(doc, path, last) {
         Some(container) => exchange_in(container, token, limit),
         None => None,
     }
@@ -196,7 +200,7 @@ pub(crate) fn name_at<T: Node>(doc: &T, path: &Pointer) -> usize
     let Some((last, token)) = last_token(path) else {
         return 0;
     };
-    match front_part_in(doc, path, last) {
+    match part_in(doc, path, last) {
         Some(container) => name_in(container, token),
         None => 0,
     }

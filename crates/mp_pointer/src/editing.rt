@@ -2,7 +2,6 @@
 ghost use Rattle.std.specs.Prelude.{◌≡◌, ◌≤◌, ◌<◌, length, take, slice_range, MatchOption};
 ghost use Rattle.std.specs.Fn.{FnOnceReturnsAtMut};
 ghost use Rattle.mp_tree.specs.Document.{list, object, IsDocument};
-ghost use Rattle.mp_tree.specs.Values.{value_document};
 ghost use Rattle.mp_tree.specs.View.{document, items_by, members_by};
 ghost use Rattle.mp_pointer.specs.Editing.{EditsAt, EditsBy};
 ghost use Rattle.mp_pointer.specs.Part.{part};
@@ -10,7 +9,6 @@ ghost use Rattle.mp_pointer.specs.Part.{part};
 use crate::evaluating::index_of;
 use crate::pointer::Pointer;
 use mp_tree::{Doc, Node};
-use serde_json::Value;
 use std::collections::BTreeMap;
 
 /// Hands the part that the first `count` tokens of the pointer name to `edit`, and answers what `edit` answers. None
@@ -37,30 +35,6 @@ pub fn edit_part<R, F: FnOnce(&mut Doc) -> R>(
         t doc.old doc.new) }
 {
     edit_part_in(doc, pointer, count, edit)
-}
-
-/// As `edit_part`, of a value. Takes no memory of its own.
-///
-/// ```text
-/// // Some of the old part
-/// edit_value_part(&mut value, &pointer, pointer.len(), |part| mem::replace(part, Value::Null))
-/// ```
-pub fn edit_value_part<R, F: FnOnce(&mut Value) -> R>(
-    value: &mut Value,
-    pointer: &Pointer,
-    count: usize,
-    edit: F,
-) -> Option<R>
-    requires within { count ≤ length pointer.now }
-    requires callable { F.IsAlwaysCallable edit }
-    ensures { let t = take count pointer.now in
-        MatchOption result ((part (value_document value.old) t ≡ None)
-        × (value_document value.new ≡ value_document value.old))
-        (λ r. EditsBy value_document
-        (λ before after. FnOnceReturnsAtMut F.FnOnce edit before r after)
-        t value.old value.new) }
-{
-    edit_part_in(value, pointer, count, edit)
 }
 
 /// As `edit_part`, of any `Node`: hands its part that the first `count` tokens of the pointer name to `edit`, and answers

@@ -1,7 +1,6 @@
 //! The part of a document that a pointer names (RFC 6901 section 4), read or borrowed for writing.
 ghost use Rattle.std.specs.Prelude.{◌≡◌, ◌≢◌, ◌^◌, ◌≤◌, ◌↔◌, ℕ, length, take, IsTrue, slice_index, option_map, MatchOption, string_bytes};
 ghost use Rattle.std.specs.Borrow.{sem};
-ghost use Rattle.mp_tree.specs.Values.{value_document};
 ghost use Rattle.mp_tree.specs.View.{document};
 ghost use Rattle.mp_pointer.specs.Bytes.{digit_one};
 ghost use Rattle.mp_pointer.specs.Borrowing.{BorrowsPart};
@@ -11,7 +10,6 @@ ghost use Rattle.mp_pointer.specs.Private.Digits.{digit_nine};
 use crate::borrowing::child_mut;
 use crate::pointer::Pointer;
 use mp_tree::{Doc, Node};
-use serde_json::Value;
 
 /// The index that a token spells (RFC 6901 section 4): `0`, or decimal digits that do not begin with `0`.
 /// None for any other token, `-` among them, and for an index over `usize::MAX`.
@@ -52,40 +50,18 @@ fn begins_above_zero(token: &str) -> bool
 pub fn get<'a>(doc: &'a Doc, pointer: &Pointer) -> Option<&'a Doc>
     ensures { option_map (λ d. document d.now) result ≡ part (document doc.now) pointer.now }
 {
-    part_in(doc, pointer)
+    part_in(doc, pointer, pointer.len())
 }
 
-/// As `get`, of a value. Takes no memory.
+/// As `get`, of any `Node`, and of the first `count` tokens of the pointer: of all of them it is the part that the pointer
+/// names, and of all but the last the one that holds it. `count` is at most `len()`. It looks up one name or one index for
+/// each of these tokens, and takes no memory.
 ///
 /// ```text
-/// get_value(&value, &pointer)  // for /foo/1 in {"foo":["bar","baz"]}: "baz"
+/// part_in(&node, &pointer, 2)  // for /foo/1 in {"foo":["bar","baz"]}: "baz"
+/// part_in(&node, &pointer, 1)  // ["bar","baz"]
 /// ```
-pub fn get_value<'a>(value: &'a Value, pointer: &Pointer) -> Option<&'a Value>
-    ensures { option_map (λ v. value_document v.now) result
-        ≡ part (value_document value.now) pointer.now }
-{
-    part_in(value, pointer)
-}
-
-/// As `get`, of any `Node`: its part that the pointer names, borrowed. None exactly if there is none. It looks up one
-/// name or one index for each token, and takes no memory.
-///
-/// ```text
-/// part_in(&node, &pointer)  // for /foo/1 in {"foo":["bar","baz"]}: "baz"
-/// ```
-pub fn part_in<'a, T: Node>(node: &'a T, pointer: &Pointer) -> Option<&'a T>
-    ensures { option_map (λ n. T.means n.now) result ≡ part (T.means node.now) pointer.now }
-{
-    front_part_in(node, pointer, pointer.len())
-}
-
-/// As `part_in`, of the first `count` tokens of the pointer: the part that holds the one that it names. `count` is at
-/// most `len()`. It looks up one name or one index for each of these tokens, and takes no memory.
-///
-/// ```text
-/// front_part_in(&node, &pointer, 1)  // for /foo/1 in {"foo":["bar","baz"]}: ["bar","baz"]
-/// ```
-pub fn front_part_in<'a, T: Node>(node: &'a T, pointer: &Pointer, count: usize) -> Option<&'a T>
+pub fn part_in<'a, T: Node>(node: &'a T, pointer: &Pointer, count: usize) -> Option<&'a T>
     requires { count ≤ length pointer.now }
     ensures { option_map (λ n. T.means n.now) result
         ≡ part (T.means node.now) (take count pointer.now) }
@@ -110,7 +86,8 @@ pub fn front_part_in<'a, T: Node>(node: &'a T, pointer: &Pointer, count: usize) 
 // proofs/evaluating/get_mut/Proof.antt follows this body statement by statement.
 pub fn get_mut<'a>(doc: &'a mut Doc, pointer: &Pointer) -> Option<&'a mut Doc>
     ensures* writes_back { sem 𝓛 (BorrowsPart pointer.now doc.entry result) }
-    ensures value { option_map (λ d. document d.now) result ≡ part (document doc.old) pointer.now }
+    ensures value { option_map (λ d. document d.now) result
+        ≡ part (document doc.old) pointer.now }
 {
     let mut target = doc;
     for number in 0..pointer.len() {

@@ -9,7 +9,7 @@ pub mod laws;
 mod pointer;
 mod spelling;
 
-pub use editing::{edit_part, edit_part_in, edit_value_part};
-pub use evaluating::{front_part_in, get, get_mut, get_value, index_of, part_in};
+pub use editing::{edit_part, edit_part_in};
+pub use evaluating::{get, get_mut, index_of, part_in};
 pub use fault::PointerFault;
 pub use pointer::Pointer;

@@ -1,17 +1,20 @@
 -- Patch logs that received the same messages store the same, and what is alike shows, reports and begins the same.
-use Rattle.std.proofs.Common.{◌≡◌, ◌≢◌, ◌⊎◌, ◌+◌, ◌^◌, ◌<◌, ◌≤◌, take, inl, inr, ℕ, List, [], ◌∷◌, ◌++◌, Option, None, Some, refl, sym, ap, ◌∙◌, subst}
+use Rattle.std.proofs.Common.{◌≡◌, ◌≢◌, ◌⊎◌, ◌+◌, ◌^◌, ◌<◌, ◌≤◌, arith, inl, inr, ℕ, List, [], ◌∷◌, ◌++◌, Option, None, Some, refl, sym, ap, ◌∙◌, subst}
 use Rattle.std.proofs.lemmas.List.Elements.{All-contains, Contains-append_left, Contains-push, Contains-push_cases}
 use Rattle.std.specs.List.{Contains}
 use Rattle.mp_tree.specs.Document.{Document, IsDocument}
+use Rattle.mp_tree.specs.View.{document}
 use Rattle.mp_tree.specs.Laws.{DocsAreDocuments}
-use Rattle.mp_tree.proofs.Facts.{Contains-nil, some_same}
+use Rattle.mp_tree.proofs.Facts.{some_same}
 use Rattle.mp_merge.specs.Clash.{AreAllClashes}
 use Rattle.mp_merge.specs.Outcome.{IsOutcome}
 use Rattle.mp_replica.specs.Laws.{AlikeBeginTheSame, AlikeRefuseTheSame, AlikeReportTheSame, AlikeShowTheSame, LogsAreAlike}
-use Rattle.mp_replica.specs.Messages.{LogFollows, HaveOnePatchFor, Sent}
-use Rattle.mp_replica.specs.PatchLog.{AreAllPairsOf, ClashesWithNone, DoClash, HaveArrived, HeldLog, IsAmong, IsClashing, IsFirstMissing, IsFirstPair, Pair, Stored, StoresAlso, identities_of, start_of, stored_of}
+use Rattle.mp_replica.specs.Messages.{Becomes, LogFollows, HaveOnePatchFor, Sent}
+use Rattle.mp_replica.specs.PatchLog.{AreAlike, AreAllPairsOf, AreFirstConflictsAt, DoClash, HaveArrived, HeldLog, IsAmong, IsClashing, IsFirstMissing, IsFirstPair, Pair, Shows, Stored, StoresAlso, identities_of, start_of, stored_of}
 use Rattle.mp_replica.specs.Private.LawsBelow.{MergeLaws}
 use Rattle.mp_replica.specs.declared.fault.DecideFault.TheVariants as decide
+use Rattle.mp_replica.specs.declared.message.Arrival.{Arrival}
+use Rattle.mp_replica.specs.declared.message.Arrival.TheVariants as arrival
 use Rattle.mp_replica.specs.declared.message.Identity.{Identity}
 use Rattle.mp_replica.proofs.Identities.{decide_identity}
 use Rattle.mp_replica.proofs.PairsFound.{pairs_total, same_risen, unmapped}
@@ -52,16 +55,8 @@ logs_are_alike epoch start messages others one other alone same has have = recor
 
 -- ---- one more message
 
-pub none_received : (epoch : ℕ) (start : Document) (log : HeldLog) → log.epoch ≡ epoch → start_of log ≡ start → ((i : Identity) → stored_of log i ≡ None) → LogFollows epoch start [] log
-none_received epoch start log same begun none = record {
-  epoch_is = same;
-  start_is = begun;
-  stored = λ i p at. absurd (let never : None ≡ Some p = sym (none i) ∙ at in cc);
-  all = λ i p at. absurd (Contains-nil (sent_as epoch i p) at);
-}
-
 -- its patch is stored
-pub one_received : (epoch : ℕ) (start : Document) (messages : List Sent) (before now : HeldLog) (m : Sent) → m.epoch ≡ before.epoch → now.epoch ≡ before.epoch → start_of now ≡ start_of before
+one_received : (epoch : ℕ) (start : Document) (messages : List Sent) (before now : HeldLog) (m : Sent) → m.epoch ≡ before.epoch → now.epoch ≡ before.epoch → start_of now ≡ start_of before
     → StoresAlso (stored_of before) m.identity m.patch (stored_of now) → LogFollows epoch start messages before → LogFollows epoch start (messages ++ m ∷ []) now
 one_received epoch start messages before now m of_start still begun more has = record {
   epoch_is = still ∙ has.epoch_is;
@@ -83,7 +78,7 @@ one_received epoch start messages before now m of_start still begun more has = r
 }
 
 -- it is of another start, or its identity has arrived: nothing changes
-pub none_more_received : (epoch : ℕ) (start : Document) (messages : List Sent) (log : HeldLog) (m : Sent) → (m.epoch ≡ log.epoch → stored_of log m.identity ≢ None) → LogFollows epoch start messages log
+none_more_received : (epoch : ℕ) (start : Document) (messages : List Sent) (log : HeldLog) (m : Sent) → (m.epoch ≡ log.epoch → stored_of log m.identity ≢ None) → LogFollows epoch start messages log
     → LogFollows epoch start (messages ++ m ∷ []) log
 none_more_received epoch start messages log m arrived has = record {
   epoch_is = has.epoch_is;
@@ -95,13 +90,47 @@ none_more_received epoch start messages log m arrived has = record {
   ];
 }
 
+-- so the log follows one message more, whatever becomes of it
+pub becomes_follows : (epoch : ℕ) (start : Document) (messages : List Sent) (what : Arrival) (m : Sent) (before now : HeldLog) → Becomes what m before now → LogFollows epoch start messages before → LogFollows epoch start (messages ++ m ∷ []) now
+becomes_follows epoch start messages arrival.Stored m before now is has = one_received epoch start messages before now m is.0 is.2 (ap document is.3) is.4 has
+becomes_follows epoch start messages arrival.Repeat m before now is has = subst (LogFollows epoch start (messages ++ m ∷ [])) (sym is.2) (none_more_received epoch start messages before m (λ same. is.1) has)
+becomes_follows epoch start messages arrival.Late m before now is has =
+    let late = is.0 in
+    subst (LogFollows epoch start (messages ++ m ∷ [])) (sym is.1) (none_more_received epoch start messages before m (λ same. absurd (omega arith)) has)
+becomes_follows epoch start messages arrival.Early m before now is has =
+    let early = is.0 in
+    subst (LogFollows epoch start (messages ++ m ∷ [])) (sym is.1) (none_more_received epoch start messages before m (λ same. absurd (omega arith)) has)
+
+-- what becomes of it is decided by its start and by what is stored
+pub becomes_stored : (what : Arrival) (m : Sent) (before now : HeldLog) → Becomes what m before now → m.epoch ≡ before.epoch → stored_of before m.identity ≡ None
+    → (what ≡ arrival.Stored) × StoresAlso (stored_of before) m.identity m.patch (stored_of now)
+becomes_stored arrival.Stored m before now is same none = (refl, is.4)
+becomes_stored arrival.Repeat m before now is same none = absurd (is.1 none)
+becomes_stored arrival.Late m before now is same none = let late = is.0 in absurd (omega arith)
+becomes_stored arrival.Early m before now is same none = let early = is.0 in absurd (omega arith)
+
+pub becomes_repeat : (what : Arrival) (m : Sent) (before now : HeldLog) → Becomes what m before now → m.epoch ≡ before.epoch → stored_of before m.identity ≢ None → (what ≡ arrival.Repeat) × (now ≡ before)
+becomes_repeat arrival.Stored m before now is same some = absurd (some is.1)
+becomes_repeat arrival.Repeat m before now is same some = (refl, is.2)
+becomes_repeat arrival.Late m before now is same some = let late = is.0 in absurd (omega arith)
+becomes_repeat arrival.Early m before now is same some = let early = is.0 in absurd (omega arith)
+
+pub becomes_late : (what : Arrival) (m : Sent) (before now : HeldLog) → Becomes what m before now → m.epoch < before.epoch → (what ≡ arrival.Late) × (now ≡ before)
+becomes_late arrival.Stored m before now is late = let same = is.0 in absurd (omega arith)
+becomes_late arrival.Repeat m before now is late = let same = is.0 in absurd (omega arith)
+becomes_late arrival.Late m before now is late = (refl, is.1)
+becomes_late arrival.Early m before now is late = let early = is.0 in absurd (omega arith)
+
+pub becomes_early : (what : Arrival) (m : Sent) (before now : HeldLog) → Becomes what m before now → before.epoch < m.epoch → (what ≡ arrival.Early) × (now ≡ before)
+becomes_early arrival.Stored m before now is early = let same = is.0 in absurd (omega arith)
+becomes_early arrival.Repeat m before now is early = let same = is.0 in absurd (omega arith)
+becomes_early arrival.Late m before now is early = let late = is.0 in absurd (omega arith)
+becomes_early arrival.Early m before now is early = (refl, is.1)
+
 -- ---- what is alike
 
-abbrev Same : Stored → Stored → Type 0
-Same stored there = (i : Identity) → stored i ≡ there i
-
-unclashed_there : (stored there : Stored) (p : Document) → Same stored there → ((i : Identity) × (stored i ≡ Some p)) × ClashesWithNone stored p → ((i : Identity) × (there i ≡ Some p)) × ClashesWithNone there p
-unclashed_there stored there p same has = ((has.0.0, sym (same has.0.0) ∙ has.0.1), λ i q at. has.1 i q (same i ∙ at))
+all_stored : (one other : HeldLog) → AreAlike one other → stored_of one ≡ stored_of other
+all_stored one other alike = λ d i. alike.stored i d
 
 module _ (laws : MergeLaws) where
   agree : (d : Document) (ps qs : List Document) (e f : Document) → ((p : Document) → Contains ps p → Contains qs p) → ((p : Document) → Contains qs p → Contains ps p) → IsDocument e → IsDocument f
@@ -110,10 +139,8 @@ module _ (laws : MergeLaws) where
 
   pub alike_show_the_same : AlikeShowTheSame
   alike_show_the_same one other d e alike good fine shows shown =
-      agree (start_of one) shows.patches shown.patches d e
-      (λ p at. (shown.unclashed p).1 (unclashed_there (stored_of one) (stored_of other) p alike.stored ((shows.unclashed p).0 at)))
-      (λ p at. (shows.unclashed p).1 (unclashed_there (stored_of other) (stored_of one) p (λ i. sym (alike.stored i)) ((shown.unclashed p).0 at)))
-      good fine shows.outcome (subst (λ s. IsOutcome s shown.patches e) (sym alike.start) shown.outcome)
+      let there = subst (λ s. Shows s (stored_of one) e) (sym alike.start) (subst (λ s. Shows (start_of other) s e) (sym (all_stored one other alike)) shown) in
+      agree (start_of one) shows.patches there.patches d e (λ p at. (there.unclashed p).1 ((shows.unclashed p).0 at)) (λ p at. (shows.unclashed p).1 ((there.unclashed p).0 at)) good fine shows.outcome there.outcome
 
   pub alike_begin_the_same : DocsAreDocuments → AlikeBeginTheSame
   alike_begin_the_same docs one other one_now other_now chosen others alike named began begun = record {
@@ -127,74 +154,47 @@ module _ (laws : MergeLaws) where
 
   -- ---- what is reported
 
-  same_pair : (a b : Pair) → a.first ≡ b.first → a.second ≡ b.second → a.places ≡ b.places → a ≡ b
-  same_pair a b first second places =
-      ap (λ x. record { first = x; second = a.second; places = a.places }) first ∙ ap (λ x. record { first = b.first; second = x; places = a.places }) second
-      ∙ ap (λ x. record { first = b.first; second = b.second; places = x }) places
-
-  one_clashing : (stored there : Stored) (a b : Pair) → Same stored there → identities_of a ≡ identities_of b → IsClashing stored a → IsClashing there b → a ≡ b
-  one_clashing stored there a b same alike is are =
+  one_clashing : (stored : Stored) (a b : Pair) → identities_of a ≡ identities_of b → IsClashing stored a → IsClashing stored b → a ≡ b
+  one_clashing stored a b alike is are =
       let first : a.first ≡ b.first = ap (λ x. x.0) alike in
       let second : a.second ≡ b.second = ap (λ x. x.1) alike in
-      let p : are.one ≡ is.one = some_same are.one is.one (sym are.at_first ∙ sym (same b.first) ∙ ap stored (sym first) ∙ is.at_first) in
-      let q : are.other ≡ is.other = some_same are.other is.other (sym are.at_second ∙ sym (same b.second) ∙ ap stored (sym second) ∙ is.at_second) in
-      let places = subst (λ d. AreAllClashes d is.other b.places) p (subst (λ d. AreAllClashes are.one d b.places) q are.conflicts.clashes) in
-      same_pair a b first second (laws.one_list is.one is.other a.places b.places is.conflicts.clashes places)
+      let p : are.one ≡ is.one = some_same are.one is.one (sym are.at_first ∙ ap stored (sym first) ∙ is.at_first) in
+      let q : are.other ≡ is.other = some_same are.other is.other (sym are.at_second ∙ ap stored (sym second) ∙ is.at_second) in
+      let clashes = subst (λ d. AreAllClashes d is.other b.places) p (subst (λ d. AreAllClashes are.one d b.places) q are.conflicts.clashes) in
+      let places : a.places ≡ b.places = laws.one_list is.one is.other a.places b.places is.conflicts.clashes clashes in
+      λ d. record { first = first d; second = second d; places = places d }
 
-  clash_there : (stored there : Stored) (a : Pair) → Same stored there → IsClashing stored a → DoClash there a.first a.second
-  clash_there stored there a same is = record {
+  do_clash : (stored : Stored) (a : Pair) → IsClashing stored a → DoClash stored a.first a.second
+  do_clash stored a is = record {
     one = is.one;
     other = is.other;
-    at_first = sym (same a.first) ∙ is.at_first;
-    at_second = sym (same a.second) ∙ is.at_second;
+    at_first = is.at_first;
+    at_second = is.at_second;
     clash = λ agree. is.conflicts.some ((laws.none_if_compatible is.one is.other a.places is.conflicts.clashes).1 agree);
   }
 
-  reported_there : (of : Option Identity) (stored there : Stored) (pairs others : List Pair) → Same stored there → AreAllPairsOf of stored pairs → AreAllPairsOf of there others → (a : Pair) → Contains pairs a → Contains others a
-  reported_there of stored there pairs others same are also a at =
+  reported_there : (of : Option Identity) (stored : Stored) (pairs others : List Pair) → AreAllPairsOf of stored pairs → AreAllPairsOf of stored others → (a : Pair) → Contains pairs a → Contains others a
+  reported_there of stored pairs others are also a at =
       let is = All-contains (IsClashing stored) pairs a are.each at in
-      let found = unmapped identities_of others (identities_of a) (also.all a.first a.second is.in_order (All-contains (λ pair. IsAmong of pair.first pair.second) pairs a are.among at) (clash_there stored there a same is)) in
-      subst (Contains others) (sym (one_clashing stored there a found.0 same (sym found.2) is (All-contains (IsClashing there) others found.0 also.each found.1))) found.1
+      let found = unmapped identities_of others (identities_of a) (also.all a.first a.second is.in_order (All-contains (λ pair. IsAmong of pair.first pair.second) pairs a are.among at) (do_clash stored a is)) in
+      subst (Contains others) (sym (one_clashing stored a found.0 (sym found.2) is (All-contains (IsClashing stored) others found.0 also.each found.1))) found.1
 
   pub alike_report_the_same : AlikeReportTheSame
   alike_report_the_same of one other pairs others alike are also =
-      same_risen _ pairs_total identities_of pairs others are.rising also.rising
-      (reported_there of (stored_of one) (stored_of other) pairs others alike.stored are also)
-      (reported_there of (stored_of other) (stored_of one) others pairs (λ i. sym (alike.stored i)) also are)
+      let there = subst (λ s. AreAllPairsOf of s others) (sym (all_stored one other alike)) also in
+      same_risen _ pairs_total identities_of pairs others are.rising there.rising (reported_there of (stored_of one) pairs others are there) (reported_there of (stored_of one) others pairs there are)
 
 -- ---- what is refused
-
-arrived_there : (stored there : Stored) (chosen : List Identity) → Same stored there → HaveArrived stored chosen → HaveArrived there chosen
-arrived_there stored there chosen same arrived i at none = arrived i at (same i ∙ none)
-
-missing_there : (stored there : Stored) (chosen : List Identity) (i : Identity) → Same stored there → IsFirstMissing stored chosen i → IsFirstMissing there chosen i
-missing_there stored there chosen i same first = record {
-  k = first.k;
-  at = first.at;
-  missing = sym (same i) ∙ first.missing;
-  before = arrived_there stored there (take first.k chosen) same first.before;
-}
-
-do_clash_there : (stored there : Stored) (i j : Identity) → Same stored there → DoClash stored i j → DoClash there i j
-do_clash_there stored there i j same clash = record { one = clash.one; other = clash.other; at_first = sym (same i) ∙ clash.at_first; at_second = sym (same j) ∙ clash.at_second; clash = clash.clash }
-
-pair_there : (stored there : Stored) (chosen : List Identity) (i j : Identity) → Same stored there → IsFirstPair stored chosen i j → IsFirstPair there chosen i j
-pair_there stored there chosen i j same first = record {
-  chosen_first = first.chosen_first;
-  chosen_second = first.chosen_second;
-  in_order = first.in_order;
-  clash = do_clash_there stored there i j same first.clash;
-  least = λ k l here also less clash. first.least k l here also less (do_clash_there there stored k l (λ m. sym (same m)) clash);
-}
 
 pub alike_refuse_the_same : AlikeRefuseTheSame
 alike_refuse_the_same limit one other chosen decide.LastEpoch alike is = subst (λ n. 2 ^ 64 ≤ n + 1) alike.epoch is
 alike_refuse_the_same limit one other chosen (decide.NotReceived i) alike is =
-    (subst (λ n. n + 1 < 2 ^ 64) alike.epoch is.0, missing_there (stored_of one) (stored_of other) chosen i alike.stored is.1)
-alike_refuse_the_same limit one other chosen (decide.Conflict i j conflicts) alike is = (
-  subst (λ n. n + 1 < 2 ^ 64) alike.epoch is.0,
-  arrived_there (stored_of one) (stored_of other) chosen alike.stored is.1,
-  pair_there (stored_of one) (stored_of other) chosen i j alike.stored is.2,
-  λ p q at_first at_second. is.3 p q (alike.stored i ∙ at_first) (alike.stored j ∙ at_second),
-)
+    (subst (λ n. n + 1 < 2 ^ 64) alike.epoch is.0, subst (λ s. IsFirstMissing s chosen i) (all_stored one other alike) is.1)
+alike_refuse_the_same limit one other chosen (decide.Conflict i j conflicts) alike is =
+    let same = all_stored one other alike in (
+      subst (λ n. n + 1 < 2 ^ 64) alike.epoch is.0,
+      subst (λ s. HaveArrived s chosen) same is.1,
+      subst (λ s. IsFirstPair s chosen i j) same is.2,
+      subst (λ s. AreFirstConflictsAt limit s i j conflicts.places.items conflicts.total) same is.3,
+    )
 alike_refuse_the_same limit one other chosen decide.OutOfMemory alike is = tt

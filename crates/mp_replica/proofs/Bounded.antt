@@ -1,17 +1,18 @@
 -- The first places of a conflict, as many as may be held.
 use Rattle.std.proofs.lemmas.Bool.{lt-ltb, ltb-true}
-use Rattle.std.proofs.Common.{nat_lt, ◌≡◌, ◌≢◌, ◌↔◌, ◌<◌, ◌≤◌, ◌+◌, ◌*◌, ◌^◌, inl, inr, ℕ, Bool, true, IsTrue, List, [], ◌∷◌, length, take, get_or, zero, suc, MatchOption, Option, None, Some, refl, ap, ◌∙◌, arith}
+use Rattle.std.proofs.Common.{nat_lt, ◌≡◌, ◌≢◌, ◌↔◌, ◌<◌, ◌≤◌, ◌+◌, ◌*◌, inl, inr, ℕ, Bool, true, IsTrue, List, [], ◌∷◌, length, take, get_or, zero, suc, IfSome, MatchOption, Option, None, Some, refl, ap, ◌∙◌, arith}
 use Rattle.std.specs.Option.{unwrap_or}
 use Rattle.std.proofs.lemmas.List.{length-append, take_more}
 use Rattle.std.proofs.lemmas.List.Sums.{sum_by-append, sum_by-cons}
 use Rattle.mp_tree.specs.Document.{Document, IsDocument}
 use Rattle.mp_tree.specs.Look.{Path}
 use Rattle.mp_pointer.specs.Weight.{place_weight}
+use Rattle.mp_patch.specs.Work.{no_limit}
 use Rattle.mp_merge.specs.Clash.{Compatible}
-use Rattle.mp_merge.specs.Within.{AreFirstConflicts, AreFirstOf, places_weight}
+use Rattle.mp_merge.specs.Within.{AreFirstOf, places_weight}
 use Rattle.mp_replica.specs.Held.{places_bound}
 use Rattle.mp_replica.specs.Private.LawsBelow.{MergeLaws}
-use Rattle.mp_replica.specs.Private.Steps.{HoldsClashesWithJoin}
+use Rattle.mp_replica.specs.Private.Steps.{FirstClashesWithJoin, HoldsClashesWithJoin}
 use Rattle.mp_replica.proofs.Taking.{some_places}
 
 -- what a test for more counts
@@ -23,7 +24,10 @@ pub fewer_than_weight : (ws : List Path) → 2 * length ws ≤ places_weight ws
 fewer_than_weight [] = omega arith
 fewer_than_weight (w ∷ ws) = let rest = fewer_than_weight ws in omega (arith, rest, sum_by-cons place_weight w ws)
 
-module _ (limit : ℕ) (all places : List Path) (total : ℕ) (below : limit < 2 ^ 64) (first : AreFirstOf limit all places total) where
+module _ (limit : ℕ) (all places : List Path) (total : ℕ) (below : limit < no_limit) (first : AreFirstOf limit all places total) where
+  limited : limit ≢ no_limit
+  limited none = omega (arith, below, none)
+
   all_counted : length all ≡ length places + length first.rest
   all_counted = ap length first.whole ∙ length-append places first.rest
 
@@ -38,12 +42,13 @@ module _ (limit : ℕ) (all places : List Path) (total : ℕ) (below : limit < 2
       by [] is = absurd (some is)
       by (w ∷ rest) is =
           let counted = first.counted in
-          let within = first.within in
+          let within = first.within limited in
           omega (arith, counted, within, below, all_counted, ap length is, fewer_than_weight places)
 
-pub held_within : (p k : Document) (places : List Path) (total : ℕ) (more : Bool) → (¬ Compatible p k) → (IsTrue more ↔ (length places < total)) → AreFirstConflicts places_bound p k places total
-    → HoldsClashesWithJoin (Some k) p (record { places = places; more = more })
-held_within p k places total more clash says found = (
+pub held_within : (m : Option Document) (p : Document) (places : List Path) (total : ℕ) (more : Bool) → ¬ IfSome m (Compatible p) → (IsTrue more ↔ (length places < total)) → FirstClashesWithJoin places_bound m p places total
+    → HoldsClashesWithJoin m p (record { places = places; more = more })
+held_within None p places total more clash says found = absurd (clash tt)
+held_within (Some k) p places total more clash says found = (
   found.all,
   (clash, found.clashes),
   record {
@@ -53,14 +58,15 @@ held_within p k places total more clash says found = (
       λ yes. rest_if_more places_bound found.all places total (omega arith) found.first (says.0 yes),
       λ some. says.1 (more_if_rest places_bound found.all places total (omega arith) found.first some),
     );
-    within = found.first.within;
+    within = found.first.within (λ none. omega (arith, none));
     longest = λ w others is. inr (found.first.longest w others is);
   },
 )
 
 -- if memory ran out none is held, and there are more
-pub held_nothing_of : MergeLaws → (p k : Document) → IsDocument p → (¬ Compatible p k) → (places : List Path) → places ≡ [] → HoldsClashesWithJoin (Some k) p (record { places = places; more = true })
-held_nothing_of laws p k good clash [] none =
+pub held_nothing_of : MergeLaws → (m : Option Document) (p : Document) → IsDocument p → ¬ IfSome m (Compatible p) → HoldsClashesWithJoin m p (record { places = []; more = true })
+held_nothing_of laws None p good clash = absurd (clash tt)
+held_nothing_of laws (Some k) p good clash =
     let found = laws.all_clashes_exist p k good in (
       found.0,
       (clash, found.1),
@@ -72,7 +78,6 @@ held_nothing_of laws p k good clash [] none =
         longest = λ w others is. inl refl;
       },
     )
-held_nothing_of laws p k good clash (w ∷ places) none = absurd (let differ = none in cc)
 
 -- ---- the weight of a list of places
 

@@ -1,6 +1,5 @@
 -- What is known of the stored patches that conflict, as one more is stored.
-use Rattle.std.proofs.Common.{◌≡◌, ◌≢◌, ◌↔◌, ◌⊎◌, ◌<◌, ◌+◌, inl, inr, ℕ, Bool, true, get_or, length, take, List, [], ◌∷◌, ◌++◌, Option, None, Some, IfSome, option_map, refl, sym, ap, ◌∙◌, subst, append_assoc}
-use Rattle.std.proofs.lemmas.List.{take_more}
+use Rattle.std.proofs.Common.{◌≡◌, ◌≢◌, ◌↔◌, ◌⊎◌, inl, inr, List, [], ◌∷◌, ◌++◌, Option, None, Some, IfSome, option_map, refl, sym, ap, ◌∙◌, subst, append_assoc}
 use Rattle.std.proofs.lemmas.List.Elements.{Contains-append_left, Contains-push, Contains-push_cases}
 use Rattle.std.specs.List.{Contains}
 use Rattle.std.specs.List.Sorted.{IsStrictlySortedBy}
@@ -18,12 +17,13 @@ use Rattle.mp_replica.specs.PatchLog.{AreUnclashed, ClashesWithNone, DoClash, Ha
 use Rattle.mp_replica.specs.Private.LawsBelow.{MergeLaws}
 use Rattle.mp_replica.specs.Private.Pairs.{AreOrdered, HasBoth, Includes, KeptPairs, KnowsPairs, Notes}
 use Rattle.mp_replica.specs.Private.Steps.{HeldJoin, JoinsStay, SameJoins}
-use Rattle.mp_replica.specs.Private.StoredPatches.{AreConflictingWith, AreOthers, Conflicts, FitsAll, IsJoined, JoinsOthers, KnowsConflicts}
+use Rattle.mp_replica.specs.Private.StoredPatches.{AreConflictingWith, AreOthers, Conflicts, FitsAll, IsJoined, JoinsOthers, KnowsConflicts, join_in}
+use Rattle.mp_replica.specs.declared.stored_join.StoredJoin.{StoredJoin}
 use Rattle.mp_replica.specs.declared.message.Identity.{Identity}
+use Rattle.mp_replica.proofs.Gathered.{AreGathered, none_gathered, none_more_gathered, one_gathered}
 use Rattle.mp_replica.proofs.Growing.{documents, fits_each, itself, join_of, joined_none, joined_on, joined_still, symmetric}
 use Rattle.mp_replica.proofs.Identities.{decide_identity, entry_stored, stored_entry}
-use Rattle.mp_replica.proofs.PairsFound.{no_identity, same_less}
-use Rattle.mp_replica.proofs.Slices.{passed_on}
+use Rattle.mp_replica.proofs.PairsFound.{same_less}
 
 none_ascending : IsStrictlySortedBy identity_cmp []
 unfolding IsStrictlySortedBy
@@ -42,26 +42,6 @@ one_arrived stored chosen i some have j at = elim (Contains-push_cases chosen i 
   | inl before ↦ have j before
   | inr same ↦ λ none. some (ap stored same ∙ none)
 ]
-
--- one more identity, under which a patch is stored that is compatible, or none
-pub one_fits : (stored : Stored) (ids : List Identity) (i : Identity) (p : Document) → ((q : Document) → stored i ≡ Some q → Compatible p q) → FitsAll stored ids p → FitsAll stored (ids ++ i ∷ []) p
-one_fits stored ids i p agree each j q at here = elim (Contains-push_cases ids i j at) [
-  | inl before ↦ each j q before here
-  | inr same ↦ agree q (ap stored same ∙ here)
-]
-
--- the same of the identities that a loop has passed
-module _ (stored : Stored) (ids : List Identity) (k : ℕ) (p : Document) where
-  pub fits_on : (was now : Bool) → now ≡ was → k < length ids → ((q : Document) → stored (get_or ids k no_identity) ≡ Some q → Compatible p q) → (was ≡ true) ↔ FitsAll stored (take k ids) p
-      → (now ≡ true) ↔ FitsAll stored (take (k + 1) ids) p
-  fits_on was now same below agree before = (
-    λ so. passed_on (λ l. FitsAll stored l p) ids k no_identity below (one_fits stored (take k ids) (get_or ids k no_identity) p agree (before.0 (sym same ∙ so))),
-    λ all. same ∙ before.1 (λ j q at. all j q (subst (λ l. Contains l j) (sym (take_more ids k no_identity below)) (Contains-append_left (take k ids) (get_or ids k no_identity ∷ []) j at))),
-  )
-
-  pub never_fits_on : (q : Document) → k < length ids → stored (get_or ids k no_identity) ≡ Some q → ¬ Compatible p q → ¬ FitsAll stored (take (k + 1) ids) p
-  never_fits_on q below at differ all =
-      differ (all (get_or ids k no_identity) q (subst (λ l. Contains l (get_or ids k no_identity)) (sym (take_more ids k no_identity below)) (Contains-push (take k ids) (get_or ids k no_identity))) at)
 
 -- ---- one more patch p under i
 
@@ -203,7 +183,7 @@ in_or_out (i ∷ ids) j = elim (in_or_out ids j) [
 -- what is compatible with each patch is so with their join
 fits_join : (laws : MergeLaws) (ds : List Document) (m : Option Document) (p : Document) → IsJoinOf ds m → ((q : Document) → Contains ds q → Compatible p q) → IfSome m (Compatible p)
 fits_join laws ds None p is each = tt
-fits_join laws ds (Some k) p is each = λ w clash. let one = (laws.clash_with_a_join ds k p w is).0 clash in each one.0 one.1 w one.2
+fits_join laws ds (Some k) p is each = λ w clash. let one = (laws.conflict_with_a_join ds k p w is).0 clash in each one.0 one.1 w one.2
 
 module _ (laws : MergeLaws) (stored : Stored) (known : List Identity) (others : List Document) (m : Option Document) (p : Document)
     (good : IfSome m IsDocument) (knows : (j : Identity) → Contains known j ↔ Conflicts stored j) (are : AreUnclashed stored others) (joined : HasJoined m None others) where
@@ -293,7 +273,11 @@ knows_noted kept ordered knows = record {
   joined = knows.joined;
 }
 
-joined_now : {es : List (Identity × Doc)} {known : List Identity} {pairs : KeptPairs} {before : HeldJoin} → (knows : KnowsConflicts es known pairs before) → before.pending ≡ None → HasJoined (option_map document before.joined) None knows.others
+-- what is joined whole is so whatever else is stored
+pub settled_in : (es fs : List (Identity × Doc)) (join : StoredJoin) → join.unjoined ≡ None → join_in es join ≡ join_in fs join
+settled_in es fs join none = rw none refl
+
+pub joined_now : {es : List (Identity × Doc)} {known : List Identity} {pairs : KeptPairs} {before : HeldJoin} → (knows : KnowsConflicts es known pairs before) → before.pending ≡ None → HasJoined (option_map document before.joined) None knows.others
 joined_now {before = before} knows settled = subst (λ o. HasJoined (option_map document before.joined) (option_map document o) knows.others) settled knows.joined
 
 -- what is known of a patch d before it is stored
@@ -417,153 +401,74 @@ still_unclashed laws {es} fs i d {known} knows absent more settled fits some pat
 
 -- ---- walks over the entries
 
--- of the entries so far those that conflict with p, or were known to conflict
-pub record IsFoundIn (passed : List (Identity × Doc)) (p : Document) (known : List Identity) (i : Identity) : Type 0 where
-  pub entry : Doc
-  pub at : Contains passed (i, entry)
-  pub why : Contains known i ⊎ (¬ Compatible p (document entry))
-
-abbrev pub AreFoundIn : List (Identity × Doc) → Document → List Identity → List Identity → Type 0
-AreFoundIn passed p known found = (i : Identity) → Contains found i ↔ IsFoundIn passed p known i
-
-pub none_found : (p : Document) (known : List Identity) → AreFoundIn [] p known []
-none_found p known i = (λ at. absurd (Contains-nil i at), λ is. absurd (Contains-nil (i, is.entry) is.at))
-
-found_on : (passed : List (Identity × Doc)) (e : Identity × Doc) (p : Document) (known : List Identity) (i : Identity) → IsFoundIn passed p known i → IsFoundIn (passed ++ e ∷ []) p known i
-found_on passed e p known i is = record { entry = is.entry; at = Contains-append_left passed (e ∷ []) (i, is.entry) is.at; why = is.why }
-
-pub one_found : (passed : List (Identity × Doc)) (p : Document) (known found : List Identity) (i : Identity) (d : Doc) → Contains known i ⊎ (¬ Compatible p (document d)) → AreFoundIn passed p known found
-    → AreFoundIn (passed ++ (i, d) ∷ []) p known (found ++ i ∷ [])
-one_found passed p known found i d why are j = (
-  λ at. elim (Contains-push_cases found i j at) [
-    | inl before ↦ found_on passed (i, d) p known j ((are j).0 before)
-    | inr same ↦ subst (IsFoundIn (passed ++ (i, d) ∷ []) p known) same (record { entry = d; at = Contains-push passed (i, d); why = why })
-  ],
-  λ is. elim (Contains-push_cases passed (i, d) (j, is.entry) is.at) [
-    | inl before ↦ Contains-append_left found (i ∷ []) j ((are j).1 (record { entry = is.entry; at = before; why = is.why }))
-    | inr same ↦ subst (Contains (found ++ i ∷ [])) (ap (λ e. e.0) same) (Contains-push found i)
-  ],
-)
-
-pub none_more_found : (passed : List (Identity × Doc)) (p : Document) (known found : List Identity) (i : Identity) (d : Doc) → ¬ Contains known i → Compatible p (document d) → AreFoundIn passed p known found
-    → AreFoundIn (passed ++ (i, d) ∷ []) p known found
-none_more_found passed p known found i d out agree are j = (
-  λ at. found_on passed (i, d) p known j ((are j).0 at),
-  λ is. elim (Contains-push_cases passed (i, d) (j, is.entry) is.at) [
-    | inl before ↦ (are j).1 (record { entry = is.entry; at = before; why = is.why })
-    | inr same ↦ elim is.why [
-      | inl here ↦ absurd (out (subst (Contains known) (sym (ap (λ e. e.0) same)) here))
-      | inr clash ↦ absurd (clash (subst (λ e. Compatible p (document e)) (ap (λ e. e.1) same) agree))
-    ]
-  ],
-)
+-- the identity of an entry that conflicts with p, or was known to conflict
+abbrev pub Conflicted : Document → List Identity → Identity × Doc → Identity → Type 0
+Conflicted p known e i = (e.0 ≡ i) × (Contains known e.0 ⊎ (¬ Compatible p (document e.1)))
 
 -- all entries are passed, and the new identity is added
-pub all_found : (es : List (Identity × Doc)) (p : Document) (known found : List Identity) (i : Identity) → IsStrictlySortedBy identity_cmp (keys_of es) → AreFoundIn es p known found
+pub all_found : (es : List (Identity × Doc)) (p : Document) (known found : List Identity) (i : Identity) → IsStrictlySortedBy identity_cmp (keys_of es) → AreGathered (Conflicted p known) es found
     → AreConflictingWith (stored_in es) i p known (found ++ i ∷ [])
 all_found es p known found i ascending are j = (
   λ at. elim (Contains-push_cases found i j at) [
     | inl before ↦
         let is = (are j).0 before in
-        inl (record { other = document is.entry; at = stored_entry es j is.entry ascending is.at; why = is.why })
+        inl (record { other = document is.0.1; at = ap (stored_in es) (sym is.2.0) ∙ stored_entry es is.0.0 is.0.1 ascending is.1; why = subst (λ k. Contains known k ⊎ (¬ Compatible p (document is.0.1))) is.2.0 is.2.1 })
     | inr same ↦ inr (sym same)
   ],
   λ is. elim is [
     | inl was ↦
         let entry = entry_stored es j was.other was.at in
-        Contains-append_left found (i ∷ []) j ((are j).1 (record {
-          entry = entry.0;
-          at = entry.1;
-          why = subst (λ q. Contains known j ⊎ (¬ Compatible p q)) (sym entry.2) was.why;
-        }))
+        Contains-append_left found (i ∷ []) j ((are j).1 ((j, entry.0), entry.1, (refl, subst (λ q. Contains known j ⊎ (¬ Compatible p q)) (sym entry.2) was.why)))
     | inr same ↦ subst (Contains (found ++ i ∷ [])) (sym same) (Contains-push found i)
   ],
 )
 
--- a patch of the entries so far that is not among those that conflict
-pub record IsOther (passed : List (Identity × Doc)) (conflicting : List Identity) (p : Document) : Type 0 where
-  pub identity : Identity
-  pub entry : Doc
-  pub at : Contains passed (identity, entry)
-  pub is : document entry ≡ p
-  pub out : ¬ Contains conflicting identity
+-- the patch of an entry that is not among those that conflict
+abbrev pub Other : List Identity → Identity × Doc → Document → Type 0
+Other conflicting e p = (document e.1 ≡ p) × (¬ Contains conflicting e.0)
 
--- the join of those
+-- the join of those of the entries so far
 pub record JoinsThose (passed : List (Identity × Doc)) (conflicting : List Identity) (join : HeldJoin) : Type 0 where
   pub patches : List Document
-  pub are : (p : Document) → Contains patches p ↔ IsOther passed conflicting p
+  pub are : AreGathered (Other conflicting) passed patches
   pub joined : IsJoined join patches
 
-pub none_of_those : (laws : MergeLaws) (conflicting : List Identity) (join : HeldJoin) → join.joined ≡ None → join.pending ≡ None → JoinsThose [] conflicting join
-none_of_those laws conflicting join no_join settled = record {
-  patches = [];
-  are = λ p. (λ at. absurd (Contains-nil p at), λ other. absurd (Contains-nil (other.identity, other.entry) other.at));
-  joined = rw (no_join, settled) (joined_none laws);
-}
-
-other_on : (passed : List (Identity × Doc)) (e : Identity × Doc) (conflicting : List Identity) (p : Document) → IsOther passed conflicting p → IsOther (passed ++ e ∷ []) conflicting p
-other_on passed e conflicting p other = record { identity = other.identity; entry = other.entry; at = Contains-append_left passed (e ∷ []) (other.identity, other.entry) other.at; is = other.is; out = other.out }
+pub none_of_those : (laws : MergeLaws) (conflicting : List Identity) → JoinsThose [] conflicting (record { joined = None; pending = None })
+none_of_those laws conflicting = record { patches = []; are = none_gathered (Other conflicting); joined = joined_none laws }
 
 -- one that conflicts is passed over
-pub one_over : (passed : List (Identity × Doc)) (i : Identity) (d : Doc) (conflicting : List Identity) (join : HeldJoin) → Contains conflicting i → JoinsThose passed conflicting join → JoinsThose (passed ++ (i, d) ∷ []) conflicting join
-one_over passed i d conflicting join here joins = record {
-  patches = joins.patches;
-  are = λ p. (
-    λ at. other_on passed (i, d) conflicting p ((joins.are p).0 at),
-    λ other. elim (Contains-push_cases passed (i, d) (other.identity, other.entry) other.at) [
-      | inl before ↦ (joins.are p).1 (record { identity = other.identity; entry = other.entry; at = before; is = other.is; out = other.out })
-      | inr same ↦ absurd (other.out (subst (Contains conflicting) (ap (λ e. e.0) same) here))
-    ],
-  );
-  joined = joins.joined;
-}
+pub one_over : (passed : List (Identity × Doc)) (e : Identity × Doc) (conflicting : List Identity) (join : HeldJoin) → Contains conflicting e.0 → JoinsThose passed conflicting join → JoinsThose (passed ++ e ∷ []) conflicting join
+one_over passed e conflicting join here joins = record { patches = joins.patches; are = none_more_gathered (Other conflicting) passed e joins.patches joins.are (λ p other. other.1 here); joined = joins.joined }
 
-module _ (laws : MergeLaws) (es passed : List (Identity × Doc)) (i : Identity) (d copy : Doc) (conflicting : List Identity) (join : HeldJoin) (ascending : IsStrictlySortedBy identity_cmp (keys_of es))
-    (within : (e : Identity × Doc) → Contains (passed ++ (i, d) ∷ []) e → Contains es e) (equal : document copy ≡ document d) (out : ¬ Contains conflicting i) (settled : join.pending ≡ None)
+module _ (laws : MergeLaws) (es passed : List (Identity × Doc)) (i : Identity) (d : Doc) (conflicting : List Identity) (before : Option Doc) (ascending : IsStrictlySortedBy identity_cmp (keys_of es))
+    (within : (e : Identity × Doc) → Contains (passed ++ (i, d) ∷ []) e → Contains es e) (out : ¬ Contains conflicting i)
     (apart : (j k : Identity) (p q : Document) → stored_in es j ≡ Some p → stored_in es k ≡ Some q → ¬ Contains conflicting j → ¬ Contains conflicting k → Compatible p q)
-    (joins : JoinsThose passed conflicting join) where
-  joined_here : HasJoined (option_map document join.joined) None joins.patches
-  joined_here = subst (λ o. HasJoined (option_map document join.joined) (option_map document o) joins.patches) settled joins.joined
-
-  agrees : (q : Document) → Contains joins.patches q → Compatible (document copy) q
+    (joins : JoinsThose passed conflicting (record { joined = before; pending = None })) where
+  agrees : (q : Document) → Contains joins.patches q → Compatible (document d) q
   agrees q at =
-      let other = (joins.are q).0 at in
+      let (e, at_e, other) = (joins.are q).0 at in
       let here = stored_entry es i d ascending (within (i, d) (Contains-push passed (i, d))) in
-      let there = stored_entry es other.identity other.entry ascending (within (other.identity, other.entry) (Contains-append_left passed ((i, d) ∷ []) (other.identity, other.entry) other.at)) in
-      subst (λ p. Compatible p q) (sym equal) (subst (Compatible (document d)) other.is (apart i other.identity (document d) (document other.entry) here there out other.out))
+      let there = stored_entry es e.0 e.1 ascending (within e (Contains-append_left passed ((i, d) ∷ []) e at_e)) in
+      subst (Compatible (document d)) other.0 (apart i e.0 (document d) (document e.1) here there out other.1)
 
-  -- one more fits
-  pub other_fits : IfSome (option_map document join.joined) (Compatible (document copy))
-  other_fits = fits_join laws joins.patches (option_map document join.joined) (document copy) (join_of laws joins.patches (option_map document join.joined) (documents join.joined) joined_here) agrees
-
-  -- and is joined
-  pub one_other : (now : HeldJoin) → SameJoins (option_map document join.joined) (Some (document copy)) (option_map document now.joined) (option_map document now.pending) → JoinsThose (passed ++ (i, d) ∷ []) conflicting now
-  one_other now stays = record {
-    patches = joins.patches ++ document copy ∷ [];
-    are = λ p. (
-      λ at. elim (Contains-push_cases joins.patches (document copy) p at) [
-        | inl before ↦ other_on passed (i, d) conflicting p ((joins.are p).0 before)
-        | inr same ↦ record { identity = i; entry = d; at = Contains-push passed (i, d); is = sym equal ∙ same; out = out }
-      ],
-      λ other. elim (Contains-push_cases passed (i, d) (other.identity, other.entry) other.at) [
-        | inl before ↦ Contains-append_left joins.patches (document copy ∷ []) p ((joins.are p).1 (record { identity = other.identity; entry = other.entry; at = before; is = other.is; out = other.out }))
-        | inr same ↦ subst (Contains (joins.patches ++ document copy ∷ [])) (equal ∙ ap (λ e. document e.1) same ∙ other.is) (Contains-push joins.patches (document copy))
-      ],
-    );
-    joined = joined_on laws joins.patches (option_map document join.joined) (document copy) (IsDocument-document copy) (documents join.joined) joined_here other_fits stays;
-  }
+  -- one more is joined
+  pub one_other : (now : Option Doc) → SameJoins (option_map document before) (Some (document d)) (option_map document now) None → JoinsThose (passed ++ (i, d) ∷ []) conflicting (record { joined = now; pending = None })
+  one_other now stays =
+      let held = option_map document before in
+      let p = document d in
+      record {
+        patches = joins.patches ++ p ∷ [];
+        are = one_gathered (Other conflicting) passed (i, d) joins.patches joins.are p (refl, out) (λ q other. other.0);
+        joined = joined_on laws joins.patches held p (IsDocument-document d) (documents before) joins.joined (fits_join laws joins.patches held p (join_of laws joins.patches held (documents before) joins.joined) agrees) stays;
+      }
 
 -- all entries are passed
 pub joins_others : (es : List (Identity × Doc)) (conflicting : List Identity) (join : HeldJoin) → IsStrictlySortedBy identity_cmp (keys_of es) → JoinsThose es conflicting join → JoinsOthers (stored_in es) conflicting join
 joins_others es conflicting join ascending joins = (
   joins.patches,
   λ p. (
-    λ at.
-        let other = (joins.are p).0 at in
-        (other.identity, stored_entry es other.identity other.entry ascending other.at ∙ ap Some other.is, other.out),
-    λ has.
-        let entry = entry_stored es has.0 p has.1 in
-        (joins.are p).1 (record { identity = has.0; entry = entry.0; at = entry.1; is = entry.2; out = has.2 }),
+    λ at. let (e, at_e, other) = (joins.are p).0 at in (e.0, stored_entry es e.0 e.1 ascending at_e ∙ ap Some other.0, other.1),
+    λ has. let entry = entry_stored es has.0 p has.1 in (joins.are p).1 ((has.0, entry.0), entry.1, (entry.2, has.2)),
   ),
   joins.joined,
 )

@@ -10,21 +10,16 @@ use Rattle.mp_tree.specs.declared.doc.Doc.{Doc}
 use Rattle.mp_tree.proofs.Facts.{IsDocument-document}
 use Rattle.mp_merge.specs.Application.{merge_patch}
 use Rattle.mp_merge.specs.Clash.{Compatible}
-use Rattle.mp_merge.specs.Lists.{HaveSameMembers}
 use Rattle.mp_merge.specs.Outcome.{IsOutcome}
 use Rattle.mp_merge.specs.Resumption.{Resumes}
 use Rattle.mp_replica.specs.Following.{ClashesWithOne, Follows, settled}
-use Rattle.mp_replica.specs.Held.{AreClashesWith, AreFirstClashesWith, HasJoined, HeldReplica, IsJoinOf}
+use Rattle.mp_replica.specs.Held.{AreFirstClashesWith, HasJoined, HeldReplica, IsJoinOf}
 use Rattle.mp_replica.specs.Laws.{FollowersAgree, FollowsSame, ShowsOutcome, ShowsReadable}
 use Rattle.mp_replica.specs.Private.LawsBelow.{MergeLaws, TextLaws}
-use Rattle.mp_replica.specs.Private.Steps.{ClashesWithJoin, FirstClashesWithJoin, SameJoins}
-use Rattle.mp_replica.proofs.Growing.{first_clashes_found, clashes_found, clashes_of_compatible, clashes_with_one, documents, join_of, joined_none, joined_on, joined_same, joined_still, one_join_of}
+use Rattle.mp_replica.specs.Private.Steps.{FirstClashesWithJoin, SameJoins}
+use Rattle.mp_replica.proofs.Growing.{first_clashes_found, clashes_with_one, documents, join_of, joined_none, joined_on, joined_same, one_join_of, same_back}
 
 module _ (laws : MergeLaws) where
-  pub settled_is_document : (d : Doc) (o : Option Doc) → IsDocument (settled (document d) (option_map document o))
-  settled_is_document d None = IsDocument-document d
-  settled_is_document d (Some p) = laws.merged_is_document (document d) (document p) (IsDocument-document d) (IsDocument-document p)
-
   pub follows_none : (start : Doc) (r : HeldReplica) → r.shown ≡ start → r.joined ≡ None → r.pending ≡ None → Follows (document start) [] r
   follows_none start r shown no_join none = record {
     start_is_document = IsDocument-document start;
@@ -36,15 +31,6 @@ module _ (laws : MergeLaws) where
   pub merged_again : {E : Type 0} (r : Result Unit E) (p d e : Document) → IsDocument d → IsDocument p → OnOk r (e ≡ merge_patch (Some d) p) → OnErr r (Resumes p d e) → merge_patch (Some e) p ≡ merge_patch (Some d) p
   merged_again (Ok x) p d e good patch merged resumes = ap (λ t. merge_patch (Some t) p) merged ∙ laws.applied_once d p good patch
   merged_again (Err x) p d e good patch merged resumes = resumes
-
-  -- what is shown in the end, and the joins, stay
-  pub follows_still : (start : Document) (received : List Document) (r s : HeldReplica) → settled (document s.shown) (option_map document s.pending) ≡ settled (document r.shown) (option_map document r.pending)
-      → SameJoins (option_map document r.joined) (option_map document r.pending) (option_map document s.joined) (option_map document s.pending) → Follows start received r → Follows start received s
-  follows_still start received r s shown joins follows = record {
-    start_is_document = follows.start_is_document;
-    joined = joined_still received follows.joined joins;
-    outcome = subst (IsOutcome start received) (sym shown) follows.outcome;
-  }
 
   -- ---- once nothing is pending
 
@@ -63,10 +49,9 @@ module _ (laws : MergeLaws) where
   -- ---- one more patch
 
   pub follows_on : (start : Document) (received : List Document) (r s : HeldReplica) (p : Doc) → r.pending ≡ None → IfSome (option_map document r.joined) (Compatible (document p)) → s.shown ≡ r.shown
-      → s.joined ≡ r.joined → s.pending ≡ Some p → Follows start received r → Follows start (received ++ document p ∷ []) s
-  follows_on start received r s p none fits shown same pending follows =
+      → SameJoins (option_map document r.joined) (Some (document p)) (option_map document s.joined) (option_map document s.pending) → s.pending ≡ Some p → Follows start received r → Follows start (received ++ document p ∷ []) s
+  follows_on start received r s p none fits shown stays pending follows =
       let good = IsDocument-document p in
-      let stays : SameJoins (option_map document r.joined) (Some (document p)) (option_map document s.joined) (option_map document s.pending) = λ j is. rw (same, pending) (λ at. at, λ at. at) in
       let joined : HasJoined (option_map document s.joined) (option_map document s.pending) (received ++ document p ∷ []) =
       joined_on laws received (option_map document r.joined) (document p) good (documents r.joined) (settled_joined start received r follows none) fits stays in
       let before : IsOutcome start received (document r.shown) = subst (λ o. IsOutcome start received (settled (document r.shown) (option_map document o))) none follows.outcome in
@@ -83,17 +68,9 @@ module _ (laws : MergeLaws) where
       → ClashesWithOne received (document p)
   clashes_if_unfit start received r p none clash follows = clashes_with_one laws received (option_map document r.joined) (document p) (IsDocument-document p) (joins_received start received r follows none) clash
 
-  pub conflicts_found : (start : Document) (received : List Document) (r : HeldReplica) (p : Document) (places : List Path) → r.pending ≡ None → ClashesWithJoin (option_map document r.joined) p places → Follows start received r
-      → AreClashesWith received p places
-  conflicts_found start received r p places none clash follows = clashes_found laws received (option_map document r.joined) p places (joins_received start received r follows none) clash
-
   pub first_conflicts_found : (limit : ℕ) (start : Document) (received : List Document) (r : HeldReplica) (p : Document) (places : List Path) (total : ℕ) → r.pending ≡ None
       → FirstClashesWithJoin limit (option_map document r.joined) p places total → Follows start received r → AreFirstClashesWith limit received p places total
   first_conflicts_found limit start received r p places total none found follows = first_clashes_found laws limit received (option_map document r.joined) p places total (joins_received start received r follows none) found
-
-  pub no_conflicts : (start : Document) (received : List Document) (r : HeldReplica) (p : Document) (places : List Path) → r.pending ≡ None → IfSome (option_map document r.joined) (Compatible p) → places ≡ [] → Follows start received r
-      → AreClashesWith received p places
-  no_conflicts start received r p places none fits empty follows = subst (AreClashesWith received p) (sym empty) (clashes_of_compatible laws received (option_map document r.joined) p (joins_received start received r follows none) fits)
 
   -- ---- laws
 
@@ -103,9 +80,6 @@ module _ (laws : MergeLaws) where
     joined = joined_same laws received others same follows.joined;
     outcome = laws.outcome_of_same start received others (settled (document r.shown) (option_map document r.pending)) same follows.outcome;
   }
-
-  same_back : (received others : List Document) → HaveSameMembers received others → HaveSameMembers others received
-  same_back received others same p = ((same p).1, (same p).0)
 
   pub followers_agree : FollowersAgree
   followers_agree start received others r s same one two none also_none =

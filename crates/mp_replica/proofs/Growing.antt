@@ -1,21 +1,23 @@
 -- A join in memory that grows by a patch, and what it says of the patches that were received.
-use Rattle.std.proofs.Common.{◌≡◌, ◌≢◌, ◌↔◌, inl, inr, true, false, true≢false, ℕ, arith, List, [], ◌∷◌, ◌++◌, Option, None, Some, IfSome, MatchOption, option_map, refl, sym, ap, ◌∙◌, subst, rules}
+use Rattle.std.proofs.Common.{Bool, IsTrue, ◌≡◌, ◌≢◌, ◌↔◌, inl, inr, true, false, true≢false, ℕ, arith, List, [], ◌∷◌, ◌++◌, Option, None, Some, IfSome, MatchOption, option_map, refl, sym, ap, ◌∙◌, subst, rules}
 use Rattle.std.specs.List.{Contains}
 use Rattle.std.specs.List.Sorted.{IsStrictlySortedBy}
 use Rattle.std.specs.Option.{is_some}
-use Rattle.std.proofs.lemmas.List.Elements.{All-push, All-weaker, All-contains, All-contains_itself, Contains-push_cases}
+use Rattle.std.proofs.lemmas.List.{append-nil}
+use Rattle.std.proofs.lemmas.List.Elements.{All-push, All-weaker, All-contains, All-contains_itself, Contains-append_left, Contains-push_cases}
 use Rattle.mp_tree.specs.Document.{Document, IsDocument}
 use Rattle.mp_tree.specs.Look.{Path}
 use Rattle.mp_tree.specs.View.{document}
 use Rattle.mp_tree.specs.declared.doc.Doc.{Doc}
-use Rattle.mp_tree.proofs.Facts.{Contains-nil, Contains-head, IsDocument-document}
+use Rattle.mp_tree.proofs.Facts.{Contains-nil, Contains-head, Contains-one, Contains-tail, IsDocument-document}
+use Rattle.mp_patch.specs.Work.{no_limit}
 use Rattle.mp_merge.specs.Clash.{AreAllClashes, Clash, Compatible, path_cmp}
-use Rattle.mp_merge.specs.Join.{IsJoin}
+use Rattle.mp_merge.specs.Join.{IsJoin, JoinResumes}
 use Rattle.mp_merge.specs.Lists.{HaveSameMembers, PairwiseCompatible}
 use Rattle.mp_replica.specs.Following.{ClashesWithOne}
 use Rattle.mp_replica.specs.Held.{AreClashesWith, AreFirstClashesWith, HasJoined, IsJoinOf, Joins}
 use Rattle.mp_replica.specs.Private.LawsBelow.{MergeLaws}
-use Rattle.mp_replica.specs.Private.Steps.{ClashesWithJoin, FirstClashesWithJoin, GrewTo, Regrows, SameJoins}
+use Rattle.mp_replica.specs.Private.Steps.{FirstClashesWithJoin, GrewTo, Regrows, SameJoins}
 
 pub documents : (o : Option Doc) → IfSome (option_map document o) IsDocument
 documents None = tt
@@ -69,12 +71,27 @@ pairwise_push ds p free fits x y one two = elim (Contains-push_cases ds p x one)
   ]
 ]
 
+-- what has a join is compatible
+pub compatible_if_joined : (ds : List Document) (j : Document) → IsJoin ds j → PairwiseCompatible ds
+compatible_if_joined ds j joined x y one two w clash = clash.differ (sym (joined.said x one w clash.first) ∙ joined.said y two w clash.second)
+
 pub joined_still : {joined pending joined' pending' : Option Document} (ds : List Document) → HasJoined joined pending ds → SameJoins joined pending joined' pending' → HasJoined joined' pending' ds
 joined_still ds has stays = record {
   are_documents = has.are_documents;
   compatible = has.compatible;
   joins = λ j is. (λ here. (has.joins j is).0 ((stays j is).0 here), λ there. (stays j is).1 ((has.joins j is).1 there));
 }
+
+-- a patch that fits what is joined before fits what is joined now, and the join of both stays; if it is joined, that is what
+-- is joined now
+pub record IsTaken (before : Option Document) (p : Document) (now : Option Document) (is_joined : Bool) : Type 0 where
+  pub fits : IfSome before (Compatible p)
+  pub still : IfSome now (Compatible p)
+  pub joins : SameJoins before (Some p) now (Some p)
+  pub alone : IsTrue is_joined → SameJoins now (Some p) now None
+
+pub taken_first : (p : Document) → IsTaken None p None false
+taken_first p = record { fits = tt; still = tt; joins = λ j is. (λ at. at, λ at. at); alone = λ never. absurd (true≢false (sym never)) }
 
 module _ (laws : MergeLaws) where
   one_join : (ds : List Document) (i j : Document) → IsDocument i → IsDocument j → IsJoin ds i → IsJoin ds j → i ≡ j
@@ -120,7 +137,7 @@ module _ (laws : MergeLaws) where
 
   -- what is compatible with the join is so with each patch
   pub fits_each : (ds : List Document) (m : Option Document) (p : Document) → IsJoinOf ds m → IfSome m (Compatible p) → (q : Document) → Contains ds q → Compatible p q
-  fits_each ds (Some k) p joined fits q at = λ w clash. fits w ((laws.clash_with_a_join ds k p w joined).1 (q, at, clash))
+  fits_each ds (Some k) p joined fits q at = λ w clash. fits w ((laws.conflict_with_a_join ds k p w joined).1 (q, at, clash))
   fits_each ds None p none fits q at = absurd (Contains-nil q (subst (λ (l : List Document). Contains l q) none at))
 
   more_joins : (ds : List Document) (m : Option Document) (p j : Document) → IsJoinOf ds m → Joins m (Some p) j ↔ IsJoin (ds ++ p ∷ []) j
@@ -161,6 +178,50 @@ module _ (laws : MergeLaws) where
   one_join_of ds None (Some k) one two first second = absurd (laws.none_has_no_join k (subst (λ (l : List Document). IsJoin l k) first second))
   one_join_of ds (Some j) None one two first second = absurd (laws.none_has_no_join j (subst (λ (l : List Document). IsJoin l j) second first))
 
+  -- ---- a patch that is offered
+
+  -- two that are compatible have a join
+  joined_if_fits : (n p : Document) → IsDocument n → IsDocument p → Compatible p n → (j : Document) × IsDocument j × IsJoin (n ∷ p ∷ []) j
+  joined_if_fits n p good other fits =
+      let alone : PairwiseCompatible (n ∷ []) = λ x y one two. subst (λ d. Compatible d y) (Contains-one n x one) (subst (Compatible n) (Contains-one n y two) (itself n)) in
+      let free = pairwise_push (n ∷ []) p alone (λ q at. subst (Compatible p) (Contains-one n q at) fits) in
+      (laws.join_exists (n ∷ p ∷ []) (λ none. let differ = none in cc) (All-push IsDocument (n ∷ []) p (All-push IsDocument [] n (search rules) good) other)).1 free
+
+  -- a join that ran out of memory is of two that are compatible
+  fits_if_resumed : (b p n : Document) → IsDocument p → IsDocument n → JoinResumes b p n → Compatible p b
+  fits_if_resumed b p n other is left =
+      let found = joined_if_fits n p is other left.compatible in
+      compatible_if_joined (b ∷ p ∷ []) found.0 ((left.joins found.0 found.1).0 found.2) p b (Contains-tail b p (p ∷ []) (Contains-head p [])) (Contains-head b (p ∷ []))
+
+  -- the join of a patch that is joined already is what is joined
+  with_itself : (b p : Document) → HaveSameMembers (b ∷ p ∷ p ∷ []) (b ∷ p ∷ [])
+  with_itself b p q = (
+    λ at. elim (Contains-push_cases (b ∷ p ∷ []) p q at) [
+      | inl early ↦ early
+      | inr last ↦ subst (Contains (b ∷ p ∷ [])) last (Contains-tail b p (p ∷ []) (Contains-head p []))
+    ],
+    λ at. Contains-append_left (b ∷ p ∷ []) (p ∷ []) q at,
+  )
+
+  pub taken_in_part : (b p n : Document) → IsDocument p → IsDocument n → JoinResumes b p n → IsTaken (Some b) p (Some n) false
+  taken_in_part b p n other is left = record { fits = fits_if_resumed b p n other is left; still = left.compatible; joins = left.joins; alone = λ never. absurd (true≢false (sym never)) }
+
+  pub taken_whole : (b p n : Document) → IsDocument p → IsDocument n → IsJoin (b ∷ p ∷ []) n → IsTaken (Some b) p (Some n) true
+  taken_whole b p n other is joined =
+      let free = compatible_if_joined (b ∷ p ∷ []) n joined in
+      let last = Contains-tail b p (p ∷ []) (Contains-head p []) in
+      let again : (j : Document) → IsJoin (n ∷ p ∷ []) j ↔ IsJoin (b ∷ p ∷ []) j = λ j. (
+        λ here. laws.join_of_same (b ∷ p ∷ p ∷ []) (b ∷ p ∷ []) j (with_itself b p) ((more_joins (b ∷ p ∷ []) (Some n) p j joined).0 here),
+        λ there. (more_joins (b ∷ p ∷ []) (Some n) p j joined).1 (laws.join_of_same (b ∷ p ∷ []) (b ∷ p ∷ p ∷ []) j (same_back (b ∷ p ∷ p ∷ []) (b ∷ p ∷ []) (with_itself b p)) there),
+      ) in
+      let grown = grew_joins (Some b) (Some n) p other is (n, refl, joined) in
+      record {
+        fits = free p b last (Contains-head b (p ∷ []));
+        still = λ w clash. let found = (laws.conflict_with_a_join (b ∷ p ∷ []) n p w joined).0 clash in free p found.0 last found.1 w found.2;
+        joins = λ j good_j. again j;
+        alone = λ whole j good_j. (λ shown. (again j).1 ((grown j good_j).0 shown), λ both. (grown j good_j).1 ((again j).0 both));
+      }
+
   -- ---- conflicts
 
   some_clash : (p k : Document) → IsDocument p → ¬ Compatible p k → (w : Path) × Clash p k w
@@ -175,12 +236,12 @@ module _ (laws : MergeLaws) where
   -- a patch that clashes with the join clashes with one of the patches
   pub clashes_with_one : (ds : List Document) (m : Option Document) (p : Document) → IsDocument p → IsJoinOf ds m → ¬ IfSome m (Compatible p) → ClashesWithOne ds p
   clashes_with_one ds None p good joined clash = absurd (clash tt)
-  clashes_with_one ds (Some k) p good joined clash = let at = some_clash p k good clash in (at.0, (laws.clash_with_a_join ds k p at.0 joined).0 at.1)
+  clashes_with_one ds (Some k) p good joined clash = let at = some_clash p k good clash in (at.0, (laws.conflict_with_a_join ds k p at.0 joined).0 at.1)
 
   pub clashes_of_join : (ds : List Document) (k p : Document) (places : List Path) → IsJoin ds k → AreAllClashes p k places → AreClashesWith ds p places
   clashes_of_join ds k p places joined all = record {
     rising = all.rising;
-    all = λ w. (λ at. (laws.clash_with_a_join ds k p w joined).0 ((all.all w).0 at), λ clash. (all.all w).1 ((laws.clash_with_a_join ds k p w joined).1 clash));
+    all = λ w. (λ at. (laws.conflict_with_a_join ds k p w joined).0 ((all.all w).0 at), λ clash. (all.all w).1 ((laws.conflict_with_a_join ds k p w joined).1 clash));
   }
 
   pub clashes_of_none : (ds : List Document) (p : Document) → ds ≡ [] → AreClashesWith ds p []
@@ -189,19 +250,15 @@ module _ (laws : MergeLaws) where
     all = λ w. (λ at. absurd (Contains-nil w at), λ clash. absurd (Contains-nil clash.0 (subst (λ (l : List Document). Contains l clash.0) none clash.1)));
   }
 
-  pub clashes_of_compatible : (ds : List Document) (m : Option Document) (p : Document) → IsJoinOf ds m → IfSome m (Compatible p) → AreClashesWith ds p []
-  clashes_of_compatible ds None p none fits = clashes_of_none ds p none
-  clashes_of_compatible ds (Some k) p joined fits = clashes_of_join ds k p [] joined (record { rising = none_sorted; all = λ w. (λ at. absurd (Contains-nil w at), λ clash. absurd (fits w clash)) })
-
-  pub clashes_found : (ds : List Document) (m : Option Document) (p : Document) (places : List Path) → IsJoinOf ds m → ClashesWithJoin m p places → AreClashesWith ds p places
-  clashes_found ds None p places joined clash = absurd clash
-  clashes_found ds (Some k) p places joined clash = clashes_of_join ds k p places joined clash.1
-
   -- the first clashes with the join of some patches are the first with these
   pub first_clashes_found : (limit : ℕ) (ds : List Document) (m : Option Document) (p : Document) (places : List Path) (total : ℕ) → IsJoinOf ds m → FirstClashesWithJoin limit m p places total → AreFirstClashesWith limit ds p places total
   first_clashes_found limit ds None p places total none found = record {
     all = [];
     clashes = clashes_of_none ds p none;
-    first = rw (found.0, found.1) (record { rest = []; whole = refl; within = omega arith; longest = λ w more is. let differ = is in absurd (cc); counted = refl });
+    first = rw (found.0, found.1) (record { rest = []; whole = refl; unlimited = λ without. refl; within = λ limited. omega arith; longest = λ w more is. let differ = is in absurd (cc); counted = refl });
   }
   first_clashes_found limit ds (Some k) p places total joined found = record { all = found.all; clashes = clashes_of_join ds k p found.all joined found.clashes; first = found.first }
+
+-- without a limit the first are all
+pub all_clashes_found : (ds : List Document) (p : Document) (places : List Path) (total : ℕ) → AreFirstClashesWith no_limit ds p places total → AreClashesWith ds p places
+all_clashes_found ds p places total found = subst (AreClashesWith ds p) (found.first.whole ∙ ap (λ rest. places ++ rest) (found.first.unlimited refl) ∙ append-nil places) found.clashes

@@ -13,7 +13,7 @@ use Rattle.std.proofs.lemmas.Cmp.{eq_by_cmp_equiv, nat_cmp_total, on_total, then
 use Rattle.std.proofs.lemmas.List.Elements.{Contains-append_left, Contains-push, Contains-push_cases}
 use Rattle.std.proofs.lemmas.Map.Keys.{IsDistinct-from_sorted}
 use Rattle.std.proofs.lemmas.Map.Lookups.{CmpEqualImpliesEq, exact_pairs, exact_unsigned}
-use Rattle.std.proofs.lemmas.Map.Views.{Contains-from_lookup, Contains-keys_from_lookup, IsSome-lookup_from_Contains, lookup-from_Contains, tells_apart}
+use Rattle.std.proofs.lemmas.Map.Views.{Contains-from_lookup, lookup-from_Contains, tells_apart}
 use Rattle.std.specs.Option.{is_some}
 use Rattle.mp_tree.specs.Document.{Document, IsDocument}
 use Rattle.mp_tree.specs.View.{document}
@@ -89,13 +89,6 @@ pub tells_stored : (es : List (Identity × Doc)) (i : Identity) (answer : Bool) 
 tells_stored es i answer is = (
   λ yes. some_then (lookup (is_at (identity_cmp i)) es) (sym yes ∙ is),
   λ some. is ∙ sym (some_if (lookup (is_at (identity_cmp i)) es) some),
-)
-
--- the keys are the identities under which something is stored
-pub key_stored : (es : List (Identity × Doc)) (i : Identity) → Contains (keys_of es) i ↔ (stored_in es i ≢ None)
-key_stored es i = (
-  λ at. some_then (lookup (is_at (identity_cmp i)) es) (sym (IsSome-lookup_from_Contains (eq_by_cmp_equiv identities_total) i es at)),
-  λ some. Contains-keys_from_lookup (tells_apart exact_identities) i es (sym (some_if (lookup (is_at (identity_cmp i)) es) some)),
 )
 
 -- ---- a set of identities

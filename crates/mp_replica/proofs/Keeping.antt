@@ -15,7 +15,7 @@ use Rattle.mp_pointer.specs.Spelling.{spell}
 use Rattle.mp_texts.specs.Answers.{IsTextOf, place_of, places_list}
 use Rattle.mp_replica.specs.Held.{AreFirstPlaces, HasJoined, HeldPatches, HeldPlaces}
 use Rattle.mp_replica.specs.Kept.{AreKeptPlaces, IsHeldBy, IsKept, IsNoKept, KeepsPlaces, ReadsPlaces, mark, marks, more_mark}
-use Rattle.mp_replica.specs.Private.Places.{AreMarkedRead, AreMarkedUnread, AreNotPlaces, AreUnread, IsNoPlace, second_mark}
+use Rattle.mp_replica.specs.Private.Places.{AreMarkedRead, AreMarkedUnread, AreUnread, second_mark}
 use Rattle.mp_replica.specs.Taking.{HasTaken}
 use Rattle.mp_replica.specs.declared.fault.LiveFault.{LiveFault}
 use Rattle.mp_replica.specs.declared.fault.LiveFault.TheVariants as live
@@ -89,34 +89,15 @@ paths_same one (w ∷ ws) (u ∷ us) same =
     ap (λ x. x ∷ ws) (one w u spelled) ∙ ap (λ xs. u ∷ xs) (paths_same one ws us rest)
 
 -- a document that is no place stands in no list of places
-no_place_there : (ds : List Doc) (k : ℕ) (d : Doc) → k < length ds → ((w : Path) → document (slice_index_or ds k d) ≢ place_of w) → (ws : List Path) → map document ds ≢ map place_of ws
+pub no_place_there : (ds : List Doc) (k : ℕ) (d : Doc) → k < length ds → ((w : Path) → document (slice_index_or ds k d) ≢ place_of w) → (ws : List Path) → map document ds ≢ map place_of ws
 no_place_there [] k d below none ws same = omega arith
 no_place_there (x ∷ ds) k d below none [] same = cc
 no_place_there (x ∷ ds) zero d below none (w ∷ ws) same = none w (cc)
 no_place_there (x ∷ ds) (suc k) d below none (w ∷ ws) same = no_place_there ds k d (omega arith) none ws (cc)
 
-pub not_places : (fault : LiveFault) (ds : List Doc) (k : ℕ) (d : Doc) → k < length ds → IsNoPlace fault (document (slice_index_or ds k d)) → AreNotPlaces fault (map document ds)
-not_places live.NotKept ds k d below none = no_place_there ds k d below none
-not_places live.OutOfMemory ds k d below none = tt
-not_places (live.Document f) ds k d below none = absurd none
-not_places (live.Pointer f) ds k d below none = absurd none
-not_places live.Missing ds k d below none = absurd none
-not_places live.NoPatches ds k d below none = absurd none
-not_places live.Conflict ds k d below none = absurd none
-not_places live.Pending ds k d below none = absurd none
-not_places live.TooLarge ds k d below none = absurd none
-
 -- so what is read as an array of these is read as no places
-pub unread_places : (fault : LiveFault) (more : Bool) (text : List ℕ) (ds : List Doc) → document_in text ≡ Ok (list (items_of (map document ds))) → AreNotPlaces fault (map document ds) → AreUnread fault more text
-unread_places live.NotKept more text ds read none = (list (items_of (map document ds)), read, λ places some same. none places (items_same (map document ds) (map place_of places) (let both = same in cc)))
-unread_places live.OutOfMemory more text ds read none = tt
-unread_places (live.Document f) more text ds read none = absurd none
-unread_places (live.Pointer f) more text ds read none = absurd none
-unread_places live.Missing more text ds read none = absurd none
-unread_places live.NoPatches more text ds read none = absurd none
-unread_places live.Conflict more text ds read none = absurd none
-unread_places live.Pending more text ds read none = absurd none
-unread_places live.TooLarge more text ds read none = absurd none
+pub unread_places : (more : Bool) (text : List ℕ) (ds : List Doc) → document_in text ≡ Ok (list (items_of (map document ds))) → ((places : List Path) → map document ds ≢ map place_of places) → AreUnread live.NotKept more text
+unread_places more text ds read none = (list (items_of (map document ds)), read, λ places some same. none places (items_same (map document ds) (map place_of places) (let both = same in cc)))
 
 -- nor is an array of places that no conflict has
 pub unread_unless_kept : HasOneSpelling → (more : Bool) (text : List ℕ) (ds : List Doc) (ws : List Path) → document_in text ≡ Ok (list (items_of (map document ds))) → map document ds ≡ map place_of ws
@@ -175,12 +156,8 @@ module _ (one : HasOneSpelling) (text : List ℕ) (before r : HeldPatches) (take
 pub held_nothing : (text : List ℕ) (r : HeldPatches) → text ≡ [] → r.joined ≡ None → r.pending ≡ None → r.places ≡ None → IsHeldBy text r
 held_nothing text r empty no_join settled free = rw (free, no_join) (settled, empty)
 
-pub held_conflict : (text tail : List ℕ) (r : HeldPatches) (held : HeldPlaces) → text ≡ mark ∷ tail → AreMarkedRead tail held → r.joined ≡ None → r.pending ≡ None → r.places ≡ Some held → IsHeldBy text r
-held_conflict text tail r held marked read no_join settled there =
-    rw there (settled, ((read.0, marked ∙ ap (λ t. mark ∷ t) read.1 ∙ sym (marks_of held.more read.0), read.2.0, read.2.1), no_join))
-
-pub held_join : (text : List ℕ) (r : HeldPatches) (j : Doc) → document_in text ≡ Ok (document j) → r.joined ≡ Some j → r.pending ≡ None → r.places ≡ None → IsHeldBy text r
-held_join text r j read some settled free = rw (free, some) (settled, read)
+pub held_conflict : (text tail : List ℕ) (held : HeldPlaces) → text ≡ mark ∷ tail → AreMarkedRead tail held → IsHeldBy text (record { joined = None; pending = None; places = Some held })
+held_conflict text tail held marked read = (refl, ((read.0, marked ∙ ap (λ t. mark ∷ t) read.1 ∙ sym (marks_of held.more read.0), read.2.0, read.2.1), refl))
 
 -- what is not read as places is not read as a kept form
 pub no_kept : (fault : LiveFault) (text tail : List ℕ) → text ≡ mark ∷ tail → AreMarkedUnread fault tail → IsNoKept fault text

@@ -222,22 +222,15 @@ none_kept [] more empty = (
 )
 none_kept (w ∷ places) more empty = absurd (let never = empty in cc)
 
-pub root_not_kept : (places : List Path) (more : Bool) (d : Path) → places ≢ [] → get_or places 0 d ≡ [] → IsTrue more → ¬ AreKeptPlaces (held_so places more)
-root_not_kept [] more d some first so kept = some refl
-root_not_kept (w ∷ places) more d some first so kept = kept.only (subst (Contains (w ∷ places)) first (Contains-head w places)) so
-
-pub some_kept : (places : List Path) (more : Bool) → places ≢ [] → (IsTrue more → (d : Path) × (get_or places 0 d ≢ [])) → (EachPrecedes places × (places_weight places ≤ places_bound)) ↔ AreKeptPlaces (held_so places more)
-some_kept [] more some first = absurd (some refl)
-some_kept (w ∷ places) more some first = (
-  λ are. record {
-    some = inr some;
-    rising = chain_rising (w ∷ places) are.0;
-    apart = chain_apart (w ∷ places) are.0;
-    within = are.1;
-    only = λ at so. (first so).1 (first_alone w places are.0 at);
-  },
-  λ kept. (rising_chain (w ∷ places) kept.rising kept.apart, kept.within),
-)
+pub some_kept : (places : List Path) (more : Bool) → places ≢ [] → (IsTrue more → (d : Path) × (get_or places 0 d ≢ [])) → EachPrecedes places → places_weight places ≤ places_bound → AreKeptPlaces (held_so places more)
+some_kept [] more some first each within = absurd (some refl)
+some_kept (w ∷ places) more some first each within = record {
+  some = inr some;
+  rising = chain_rising (w ∷ places) each;
+  apart = chain_apart (w ∷ places) each;
+  within = within;
+  only = λ at so. (first so).1 (first_alone w places each at);
+}
 
 pub weighs_within : (o : Option ℕ) (bound weight : ℕ) → MatchOption o (bound < weight) (λ left. left + weight ≡ bound) → (is_some o ≡ true) ↔ (weight ≤ bound)
 weighs_within None bound weight over = (λ never. absurd (true≢false (sym never)), λ within. absurd (omega (arith, over, within)))

@@ -3,6 +3,7 @@ pub mod Apart
 pub mod Bounded
 pub mod Conflicting
 pub mod Following
+pub mod Gathered
 pub mod Growing
 pub mod Identities
 pub mod Keeping

@@ -1,5 +1,5 @@
 -- The pairs that come first, as many as a limit allows, one more pair at a time.
-use Rattle.std.proofs.Common.{◌≡◌, ◌≢◌, ◌↔◌, ◌⊎◌, ◌<◌, ◌≤◌, ◌+◌, ◌^◌, inl, inr, ℕ, Bool, true, false, true≢false, IsTrue, List, [], ◌∷◌, ◌++◌, length, Option, Some, refl, sym, ap, ap₂, ◌∙◌, subst, arith}
+use Rattle.std.proofs.Common.{◌≡◌, ◌≢◌, ◌↔◌, ◌⊎◌, ◌<◌, ◌≤◌, ◌+◌, inl, inr, ℕ, Bool, true, false, true≢false, IsTrue, List, [], ◌∷◌, ◌++◌, length, Option, refl, sym, ap, ap₂, ◌∙◌, subst, arith}
 use Rattle.std.proofs.lemmas.Bool.{cases_lt}
 use Rattle.std.proofs.lemmas.List.{append-nil}
 use Rattle.std.proofs.lemmas.List.Sums.{sum_by-append, sum_by-cons}
@@ -9,15 +9,14 @@ use Rattle.std.specs.declared.cmp.Ordering.TheVariants.{Less}
 use Rattle.mp_tree.specs.Document.{Document, IsDocument}
 use Rattle.mp_tree.specs.Look.{Path}
 use Rattle.mp_pointer.specs.Weight.{place_weight}
-use Rattle.mp_merge.specs.Clash.{AreAllClashes, Compatible}
+use Rattle.mp_patch.specs.Work.{no_limit}
 use Rattle.mp_merge.specs.Within.{AreFirstConflicts, places_weight}
 use Rattle.mp_replica.specs.PatchLog.{AreFirstPairsOf, ArePairsBelow, IsAmong, IsClashing, Pair, StopsBeforeAPair, StopsBeforeAPlace, Stored, identities_of, identity_cmp, pair_base, pair_cmp, pair_weight, pairs_weight}
 use Rattle.mp_replica.specs.Private.LawsBelow.{MergeLaws}
-use Rattle.mp_replica.specs.Private.Pairs.{AddsPair, AreOf, EndsAmong, KeptPairs, KnowsPairs, Lists, ListsPair}
+use Rattle.mp_replica.specs.Private.Pairs.{AddsPair, AreClashing, AreOf, EndsAmong, EndsAt, KeptPairs, KnowsPairs, Lists, ListsPair}
 use Rattle.mp_replica.specs.declared.message.Identity.{Identity}
 use Rattle.mp_replica.proofs.Bounded.{more_if_rest, rest_if_more}
-use Rattle.mp_replica.proofs.PairsFound.{all_of, before_is_passed, below_next, mapped, none_more_of, none_of, one_more_of}
-use Rattle.mp_replica.proofs.Taking.{some_places}
+use Rattle.mp_replica.proofs.PairsFound.{all_of, before_is_passed, below_next, mapped, none_more_of, none_of, one_more_of, pair_with}
 
 abbrev one_pair : Identity → Identity → List Path → Pair
 one_pair i j places = record { first = i; second = j; places = places }
@@ -51,19 +50,9 @@ module _ (of : Option Identity) (stored : Stored) (limit : ℕ) (all : List (Ide
       asked : (pair : Pair) → identities_of pair ≡ (k, l) → IsAmong of pair.first pair.second
       asked pair is = subst (λ (x : Identity × Identity). IsAmong of x.0 x.1) (sym is) among
 
-      -- the pair does not fit, without any of its places
-      ended_before : (pair : Pair) → identities_of pair ≡ (k, l) → IsClashing stored pair → left < pair_base → EndsAmong of stored limit all pairs
-      ended_before pair is clashing below = record {
-        passed = passed;
-        rest = rest;
-        before = pairs;
-        next = pair;
-        parts = stands pair is;
-        clashing = clashing;
-        among = asked pair is;
-        are = here;
-        ends = inl (refl, let spent = lists.spent in omega (arith, spent, below));
-      }
+      -- the list ends with the pair
+      ended : (pair : Pair) → identities_of pair ≡ (k, l) → IsClashing stored pair → (now : List Pair) → ((now ≡ pairs) × (limit < pairs_weight now + pair_base)) ⊎ EndsAt limit pairs now pair → EndsAmong of stored limit all now
+      ended pair is clashing now ends = record { passed = passed; rest = rest; before = pairs; next = pair; parts = stands pair is; clashing = clashing; among = asked pair is; are = here; ends = ends }
 
       module _ (pair : Pair) (is : identities_of pair ≡ (k, l)) (clashing : IsClashing stored pair) (shown more_places : List Path) (left' : ℕ) (whole_is : pair.places ≡ shown ++ more_places)
           (spent : left' + pair_base + places_weight shown ≡ left) where
@@ -81,24 +70,14 @@ module _ (of : Option Identity) (stored : Stored) (limit : ℕ) (all : List (Ide
             ap₂ (λ i j. one_pair i j pair.places) first second ∙ ap (one_pair k l) places
 
         ended_within : (w : Path) (others : List Path) → more_places ≡ w ∷ others → left' < place_weight w → EndsAmong of stored limit all (pairs ++ cut ∷ [])
-        ended_within w others more below = record {
-          passed = passed;
-          rest = rest;
-          before = pairs;
-          next = pair;
-          parts = stands pair is;
-          clashing = clashing;
-          among = asked pair is;
-          are = here;
-          ends = inr (record {
-            shown = shown;
-            place = w;
-            rest = others;
-            parts = whole_is ∙ ap (λ t. shown ++ t) more;
-            last = rw (ap (λ x. x.0) is, ap (λ x. x.1) is) refl;
-            over = omega (arith, spent_now, below);
-          });
-        }
+        ended_within w others more below = ended pair is clashing (pairs ++ cut ∷ []) (inr (record {
+          shown = shown;
+          place = w;
+          rest = others;
+          parts = whole_is ∙ ap (λ t. shown ++ t) more;
+          last = rw (ap (λ x. x.0) is, ap (λ x. x.1) is) refl;
+          over = omega (arith, spent_now, below);
+        }))
 
         going_on : more_places ≡ [] → AreOf of stored (passed ++ (k, l) ∷ []) (pairs ++ cut ∷ [])
         going_on none =
@@ -126,7 +105,7 @@ module _ (of : Option Identity) (stored : Stored) (limit : ℕ) (all : List (Ide
           | inl before ↦ rw (before.0, before.1, before.3) (record {
             spent = lists.spent;
             going = λ go. absurd (true≢false go);
-            ended = λ end. ended_before adds.pair adds.is adds.clashing before.2;
+            ended = λ end. ended adds.pair adds.is adds.clashing pairs (inl (refl, let spent = lists.spent in let below = before.2 in omega (arith, spent, below)));
           })
           | inr cut ↦ subst (λ ps. Lists of stored limit all (passed ++ (k, l) ∷ []) ps left' more) (sym cut.3) (added adds.pair adds.is adds.clashing cut.0 cut.1 left' cut.2 cut.4 more cut.5 cut.6)
         ]
@@ -169,28 +148,18 @@ module _ (of : Option Identity) (stored : Stored) (limit : ℕ) (set : KeptPairs
 
 -- ---- one pair
 
-module _ (laws : MergeLaws) (stored : Stored) (first second : Identity) (p q : Document) (at_first : stored first ≡ Some p) (at_second : stored second ≡ Some q) (order : identity_cmp first second ≡ Less) (clash : ¬ Compatible p q) where
-  pair_with : (places : List Path) → AreAllClashes p q places → IsClashing stored (record { first = first; second = second; places = places })
-  pair_with places all = record {
-    one = p;
-    other = q;
-    at_first = at_first;
-    at_second = at_second;
-    in_order = order;
-    conflicts = record { some = some_places p q places clash all; clashes = all };
-  }
-
-  pub adds_nothing : IsDocument p → (pairs : List Pair) (left : ℕ) → left < pair_base → AddsPair stored first second pairs pairs left left true
-  adds_nothing good pairs left below =
+module _ {stored : Stored} {first second : Identity} {p q : Document} (two : AreClashing stored first second p q) (order : identity_cmp first second ≡ Less) where
+  pub adds_nothing : MergeLaws → IsDocument p → (pairs : List Pair) (left : ℕ) → left < pair_base → AddsPair stored first second pairs pairs left left true
+  adds_nothing laws good pairs left below =
       let found = laws.all_clashes_exist p q good in
-      record { pair = record { first = first; second = second; places = found.0 }; is = refl; clashing = pair_with found.0 found.1; how = inl (refl, refl, below, refl) }
+      record { pair = one_pair first second found.0; is = refl; clashing = pair_with two order found.0 found.1; how = inl (refl, refl, below, refl) }
 
-  pub adds_places : (pairs : List Pair) (left rest left' : ℕ) (places : List Path) (total : ℕ) (more : Bool) → rest + pair_base ≡ left → rest < 2 ^ 64 → left' + places_weight places ≡ rest
+  pub adds_places : (pairs : List Pair) (left rest left' : ℕ) (places : List Path) (total : ℕ) (more : Bool) → rest + pair_base ≡ left → rest < no_limit → left' + places_weight places ≡ rest
       → IsTrue more ↔ (length places < total) → AreFirstConflicts rest p q places total → AddsPair stored first second pairs (pairs ++ record { first = first; second = second; places = places } ∷ []) left left' more
   adds_places pairs left rest left' places total more sub bound spent says found = record {
     pair = record { first = first; second = second; places = found.all };
     is = refl;
-    clashing = pair_with found.all found.clashes;
+    clashing = pair_with two order found.all found.clashes;
     how = inr (
       places,
       found.first.rest,

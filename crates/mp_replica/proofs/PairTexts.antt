@@ -38,11 +38,6 @@ pub comma-push : (pairs : List Pair) (pair : Pair) → comma_before (pairs ++ pa
 comma-push [] pair = refl
 comma-push (p ∷ pairs) pair = refl
 
--- the end, where there is a pair
-pub closed : (pairs : List Pair) → pairs ≢ [] → opened pairs ++ codes "]" ≡ pairs_text pairs
-closed [] some = absurd (some refl)
-closed (pair ∷ pairs) some = refl
-
 -- ---- how long it is, and that of as many as fit
 
 -- of each text, with one byte more for what stands before it

@@ -1,5 +1,5 @@
 -- The pairs of patches that conflict, one more pair at a time.
-use Rattle.std.proofs.Common.{◌≡◌, ◌≢◌, ◌↔◌, ◌⊎◌, ◌<◌, inl, inr, List, [], ◌∷◌, ◌++◌, length, map, Bool, not, true, false, true≢false, IsTrue, Option, None, Some, MatchOption, refl, sym, ap, ◌∙◌, subst, arith}
+use Rattle.std.proofs.Common.{◌≡◌, ◌≢◌, ◌↔◌, ◌⊎◌, ◌<◌, inl, inr, List, [], ◌∷◌, ◌++◌, length, map, Bool, false, true, true≢false, IsTrue, Option, None, Some, MatchOption, refl, sym, ap, ◌∙◌, subst, arith}
 use Rattle.std.proofs.lemmas.Cmp.{on_total, then_total, tied_itself}
 use Rattle.std.proofs.lemmas.List.{get_or-map, length-map, map-append}
 use Rattle.std.proofs.lemmas.List.Elements.{All-nil, All-push, Contains-append_cases, Contains-append_left, Contains-append_right, Contains-push, Contains-push_cases}
@@ -8,18 +8,21 @@ use Rattle.std.specs.BTreeSet.{BTreeSet, contains, insert_key}
 use Rattle.std.specs.Cmp.{IsTotalOrder}
 use Rattle.std.specs.List.{AllByRecursion, Contains}
 use Rattle.std.specs.List.Sorted.{IsStrictlySortedBy}
+use Rattle.std.specs.Option.{is_some}
 use Rattle.std.specs.Ordering.{match_ordering}
 use Rattle.std.specs.declared.cmp.Ordering.{Ordering}
 use Rattle.std.specs.declared.cmp.Ordering.TheVariants.{Less, Equal, Greater}
 use Rattle.mp_tree.specs.Document.{Document}
-use Rattle.mp_merge.specs.Clash.{Compatible}
-use Rattle.mp_tree.proofs.Facts.{Contains-nil, Contains-one, Contains-head, Contains-tail, Contains-cases, some_same}
+use Rattle.mp_tree.specs.Look.{Path}
+use Rattle.mp_merge.specs.Clash.{AreAllClashes, Compatible}
+use Rattle.mp_tree.proofs.Facts.{Contains-nil, Contains-one, Contains-head, Contains-tail, Contains-cases}
 use Rattle.mp_tree.proofs.Passed.{Passed, Passed-next}
-use Rattle.mp_replica.specs.PatchLog.{AreAllPairsOf, DoClash, IsAmong, IsClashing, Pair, Stored, identities_of, identity_cmp, pair_cmp, seen}
-use Rattle.mp_replica.specs.Private.Pairs.{AreOf, AreOrdered, HasBoth, Includes, KeptPairs, KnowsPairs, NoneAmong, Notes}
+use Rattle.mp_replica.specs.PatchLog.{AreAllPairsOf, DoClash, IsAmong, IsClashing, Pair, Stored, identities_of, identity_cmp, pair_cmp}
+use Rattle.mp_replica.specs.Private.Pairs.{AreClashing, AreOf, AreOrdered, HasBoth, Includes, KeptPairs, KnowsPairs, NoneAmong, Notes}
+use Rattle.mp_replica.specs.Private.StoredPatches.{FitsAll}
 use Rattle.mp_replica.specs.declared.message.Identity.{Identity}
-use Rattle.mp_replica.specs.declared.pairs.ConflictingPair.{ConflictingPair}
 use Rattle.mp_replica.proofs.Identities.{exact_identities, identities_total}
+use Rattle.mp_replica.proofs.Taking.{some_places}
 
 -- ---- lists that rise
 
@@ -245,33 +248,26 @@ module _ (passed rest : List (Identity × Identity)) (next : Identity × Identit
 
 -- ---- what is found of two
 
-not_if : (b : Bool) → ¬ (b ≡ true) → not b ≡ true
-not_if true never = absurd (never refl)
-not_if false never = refl
+pub do_clash : {stored : Stored} {i j : Identity} {p q : Document} → AreClashing stored i j p q → DoClash stored i j
+do_clash {p = p} {q = q} two = record { one = p; other = q; at_first = two.at_first; at_second = two.at_second; clash = two.clash }
 
-never_both_true : (b : Bool) → not b ≡ true → ¬ (b ≡ true)
-never_both_true true one is = true≢false (sym one)
-never_both_true false one is = true≢false (sym is)
+-- two are found exactly if they clash
+pub tells_clash : {X D : Type 0} {Finds : X → Type 0} (found : Option X) → ((x : X) → Finds x → D) → MatchOption found (¬ D) Finds → (is_some found ≡ true) ↔ D
+tells_clash None some never = (λ yes. absurd (true≢false (sym yes)), λ clash. absurd (never clash))
+tells_clash (Some x) some is = (λ yes. some x is, λ clash. refl)
 
--- whether the patches that are stored under two clash
-pub tells_clash : (stored : Stored) (i j : Identity) (p q : Document) (agree : Bool) → stored i ≡ Some p → stored j ≡ Some q → (agree ≡ true) ↔ Compatible p q → (not agree ≡ true) ↔ DoClash stored i j
-tells_clash stored i j p q agree at_i at_j says = (
-  λ yes. record { one = p; other = q; at_first = at_i; at_second = at_j; clash = λ free. never_both_true agree yes (says.1 free) },
-  λ clash. not_if agree (λ yes. clash.clash (subst (λ d. Compatible d clash.other) (some_same p clash.one (sym at_i ∙ clash.at_first)) (subst (Compatible p) (some_same q clash.other (sym at_j ∙ clash.at_second)) (says.0 yes)))),
-)
+pub pair_with : {stored : Stored} {i j : Identity} {p q : Document} → AreClashing stored i j p q → identity_cmp i j ≡ Less → (places : List Path) → AreAllClashes p q places → IsClashing stored (record { first = i; second = j; places = places })
+pair_with {p = p} {q = q} two less places all = record {
+  one = p;
+  other = q;
+  at_first = two.at_first;
+  at_second = two.at_second;
+  in_order = less;
+  conflicts = record { some = some_places p q places two.clash all; clashes = all };
+}
 
 abbrev pub no_identity : Identity
 no_identity = record { sender = 0; number = 0 }
-
-abbrev pub IsFound : Stored → Identity → Identity → ConflictingPair → Type 0
-IsFound stored k l pair = (identities_of (seen pair) ≡ (k, l)) × IsClashing stored (seen pair)
-
-pub some_there : (stored : Stored) (k l : Identity) (found : Option ConflictingPair) (pair : ConflictingPair) → found ≡ Some pair → MatchOption found (¬ DoClash stored k l) (IsFound stored k l) → IsFound stored k l pair
-some_there stored k l found pair some is = subst (λ o. MatchOption o (¬ DoClash stored k l) (IsFound stored k l)) some is
-
-pub none_unless_there : (stored : Stored) (k l : Identity) (found : Option ConflictingPair) → ((pair : ConflictingPair) → found ≡ Some pair → ⊥) → MatchOption found (¬ DoClash stored k l) (IsFound stored k l) → ¬ DoClash stored k l
-none_unless_there stored k l None never is = is
-none_unless_there stored k l (Some pair) never is = absurd (never pair refl)
 
 -- ---- the next of the pairs that are kept
 
@@ -305,12 +301,6 @@ module _ (set now : KeptPairs) (i j : Identity) (is : now.keys ≡ insert_key pa
   pub has_both : identity_cmp i j ≡ Less → HasBoth now i j × HasBoth now j i
   has_both less = ((λ _. has_it, λ back. absurd (back_less i j less back)), (λ back. absurd (back_less i j less back), λ _. has_it))
 
-pub includes_same : (set now : KeptPairs) → now.keys ≡ set.keys → Includes set now
-includes_same set now same k at = subst (λ ks. Contains ks k) (sym same) at
-
-pub ordered_same : (set now : KeptPairs) → now.keys ≡ set.keys → AreOrdered set → AreOrdered now
-ordered_same set now same ordered i j at = ordered i j (subst (λ ks. Contains ks (i, j)) same at)
-
 -- one identity more of those that were compared
 pub noted_more : (i : Identity) (stored : Stored) (p : Document) (passed : List Identity) (j : Identity) (set now : KeptPairs) → Includes set now → ((q : Document) → stored j ≡ Some q → ¬ Compatible p q → HasBoth now i j)
     → Notes i stored p passed set → Notes i stored p (passed ++ j ∷ []) now
@@ -318,3 +308,35 @@ noted_more i stored p passed j set now kept here noted k q at at_k differ = elim
   | inl before ↦ let both = noted k q before at_k differ in (λ less. kept (i, k) (both.0 less), λ less. kept (k, i) (both.1 less))
   | inr same ↦ subst (λ x. HasBoth now i x) same (here q (subst (λ x. stored x ≡ Some q) (sym same) at_k) differ)
 ]
+
+-- of the identities so far each whose patch clashes with p is noted, and no pair is lost; `fits` says that there is none
+pub record AreNoted (i : Identity) (stored : Stored) (p : Document) (before : KeptPairs) (fits : Bool) (now : KeptPairs) (passed : List Identity) : Type 0 where
+  pub fits_all : IsTrue fits ↔ FitsAll stored passed p
+  pub noted : Notes i stored p passed now
+  pub kept : Includes before now
+  pub ordered : AreOrdered before → AreOrdered now
+
+module _ {i : Identity} {stored : Stored} {p : Document} {before : KeptPairs} {fits : Bool} {set : KeptPairs} (passed : List Identity) (j : Identity) (are : AreNoted i stored p before fits set passed) where
+  -- the next has a patch that is compatible, or none
+  pub noted_none : ((q : Document) → stored j ≡ Some q → Compatible p q) → AreNoted i stored p before fits set (passed ++ j ∷ [])
+  noted_none agree = record {
+    fits_all = (
+      λ so k q at here. elim (Contains-push_cases passed j k at) [
+        | inl early ↦ are.fits_all.0 so k q early here
+        | inr same ↦ agree q (ap stored same ∙ here)
+      ],
+      λ all. are.fits_all.1 (λ k q at. all k q (Contains-append_left passed (j ∷ []) k at)),
+    );
+    noted = noted_more i stored p passed j set set (λ x here. here) (λ q here clash. absurd (clash (agree q here))) are.noted;
+    kept = are.kept;
+    ordered = are.ordered;
+  }
+
+  -- or one that clashes, and the pair is noted
+  pub noted_one : {now : KeptPairs} (q : Document) → stored j ≡ Some q → ¬ Compatible p q → HasBoth now i j → Includes set now → (AreOrdered set → AreOrdered now) → AreNoted i stored p before false now (passed ++ j ∷ [])
+  noted_one {now} q at clash both kept ordered = record {
+    fits_all = (λ never. absurd (true≢false (sym never)), λ all. absurd (clash (all j q (Contains-push passed j) at)));
+    noted = noted_more i stored p passed j set now kept (λ r here differ. both) are.noted;
+    kept = λ x here. kept x (are.kept x here);
+    ordered = λ were. ordered (are.ordered were);
+  }

@@ -1,12 +1,12 @@
 -- What a patch log shows, and what it begins: outcomes of its start and of some of the patches.
-use Rattle.std.proofs.Common.{◌≡◌, ◌+◌, ℕ, inl, inr, List, [], ◌∷◌, ◌++◌, Option, None, Some, IfSome, MatchOption, option_map, sym, ap, ◌∙◌, subst, rules}
+use Rattle.std.proofs.Common.{◌≡◌, ◌+◌, ℕ, inl, inr, List, [], ◌∷◌, ◌++◌, Option, None, Some, IfSome, MatchOption, option_map, sym, ◌∙◌, subst}
 use Rattle.std.specs.Prelude.{⊤}
 use Rattle.std.proofs.lemmas.List.Elements.{All-cons, All-nil, All-push, Contains-append_left, Contains-push, Contains-push_cases}
 use Rattle.std.specs.List.{All, Contains}
 use Rattle.mp_tree.specs.Document.{Document, IsDocument}
 use Rattle.mp_tree.specs.View.{document}
 use Rattle.mp_tree.specs.declared.doc.Doc.{Doc}
-use Rattle.mp_tree.proofs.Facts.{IsDocument-document, Contains-head, Contains-nil, Contains-one, Contains-tail}
+use Rattle.mp_tree.proofs.Facts.{IsDocument-document, Contains-head, Contains-tail, some_same}
 use Rattle.mp_merge.specs.Application.{merge_patch}
 use Rattle.mp_merge.specs.Clash.{Compatible}
 use Rattle.mp_merge.specs.Lists.{PairwiseCompatible}
@@ -15,37 +15,19 @@ use Rattle.mp_replica.specs.Following.{settled}
 use Rattle.mp_replica.specs.Held.{HasJoined}
 use Rattle.mp_replica.specs.PatchLog.{AreChosen, Begins, ClashesWithNone, HaveArrived, HeldLog, Shows, Stored, StoresAlso, stored_in, stored_of}
 use Rattle.mp_replica.specs.Private.LawsBelow.{MergeLaws, TextLaws}
-use Rattle.mp_replica.specs.Private.Steps.{Fits}
 use Rattle.mp_replica.specs.Private.StoredPatches.{AreApart, IsShownAfter, StillShows}
 use Rattle.mp_replica.specs.declared.message.Identity.{Identity}
 use Rattle.mp_replica.specs.declared.stored_patches.Standing.{Standing}
 use Rattle.mp_replica.specs.declared.stored_patches.Standing.TheVariants.{Fits as Fitted, Disputed, Disputes}
 use Rattle.mp_replica.proofs.Conflicting.{unclashed_more}
-use Rattle.mp_replica.proofs.Growing.{itself, join_of, pairwise_push}
+use Rattle.mp_replica.proofs.Gathered.{none_more_gathered, one_gathered}
+use Rattle.mp_replica.proofs.Growing.{join_of, pairwise_push}
 use Rattle.mp_replica.proofs.Identities.{stored_is_document}
 
-alone : (p : Document) → PairwiseCompatible (p ∷ [])
-alone p x y one two = subst (λ d. Compatible d y) (Contains-one p x one) (subst (Compatible p) (Contains-one p y two) (itself p))
-
-module _ (laws : TextLaws) where
-  both : (d k p : Document) (ds : List Document) → IsDocument d → IsDocument k → IsDocument p → Compatible p k → HasJoined (Some k) (Some p) ds → IsOutcome d ds (merge_patch (Some (merge_patch (Some d) k)) p)
-  both d k p ds good good_k good_p agree has =
-      let pair : List Document = k ∷ p ∷ [] in
-      let all : All IsDocument pair = All-push IsDocument (k ∷ []) p (search (rules, good_k)) good_p in
-      let free : PairwiseCompatible pair = pairwise_push (k ∷ []) p (alone k) (λ q at. subst (Compatible p) (Contains-one k q at) agree) in
-      let found = (laws.merging.join_exists pair (λ none. let never = none in cc) all).1 free in
-      let first = laws.merging.merged_is_document d k good good_k in
-      let in_turn = laws.merging.outcome_grows d (k ∷ []) (merge_patch (Some d) k) p good (search (rules, good_k)) first good_p free (laws.join_outcome d (k ∷ []) k good good_k (laws.merging.join_of_one k)) in
-      let same = laws.merging.one_outcome d pair (merge_patch (Some (merge_patch (Some d) k)) p) (merge_patch (Some d) found.0) (laws.merging.merged_is_document (merge_patch (Some d) k) p first good_p)
-      (laws.merging.merged_is_document d found.0 good found.1) in_turn (laws.join_outcome d pair found.0 good found.1 found.2) in
-      subst (IsOutcome d ds) (sym same) (laws.join_outcome d ds found.0 good found.1 ((has.joins found.0 found.1).0 found.2))
-
-  -- what is joined and then what is pending, merged into the start, is the outcome of all that was joined
-  pub shows_joined : (d : Document) (ds : List Document) (m n : Option Document) → IsDocument d → IfSome m IsDocument → IfSome n IsDocument → Fits m n → HasJoined m n ds → IsOutcome d ds (settled (settled d m) n)
-  shows_joined d ds None None good good_m good_n fits has = subst (λ (l : List Document). IsOutcome d l d) (sym (join_of laws.merging ds None tt has)) (laws.merging.outcome_of_none d)
-  shows_joined d ds (Some k) None good good_m good_n fits has = laws.join_outcome d ds k good good_m (join_of laws.merging ds (Some k) good_m has)
-  shows_joined d ds None (Some p) good good_m good_n fits has = laws.join_outcome d ds p good good_n ((has.joins p good_n).0 (laws.merging.join_of_one p))
-  shows_joined d ds (Some k) (Some p) good good_m good_n fits has = both d k p ds good good_m good_n fits has
+-- what is joined, merged into the start, is the outcome of all that was joined
+pub shows_joined : (laws : TextLaws) (d : Document) (ds : List Document) (m : Option Document) → IsDocument d → IfSome m IsDocument → HasJoined m None ds → IsOutcome d ds (settled d m)
+shows_joined laws d ds None good good_m has = subst (λ (l : List Document). IsOutcome d l d) (sym (join_of laws.merging ds None tt has)) (laws.merging.outcome_of_none d)
+shows_joined laws d ds (Some k) good good_m has = laws.join_outcome d ds k good good_m (join_of laws.merging ds (Some k) good_m has)
 
 -- ---- one more patch p is stored, which clashes with none
 
@@ -89,28 +71,11 @@ pub record HasChosen (stored : Stored) (start : Document) (chosen : List Identit
   pub are_documents : All IsDocument patches
   pub outcome : IsOutcome start patches end
 
-pub none_chosen : (laws : MergeLaws) (stored : Stored) (start : Document) → HasChosen stored start [] start
-none_chosen laws stored start = record {
-  patches = [];
-  are_chosen = λ p. (λ at. absurd (Contains-nil p at), λ has. absurd (Contains-nil has.0 has.1));
-  are_documents = search rules;
-  outcome = laws.outcome_of_none start;
-}
-
 pub one_chosen : (laws : MergeLaws) (stored : Stored) (start end p : Document) (all done : List Identity) (i : Identity) → IsDocument start → IsDocument end → IsDocument p → AreApart stored all
     → ((j : Identity) → Contains (done ++ i ∷ []) j → Contains all j) → stored i ≡ Some p → HasChosen stored start done end → HasChosen stored start (done ++ i ∷ []) (merge_patch (Some end) p)
 one_chosen laws stored start end p all done i good good_end good_p apart within at has = record {
   patches = has.patches ++ p ∷ [];
-  are_chosen = λ q. (
-    λ one. elim (Contains-push_cases has.patches p q one) [
-      | inl before ↦ let was = (has.are_chosen q).0 before in (was.0, Contains-append_left done (i ∷ []) was.0 was.1, was.2)
-      | inr same ↦ (i, Contains-push done i, subst (λ r. stored i ≡ Some r) same at)
-    ],
-    λ is. elim (Contains-push_cases done i is.0 is.1) [
-      | inl before ↦ Contains-append_left has.patches (p ∷ []) q ((has.are_chosen q).1 (is.0, before, is.2))
-      | inr same ↦ subst (Contains (has.patches ++ p ∷ [])) (Rattle.mp_tree.proofs.Facts.some_same p q (sym at ∙ ap stored same ∙ is.2)) (Contains-push has.patches p)
-    ],
-  );
+  are_chosen = one_gathered (λ j q. stored j ≡ Some q) done i has.patches has.are_chosen p at (λ q is. some_same p q (sym at ∙ is));
   are_documents = All-push IsDocument has.patches p has.are_documents good_p;
   outcome = laws.outcome_grows start has.patches end p good has.are_documents good_end good_p free has.outcome;
 }
@@ -131,13 +96,7 @@ one_chosen laws stored start end p all done i good good_end good_p apart within 
 pub none_more : (stored : Stored) (start end : Document) (done : List Identity) (i : Identity) → stored i ≡ None → HasChosen stored start done end → HasChosen stored start (done ++ i ∷ []) end
 none_more stored start end done i none has = record {
   patches = has.patches;
-  are_chosen = λ q. (
-    λ one. let was = (has.are_chosen q).0 one in (was.0, Contains-append_left done (i ∷ []) was.0 was.1, was.2),
-    λ is. elim (Contains-push_cases done i is.0 is.1) [
-      | inl before ↦ (has.are_chosen q).1 (is.0, before, is.2)
-      | inr same ↦ absurd (let never : None ≡ Some q = sym none ∙ ap stored same ∙ is.2 in cc)
-    ],
-  );
+  are_chosen = none_more_gathered (λ j q. stored j ≡ Some q) done i has.patches has.are_chosen (λ q is. let never : None ≡ Some q = sym none ∙ is in cc);
   are_documents = has.are_documents;
   outcome = has.outcome;
 }

@@ -2,7 +2,7 @@
 use Rattle.std.proofs.Common.{◌≡◌, ◌≢◌, ◌↔◌, ◌⊎◌, inl, inr, List, [], ◌∷◌, ◌++◌, Option, None, Some, IfSome, MatchOption, option_map, refl, sym, ap, ◌∙◌, subst}
 use Rattle.std.specs.List.{All, Contains}
 use Rattle.std.proofs.lemmas.List.{append-nil}
-use Rattle.std.proofs.lemmas.List.Elements.{All-append, All-contains, All-contains_itself, All-push, All-weaker, Contains-append_cases, Contains-append_left, Contains-append_right, Contains-push}
+use Rattle.std.proofs.lemmas.List.Elements.{All-append, All-contains, All-contains_itself, All-push, All-weaker, Contains-append_cases, Contains-append_left, Contains-append_right, Contains-push, Contains-push_cases}
 use Rattle.mp_tree.specs.Document.{Document, IsDocument}
 use Rattle.mp_tree.specs.Look.{Path}
 use Rattle.mp_tree.specs.View.{document}
@@ -14,12 +14,12 @@ use Rattle.mp_merge.specs.Lists.{HaveSameMembers, PairwiseCompatible}
 use Rattle.mp_replica.specs.Held.{AreClashesAmong, AreClashesBetween, AreClashesWith, AreFirstPlaces, HasJoined, HeldPatches, HeldPlaces, HoldsClashesBetween, HoldsClashesWith, IsJoinOf}
 use Rattle.mp_replica.specs.Laws.{HoldsJoin, TakenSame, TakersAgree}
 use Rattle.mp_replica.specs.Private.LawsBelow.{MergeLaws}
-use Rattle.mp_replica.specs.Private.Steps.{ClashesWithAll, ClashesWithJoin, HoldsClashesWithAll, HoldsClashesWithJoin, SameJoins}
+use Rattle.mp_replica.specs.Private.Steps.{ClashesWithJoin, HoldsClashesWithJoin, SameJoins}
 use Rattle.mp_replica.specs.Taking.{HasTaken, HoldsConflict, TakesAll, TakesOne}
 use Rattle.mp_replica.specs.declared.patches.Added.{Added}
 use Rattle.mp_replica.specs.declared.patches.Added.TheVariants.{Joined, Conflict, Pending, Refused}
 use Rattle.mp_replica.proofs.Apart.{none_within}
-use Rattle.mp_replica.proofs.Growing.{clashes_of_join, documents, grew_joins, join_of, joined_none, joined_on, joined_same, one_join_of, same_back}
+use Rattle.mp_replica.proofs.Growing.{clashes_of_join, compatible_if_joined, documents, grew_joins, itself, join_of, joined_none, joined_on, joined_same, one_join_of, same_back}
 
 -- what is held if no two conflict
 pub free_taken : (r : HeldPatches) (taken : List Document) → r.places ≡ None → HasJoined (option_map document r.joined) (option_map document r.pending) taken → HasTaken r taken
@@ -61,18 +61,13 @@ either : (o : Option HeldPlaces) → (o ≡ None) ⊎ ((held : HeldPlaces) × (o
 either None = inl refl
 either (Some held) = inr (held, refl)
 
--- what holds a conflict of some patches holds one of these and more, and so does what takes it over
-pub conflict_moved : (o s : HeldPatches) (taken more : List Document) → o.places ≢ None → s.places ≡ o.places → s.joined ≡ None → s.pending ≡ None → All IsDocument more → ((p : Document) → Contains taken p → Contains more p)
-    → HasTaken o taken → HasTaken s more
-conflict_moved o s taken more some same no_join none_pending all within has = elim (either o.places) [
-  | inl none ↦ absurd (some none)
-  | inr there ↦ let held = if_conflict o taken there.0 there.1 has in conflict_taken s more there.0 held.all (same ∙ there.1) no_join none_pending all (more_clashes taken more held.all within held.clashes) held.first
-]
-
+-- what holds a conflict of some patches holds one of these and more
 pub conflict_stays : (r : HeldPatches) (taken more : List Document) → r.places ≢ None → All IsDocument more → ((p : Document) → Contains taken p → Contains more p) → HasTaken r taken → HasTaken r more
 conflict_stays r taken more some all within has = elim (either r.places) [
   | inl none ↦ absurd (some none)
-  | inr there ↦ let held = if_conflict r taken there.0 there.1 has in conflict_moved r r taken more some refl held.no_join held.none_pending all within has
+  | inr there ↦
+      let held = if_conflict r taken there.0 there.1 has in
+      conflict_taken r more there.0 held.all there.1 held.no_join held.none_pending all (more_clashes taken more held.all within held.clashes) held.first
 ]
 
 pub conflict_takes : (r : HeldPatches) (taken : List Document) (p : Doc) → r.places ≢ None → HasTaken r taken → HasTaken r (taken ++ document p ∷ [])
@@ -82,9 +77,8 @@ conflict_takes r taken p some has =
 pub conflict_takes_all : (r o : HeldPatches) (taken others : List Document) → r.places ≢ None → HasTaken r taken → HasTaken o others → HasTaken r (taken ++ others)
 conflict_takes_all r o taken others some has have = conflict_stays r taken (taken ++ others) some (All-append IsDocument taken others has.are_documents have.are_documents) (Contains-append_left taken others) has
 
-pub takes_conflict_over : (r o s : HeldPatches) (taken others : List Document) → o.places ≢ None → s.places ≡ o.places → s.joined ≡ None → s.pending ≡ None → HasTaken r taken → HasTaken o others → HasTaken s (taken ++ others)
-takes_conflict_over r o s taken others some same no_join none_pending has have =
-    conflict_moved o s others (taken ++ others) some same no_join none_pending (All-append IsDocument taken others has.are_documents have.are_documents) (Contains-append_right taken others) have
+pub takes_conflict_over : (r o : HeldPatches) (taken others : List Document) → o.places ≢ None → HasTaken r taken → HasTaken o others → HasTaken o (taken ++ others)
+takes_conflict_over r o taken others some has have = conflict_stays o others (taken ++ others) some (All-append IsDocument taken others has.are_documents have.are_documents) (Contains-append_right taken others) have
 
 turned : {p q : Document} {w : Path} → Clash p q w → Clash q p w
 turned clash = record { first = clash.second; second = clash.first; differ = λ same. clash.differ (sym same) }
@@ -133,22 +127,21 @@ module _ (laws : MergeLaws) where
 
   -- ---- one more patch
 
-  pub takes_on : (taken : List Document) (r s : HeldPatches) (p : Doc) → r.places ≡ None → r.pending ≡ None → IfSome (option_map document r.joined) (Compatible (document p)) → s.joined ≡ r.joined → s.pending ≡ Some p
-      → s.places ≡ None → HasTaken r taken → HasTaken s (taken ++ document p ∷ [])
-  takes_on taken r s p none settled fits same pending still has =
-      let stays : SameJoins (option_map document r.joined) (Some (document p)) (option_map document s.joined) (option_map document s.pending) = λ j is. rw (same, pending) (λ at. at, λ at. at) in
-      free_taken s (taken ++ document p ∷ []) still (joined_on laws taken (option_map document r.joined) (document p) (IsDocument-document p) (documents r.joined) (joins_taken r taken none settled has) fits stays)
+  pub takes_on : (taken : List Document) (r s : HeldPatches) (p : Doc) → r.places ≡ None → r.pending ≡ None → s.places ≡ None → IfSome (option_map document r.joined) (Compatible (document p))
+      → SameJoins (option_map document r.joined) (Some (document p)) (option_map document s.joined) (option_map document s.pending) → HasTaken r taken → HasTaken s (taken ++ document p ∷ [])
+  takes_on taken r s p none settled still fits joins has =
+      free_taken s (taken ++ document p ∷ []) still (joined_on laws taken (option_map document r.joined) (document p) (IsDocument-document p) (documents r.joined) (joins_taken r taken none settled has) fits joins)
 
   -- what clashes with the join of some patches clashes with these
   clashes_with_each : (ds : List Document) (m : Option Document) (p : Document) (places : List Path) → IsJoinOf ds m → ClashesWithJoin m p places → (places ≢ []) × AreClashesWith ds p places
   clashes_with_each ds None p places joined clash = absurd clash
   clashes_with_each ds (Some k) p places joined clash = (some_places p k places clash.0 clash.1, clashes_of_join laws ds k p places joined clash.1)
 
-  pub takes_conflict : (taken : List Document) (r s : HeldPatches) (p : Doc) (held : HeldPlaces) → r.places ≡ None → r.pending ≡ None → HoldsClashesWithJoin (option_map document r.joined) (document p) held
-      → s.places ≡ Some held → s.joined ≡ None → s.pending ≡ None → HasTaken r taken → HasTaken s (taken ++ document p ∷ []) × HoldsClashesWith taken (document p) held
-  takes_conflict taken r s p held none settled found some no_join none_pending has =
+  pub takes_conflict : (r : HeldPatches) (p : Doc) (held : HeldPlaces) → r.places ≡ None → r.pending ≡ None → HoldsClashesWithJoin (option_map document r.joined) (document p) held
+      → (taken : List Document) → HasTaken r taken → HasTaken (record { joined = None; pending = None; places = Some held }) (taken ++ document p ∷ []) × HoldsClashesWith taken (document p) held
+  takes_conflict r p held none settled found taken has =
       let all = clashes_with_each taken (option_map document r.joined) (document p) found.0 (join_taken r taken none settled has) found.1 in (
-        conflict_taken s (taken ++ document p ∷ []) held found.0 some no_join none_pending (All-push IsDocument taken (document p) has.are_documents (IsDocument-document p)) (record {
+        conflict_taken _ (taken ++ document p ∷ []) held found.0 refl refl refl (All-push IsDocument taken (document p) has.are_documents (IsDocument-document p)) (record {
           some = all.0;
           rising = all.1.rising;
           apart = none_within taken (document p) found.0 (if_free r taken none has).compatible all.1;
@@ -161,77 +154,77 @@ module _ (laws : MergeLaws) where
 
   -- ---- all that another took
 
-  -- joining the join of others is joining them all
-  pub takes_others : (taken others : List Document) (o s : HeldPatches) (p : Document) → o.places ≡ None → o.pending ≡ None → option_map document o.joined ≡ Some p → s.places ≡ None → HasTaken o others → HasTaken s (taken ++ p ∷ [])
-      → All IsDocument taken → HasTaken s (taken ++ others)
-  takes_others taken others o s p none settled is still have has documents_taken =
-      let joined : IsJoin others p = subst (IsJoinOf others) is (join_taken o others none settled have) in
-      let one = if_free s (taken ++ p ∷ []) still has in
-      let found = (laws.join_exists (taken ++ p ∷ []) (λ empty. Contains-nil p (subst (λ (l : List Document). Contains l p) empty (Contains-push taken p))) one.are_documents).1 one.compatible in
-      free_taken s (taken ++ others) still (record {
-        are_documents = All-append IsDocument taken others documents_taken have.are_documents;
-        compatible = compatible_if_joined (taken ++ others) found.0 ((laws.join_in_parts taken others p found.0 joined).1 found.2);
-        joins = λ j is_document. (
-          λ here. (laws.join_in_parts taken others p j joined).1 ((one.joins j is_document).0 here),
-          λ there. (one.joins j is_document).1 ((laws.join_in_parts taken others p j joined).0 there),
-        );
-      })
+  -- one of them clashes where their join does
+  clashes_of_others : (taken others : List Document) (p : Document) (places : List Path) → IsJoin others p → AreClashesAmong (taken ++ p ∷ []) places → AreClashesAmong (taken ++ others) places
+  clashes_of_others taken others p places joined clashes = record { some = clashes.some; rising = clashes.rising; apart = clashes.apart; each = λ w at. by w (clashes.each w at) }
     where
-      compatible_if_joined : (ds : List Document) (j : Document) → IsJoin ds j → PairwiseCompatible ds
-      compatible_if_joined ds j joined x y one two w clash = clash.differ (sym (joined.said x one w clash.first) ∙ joined.said y two w clash.second)
+      Pair : List Document → Path → Type 0
+      Pair ds w = (x : Document) × (y : Document) × Contains ds x × Contains ds y × Clash x y w
+
+      with_one : (w : Path) (x : Document) → Contains taken x → Clash x p w → Pair (taken ++ others) w
+      with_one w x at clash = let found = (laws.conflict_with_a_join others p x w joined).0 clash in (x, found.0, Contains-append_left taken others x at, Contains-append_right taken others found.0 found.1, found.2)
+
+      by : (w : Path) → Pair (taken ++ p ∷ []) w → Pair (taken ++ others) w
+      by w (x, y, at_x, at_y, clash) = elim (Contains-push_cases taken p x at_x) [
+        | inl early ↦ elim (Contains-push_cases taken p y at_y) [
+          | inl also ↦ (x, y, Contains-append_left taken others x early, Contains-append_left taken others y also, clash)
+          | inr last ↦ with_one w x early (subst (λ d. Clash x d w) (sym last) clash)
+        ]
+        | inr last ↦ elim (Contains-push_cases taken p y at_y) [
+          | inl early ↦ with_one w y early (turned (subst (λ d. Clash d y w) (sym last) clash))
+          | inr also ↦ absurd (itself p w (subst (λ d. Clash p d w) (sym also) (subst (λ d. Clash d y w) (sym last) clash)))
+        ]
+      ]
+
+  -- what has taken their join has taken them all
+  takes_others : (taken others : List Document) (s : HeldPatches) (p : Document) → IsJoin others p → All IsDocument taken → All IsDocument others → HasTaken s (taken ++ p ∷ []) → HasTaken s (taken ++ others)
+  takes_others taken others s p joined all all_others has = elim (either s.places) [
+    | inl none ↦
+        let one = if_free s (taken ++ p ∷ []) none has in
+        let found = (laws.join_exists (taken ++ p ∷ []) (λ empty. Contains-nil p (subst (λ (l : List Document). Contains l p) empty (Contains-push taken p))) one.are_documents).1 one.compatible in
+        free_taken s (taken ++ others) none (record {
+          are_documents = All-append IsDocument taken others all all_others;
+          compatible = compatible_if_joined (taken ++ others) found.0 ((laws.join_in_parts taken others p found.0 joined).1 found.2);
+          joins = λ j is_document. (
+            λ here. (laws.join_in_parts taken others p j joined).1 ((one.joins j is_document).0 here),
+            λ there. (one.joins j is_document).1 ((laws.join_in_parts taken others p j joined).0 there),
+          );
+        })
+    | inr some ↦
+        let held = if_conflict s (taken ++ p ∷ []) some.0 some.1 has in
+        conflict_taken s (taken ++ others) some.0 held.all some.1 held.no_join held.none_pending (All-append IsDocument taken others all all_others) (clashes_of_others taken others p held.all joined held.clashes) held.first
+  ]
+
+  pub their_join : (o : HeldPatches) (p : Doc) → o.places ≡ None → o.pending ≡ None → o.joined ≡ Some p → (others : List Document) → HasTaken o others → IsJoin others (document p)
+  their_join o p none settled is others have = subst (λ m. IsJoinOf others (option_map document m)) is (join_taken o others none settled have)
+
+  -- what was taken by one patch, the join of others, was taken of these
+  pub takes_all_of_one : (what : Added) (taken others : List Document) (s t : HeldPatches) (p : Document) → what ≢ Refused → IsJoin others p → All IsDocument taken → All IsDocument others → HasTaken t [] → TakesOne HasTaken what taken p s
+      → TakesAll HasTaken what taken others s t
+  takes_all_of_one Joined taken others s t p which joined all all_others left one = (takes_others taken others s p joined all all_others one.0, left, one.1, one.2)
+  takes_all_of_one Pending taken others s t p which joined all all_others left one = (takes_others taken others s p joined all all_others one.0, left, one.1, one.2)
+  takes_all_of_one Conflict taken others s t p which joined all all_others left one = (takes_others taken others s p joined all all_others one.0, left, one.1)
+  takes_all_of_one Refused taken others s t p which joined all all_others left one = absurd (which refl)
+
+  -- what clashes with the join of others clashes with one of these, and the other way round
+  pub seen_between : (taken others : List Document) (p : Document) (places : Option HeldPlaces) → IsJoin others p → IfSome places (HoldsClashesWith taken p) → IfSome places (HoldsClashesBetween taken others)
+  seen_between taken others p None joined seen = seen
+  seen_between taken others p (Some held) joined seen = record {
+    all = seen.all;
+    clashes = record {
+      rising = seen.clashes.rising;
+      all = λ w. (
+        λ at. let one = (seen.clashes.all w).0 at in (one.0, one.1, (laws.conflict_with_a_join others p one.0 w joined).0 (turned one.2)),
+        λ some. (seen.clashes.all w).1 (some.0, some.1, turned ((laws.conflict_with_a_join others p some.0 w joined).1 some.2)),
+      );
+    };
+    first = seen.first;
+  }
 
   pub takes_none : (taken others : List Document) (o s : HeldPatches) → o.places ≡ None → o.pending ≡ None → o.joined ≡ None → HasTaken o others → HasTaken s taken → HasTaken s (taken ++ others)
   takes_none taken others o s none settled empty have has =
       let no_others : others ≡ [] = subst (λ m. IsJoinOf others (option_map document m)) empty (join_taken o others none settled have) in
       subst (HasTaken s) (sym (ap (λ l. taken ++ l) no_others ∙ append-nil taken)) has
-
-  -- what clashes with the join of others clashes with one of these, and the other way round
-  clashes_between : (taken others : List Document) (here there : Option Document) (places : List Path) → IsJoinOf taken here → IsJoinOf others there → ClashesWithAll here there places → AreClashesBetween taken others places
-  clashes_between taken others here None places first second clash = absurd clash
-  clashes_between taken others here (Some k) places first second clash =
-      let each = (clashes_with_each taken here k places first clash).1 in
-      record {
-        rising = each.rising;
-        all = λ w. (
-          λ at. let one = (each.all w).0 at in (one.0, one.1, (laws.clash_with_a_join others k one.0 w second).0 (turned one.2)),
-          λ some. (each.all w).1 (some.0, some.1, turned ((laws.clash_with_a_join others k some.0 w second).1 some.2)),
-        );
-      }
-
-  pub seen_between : (taken others : List Document) (r o : HeldPatches) (held : HeldPlaces) → r.places ≡ None → r.pending ≡ None → o.places ≡ None → o.pending ≡ None
-      → HoldsClashesWithAll (option_map document r.joined) (option_map document o.joined) held → HasTaken r taken → HasTaken o others → HoldsClashesBetween taken others held
-  seen_between taken others r o held none settled none_there settled_there found has have = record {
-    all = found.0;
-    clashes = clashes_between taken others (option_map document r.joined) (option_map document o.joined) found.0 (join_taken r taken none settled has) (join_taken o others none_there settled_there have) found.1;
-    first = found.2;
-  }
-
-  pub takes_others_conflict : (taken others : List Document) (r o s : HeldPatches) (held : HeldPlaces) → r.places ≡ None → r.pending ≡ None → o.places ≡ None → o.pending ≡ None
-      → HoldsClashesWithAll (option_map document r.joined) (option_map document o.joined) held → s.places ≡ Some held → s.joined ≡ None → s.pending ≡ None → HasTaken r taken → HasTaken o others → HasTaken s (taken ++ others)
-  takes_others_conflict taken others r o s held none settled none_there settled_there found some no_join none_pending has have =
-      by (option_map document o.joined) (join_taken o others none_there settled_there have) found.1
-    where
-      by : (m : Option Document) → IsJoinOf others m → ClashesWithAll (option_map document r.joined) m found.0 → HasTaken s (taken ++ others)
-      by None joined clash = absurd clash
-      by (Some k) joined clash =
-          let all = clashes_with_each taken (option_map document r.joined) k found.0 (join_taken r taken none settled has) clash in
-          conflict_taken s (taken ++ others) held found.0 some no_join none_pending (All-append IsDocument taken others has.are_documents have.are_documents) (record {
-            some = all.0;
-            rising = all.1.rising;
-            apart = none_within taken k found.0 (if_free r taken none has).compatible all.1;
-            each = λ w at.
-                let one = (all.1.all w).0 at in
-                let two = (laws.clash_with_a_join others k one.0 w joined).0 (turned one.2) in
-                (one.0, two.0, Contains-append_left taken others one.0 one.1, Contains-append_right taken others two.0 two.1, two.2);
-          }) found.2
-
-  -- what was taken by one patch, the join of what another took, was taken of that other
-  pub takes_all_of_one : (what : Added) (taken others : List Document) (o s t : HeldPatches) (p : Document) → (what ≡ Joined) ⊎ (what ≡ Pending) → o.places ≡ None → o.pending ≡ None → option_map document o.joined ≡ Some p → s.places ≡ None
-      → HasTaken o others → All IsDocument taken → HasTaken t [] → TakesOne HasTaken what taken p s → TakesAll HasTaken what taken others s t
-  takes_all_of_one Joined taken others o s t p which none settled is still have all left one = (takes_others taken others o s p none settled is still have one.0 all, left, one.1, one.2)
-  takes_all_of_one Pending taken others o s t p which none settled is still have all left one = (takes_others taken others o s p none settled is still have one.0 all, left, one.1, one.2)
-  takes_all_of_one Conflict taken others o s t p which none settled is still have all left one = absurd (one.1 still)
-  takes_all_of_one Refused taken others o s t p which none settled is still have all left one = elim which [ inl differ ↦ cc | inr differ ↦ cc ]
 
   -- ---- laws
 
@@ -253,9 +246,7 @@ module _ (laws : MergeLaws) where
   pub taken_same : TakenSame
   taken_same taken others r same has = elim (either r.places) [
     | inl none ↦ free_taken r others none (joined_same laws taken others same (if_free r taken none has))
-    | inr some ↦
-        let held = if_conflict r taken some.0 some.1 has in
-        conflict_taken r others some.0 held.all some.1 held.no_join held.none_pending (all_same taken others same has.are_documents) (more_clashes taken others held.all (λ p. (same p).0) held.clashes) held.first
+    | inr some ↦ conflict_stays r taken others (λ none. let never = sym some.1 ∙ none in cc) (all_same taken others same has.are_documents) (λ p. (same p).0) has
   ]
 
   pub takers_agree : TakersAgree

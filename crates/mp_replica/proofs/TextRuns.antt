@@ -17,7 +17,7 @@ use Rattle.mp_replica.specs.Following.{ClashesWithOne, FollowsOn}
 use Rattle.mp_replica.specs.Held.{HeldPatches, HeldReplica, IsJoinOf}
 use Rattle.mp_replica.specs.Kept.{IsKept}
 use Rattle.mp_replica.specs.Private.LawsBelow.{TextLaws}
-use Rattle.mp_replica.specs.Taking.{HasTaken, TakesAll, TakesOne}
+use Rattle.mp_replica.specs.Taking.{HasTaken, TakesAll}
 use Rattle.mp_replica.specs.Texts.{FollowsTexts, FollowsTextsOn, HasTakenTexts}
 use Rattle.mp_replica.specs.declared.fault.LiveFault.{LiveFault}
 use Rattle.mp_replica.specs.declared.fault.LiveFault.TheVariants as live
@@ -83,13 +83,6 @@ follows_texts_on Refused start texts t p r s read old new = (record { from = old
 
 takes_texts : (texts others : List (List ℕ)) (s : HeldPatches) (ds es : List Document) → AreRead texts ds → AreRead others es → HasTaken s (ds ++ es) → HasTakenTexts s (texts ++ others)
 takes_texts texts others s ds es one other has = record { documents = ds ++ es; read = read_all texts others ds es one other; taken = has }
-
-pub takes_text_on : (what : Added) (texts : List (List ℕ)) (t : List ℕ) (p : Document) (r s : HeldPatches) → document_in t ≡ Ok p → (has : HasTakenTexts r texts) → TakesOne HasTaken what has.documents p s
-    → TakesOne HasTakenTexts what texts t s
-takes_text_on added.Joined texts t p r s read has new = (takes_texts texts (t ∷ []) s has.documents (p ∷ []) has.read (ap (λ q. q ∷ []) read) new.0, new.1, new.2)
-takes_text_on added.Pending texts t p r s read has new = (takes_texts texts (t ∷ []) s has.documents (p ∷ []) has.read (ap (λ q. q ∷ []) read) new.0, new.1, new.2)
-takes_text_on added.Conflict texts t p r s read has new = (takes_texts texts (t ∷ []) s has.documents (p ∷ []) has.read (ap (λ q. q ∷ []) read) new.0, new.1)
-takes_text_on added.Refused texts t p r s read has new = (record { documents = has.documents; read = has.read; taken = new.0 }, new.1)
 
 no_texts_taken : (o : HeldPatches) → HasTaken o [] → HasTakenTexts o []
 no_texts_taken o none = record { documents = []; read = refl; taken = none }

@@ -65,10 +65,6 @@ module _ {A : Type 0} (limit : ℕ) (text : List ℕ) where
   written_so Good (Ok t) is good = good (string_bytes t) is.0
   written_so Good (Err fault) is good = tt
 
-  pub written_within : (r : Result (String A) LiveFault) → IsWritten r → IfOk r (λ t. length (string_bytes t) ≤ limit)
-  written_within (Ok t) is = is.1
-  written_within (Err fault) is = tt
-
 -- ---- whether anything was taken
 
 -- where two conflict something was

@@ -61,7 +61,8 @@ pub record AreClashesWith (received : List Document) (patch : Document) (places 
   pub rising : IsStrictlySortedBy path_cmp places
   pub all : (w : Path) → Contains places w ↔ ClashesWithAMember received patch w
 
--- of these places those that come first, as many as weigh at most the limit together, and how many there are in all
+-- of these places those that come first, as many as weigh at most the limit together (all if there is no limit), and how many
+-- there are in all
 pub record AreFirstClashesWith (limit : ℕ) (received : List Document) (patch : Document) (places : List Path) (total : ℕ) : Type 0 where
   pub all : List Path
   pub clashes : AreClashesWith received patch all

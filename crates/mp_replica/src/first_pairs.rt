@@ -1,5 +1,5 @@
 //! The pairs of stored patches that conflict and come first, as many as a limit allows.
-ghost use Rattle.std.specs.Prelude.{◌≡◌, ◌↔◌, false, map, IfOk, IsTrue, OnOk};
+ghost use Rattle.std.specs.Prelude.{◌≡◌, ◌↔◌, false, map, IfOk, IsTrue};
 ghost use Rattle.std.specs.List.Sorted.{IsStrictlySortedBy};
 ghost use Rattle.std.specs.declared.cmp.Ordering.TheVariants.{Less};
 ghost use Rattle.mp_replica.specs.PatchLog.{IsAmong, identity_cmp, pair_cmp, seen, stored_in};
@@ -8,8 +8,8 @@ ghost use Rattle.mp_replica.specs.Private.Pairs.{AreOrdered, Lists, ListsPair};
 use crate::first_places::left_of;
 use crate::laws::merge_laws;
 use crate::message::Identity;
-use crate::pairs::ConflictingPair;
-use mp_merge::{Conflicts, compatible, conflict_within};
+use crate::pairs::{ConflictingPair, clashing};
+use mp_merge::{Conflicts, conflict_within};
 use mp_tree::Doc;
 use std::alloc::{AllocError, Global};
 use std::collections::{BTreeMap, BTreeSet};
@@ -24,14 +24,6 @@ pub struct FirstPairs {
     pub pairs: Vec<ConflictingPair>,
     /// Whether there are more pairs, or more places of the last one.
     pub more: bool,
-}
-
-// The pairs so far, what is left of the limit, and whether that has ended the list.
-#[derive(Drop)]
-pub(crate) struct Listing {
-    pairs: Vec<ConflictingPair>,
-    left: usize,
-    more: bool,
 }
 
 // The first of these pairs that conflicts and is asked for: each, or those of an identity.
@@ -49,32 +41,20 @@ pub(crate) fn first_pairs(
         × (found.more ≡ false → passed ≡ known.now.keys)
         × IsStrictlySortedBy pair_cmp known.now.keys) }
 {
-    let mut listing = Listing {
+    let mut found = FirstPairs {
         pairs: Vec::new(alloc),
-        left: limit,
         more: false,
     };
+    let mut left = limit;
     for pair in known.iter() {
-        if listing.more {
-            return Ok(found_of(listing));
+        if found.more {
+            return Ok(found);
         }
         if is_among(of, pair.0, pair.1) {
-            list_pair(alloc, pair.0, pair.1, patches, &mut listing)?;
+            left = list_pair(alloc, pair.0, pair.1, patches, left, &mut found)?;
         }
     }
-    Ok(found_of(listing))
-}
-
-fn found_of(listing: Listing) -> FirstPairs
-    ensures pairs { result.pairs ≡ listing.pairs }
-    ensures more { result.more ≡ listing.more }
-{
-    let Listing {
-        pairs,
-        left: _,
-        more,
-    } = listing;
-    FirstPairs { pairs, more }
+    Ok(found)
 }
 
 // Whether the pair is asked for.
@@ -87,38 +67,36 @@ fn is_among(of: Option<Identity>, first: Identity, second: Identity) -> bool
     }
 }
 
-// Adds the two, if they conflict.
+// Adds the two, if they conflict, and says what is left.
 fn list_pair(
     alloc: Global,
     first: Identity,
     second: Identity,
     patches: &BTreeMap<Identity, Doc>,
-    listing: &mut Listing,
-) -> Result<(), AllocError>
+    left: usize,
+    found: &mut FirstPairs,
+) -> Result<usize, AllocError>
     requires order { identity_cmp first second ≡ Less }
-    requires going { listing.old.more ≡ false }
-    ensures { OnOk result (ListsPair (stored_in patches.now.entries) first second
-        (map seen listing.old.pairs.items) (map seen listing.new.pairs.items)
-        listing.old.left listing.new.left listing.new.more) }
+    requires going { found.old.more ≡ false }
+    ensures { IfOk result (λ rest. ListsPair (stored_in patches.now.entries) first second
+        (map seen found.old.pairs.items) (map seen found.new.pairs.items)
+        left rest found.new.more) }
 {
     merge_laws();
-    let (Some(one), Some(other)) = (patches.get(&first), patches.get(&second)) else {
-        return Ok(());
+    let Some((one, other)) = clashing(first, second, patches) else {
+        return Ok(left);
     };
-    if compatible(one, other) {
-        return Ok(());
-    }
-    let Some(left) = listing.left.checked_sub(PAIR_WEIGHT) else {
-        listing.more = true;
-        return Ok(());
+    let Some(budget) = left.checked_sub(PAIR_WEIGHT) else {
+        found.more = true;
+        return Ok(left);
     };
-    let Conflicts { places, total } = conflict_within(alloc, one, other, left)?;
-    listing.more = places.len() < total;
-    listing.left = left_of(places.as_slice(), left).unwrap_or(0);
-    listing.pairs.push(ConflictingPair {
+    let Conflicts { places, total } = conflict_within(alloc, one, other, budget)?;
+    found.more = places.len() < total;
+    let rest = left_of(places.as_slice(), budget).unwrap_or(0);
+    found.pairs.push(ConflictingPair {
         first,
         second,
         places,
     })?;
-    Ok(())
+    Ok(rest)
 }

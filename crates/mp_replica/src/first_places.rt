@@ -1,16 +1,8 @@
 //! The places of a conflict that come first, as many as may be held.
-ghost use Rattle.mp_merge.specs.Clash.{Compatible};
 ghost use Rattle.mp_merge.specs.Within.{places_weight};
-ghost use Rattle.mp_tree.specs.View.{document};
-ghost use Rattle.std.specs.Prelude.{◌≡◌, ◌<◌, ◌+◌, Some, MatchOption};
-ghost use Rattle.mp_replica.specs.Held.{held_places};
-ghost use Rattle.mp_replica.specs.Private.Steps.{HoldsClashesWithJoin};
+ghost use Rattle.std.specs.Prelude.{◌≡◌, ◌<◌, ◌+◌, MatchOption};
 
-use crate::laws::merge_laws;
-use mp_merge::{Conflicts, conflict_within};
 use mp_pointer::Pointer;
-use mp_tree::Doc;
-use std::alloc::Global;
 
 // What the places of a conflict that are held weigh at most, in bytes.
 pub(crate) const PLACES_BOUND: usize = 65_536;
@@ -23,25 +15,6 @@ pub struct FirstPlaces {
     pub places: Vec<Pointer>,
     /// Whether there are more.
     pub more: bool,
-}
-
-// The first conflicts of two patches that conflict. If memory runs out, none is held, and there are more.
-pub(crate) fn first_places(alloc: Global, patch: &Doc, joined: &Doc) -> FirstPlaces
-    requires { ¬ Compatible (document patch.now) (document joined.now) }
-    ensures { HoldsClashesWithJoin (Some (document joined.now)) (document patch.now)
-        (held_places result) }
-{
-    merge_laws();
-    match conflict_within(alloc, patch, joined, PLACES_BOUND) {
-        Ok(Conflicts { places, total }) => {
-            let more = places.len() < total;
-            FirstPlaces { places, more }
-        }
-        Err(_) => FirstPlaces {
-            places: Vec::new(alloc),
-            more: true,
-        },
-    }
 }
 
 // What remains of a budget once the weight of these places is taken from it.

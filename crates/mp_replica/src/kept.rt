@@ -1,12 +1,13 @@
 //! The kept form of patches that are gathered without a start: one text, for a state that is stored or sent.
-ghost use Rattle.std.specs.Prelude.{◌≡◌, ◌↔◌, ◌++◌, ◌≤◌, List, [], length, map, Ok, IfOk, IfErr, MatchResult, string_bytes};
+ghost use Rattle.std.specs.Prelude.{◌≡◌, ◌≢◌, ◌↔◌, ◌++◌, ◌≤◌, List, [], length, map, Ok, IfOk, IfErr, MatchOption, MatchResult, string_bytes};
 ghost use Rattle.std.specs.List.{All};
 ghost use Rattle.mp_tree.specs.Document.{Document, IsReadable};
+ghost use Rattle.mp_tree.specs.Look.{Path};
 ghost use Rattle.mp_tree.specs.View.{document};
 ghost use Rattle.mp_texts.specs.Answers.{place_of};
 ghost use Rattle.mp_replica.specs.Held.{HeldPatches, held_places};
 ghost use Rattle.mp_replica.specs.Kept.{IsHeldBy, IsKept, IsKeptText, IsNoKept, IsNotKeptYet, marks};
-ghost use Rattle.mp_replica.specs.Private.Places.{AreMarkedRead, AreMarkedUnread, AreNotPlaces, AreRead, AreUnread, IsNoPlace};
+ghost use Rattle.mp_replica.specs.Private.Places.{AreMarkedRead, AreMarkedUnread, AreRead, AreUnread};
 ghost use Rattle.mp_replica.specs.Taking.{HasTaken};
 
 use crate::fault::LiveFault;
@@ -78,10 +79,10 @@ impl Patches {
         }
         if kept[0] == b'!' {
             let places = conflict_of(alloc, &kept[1..])?;
-            return Ok(Patches::of_conflict(places));
+            return Ok(Patches::of(None, Some(places)));
         }
         let joined = document_of(alloc, kept)?;
-        Ok(Patches::of_join(joined))
+        Ok(Patches::of(Some(joined), None))
     }
 }
 
@@ -115,36 +116,43 @@ fn array_of(alloc: Global, more: bool, text: &[u8]) -> Result<FirstPlaces, LiveF
     let Doc::Items(spellings) = document_of(alloc, text)? else {
         return Err(LiveFault::NotKept);
     };
-    let places = places_of(alloc, spellings.as_slice())?;
+    let Some(places) = places_of(alloc, spellings.as_slice())? else {
+        return Err(LiveFault::NotKept);
+    };
     if !are_kept(places.as_slice(), more) {
         return Err(LiveFault::NotKept);
     }
     Ok(FirstPlaces { places, more })
 }
 
-fn places_of(alloc: Global, spellings: &[Doc]) -> Result<Vec<Pointer>, LiveFault>
-    ensures { MatchResult result
-        (λ places. map document spellings.now ≡ map place_of places.items)
-        (λ fault. AreNotPlaces fault (map document spellings.now)) }
+// The places that these spell; None if one of them spells none.
+fn places_of(alloc: Global, spellings: &[Doc]) -> Result<Option<Vec<Pointer>>, AllocError>
+    ensures { IfOk result (λ found. MatchOption found
+        ((places : List Path) → map document spellings.now ≢ map place_of places)
+        (λ places. map document spellings.now ≡ map place_of places.items)) }
 {
     let mut places = Vec::with_capacity(alloc, spellings.len())?;
     for spelling in spellings {
-        places.push(place_in(alloc, spelling)?)?;
+        let Some(place) = place_in(alloc, spelling)? else {
+            return Ok(None);
+        };
+        places.push(place)?;
     }
-    Ok(places)
+    Ok(Some(places))
 }
 
-fn place_in(alloc: Global, spelling: &Doc) -> Result<Pointer, LiveFault>
-    ensures { MatchResult result (λ place. document spelling.now ≡ place_of place)
-        (λ fault. IsNoPlace fault (document spelling.now)) }
+fn place_in(alloc: Global, spelling: &Doc) -> Result<Option<Pointer>, AllocError>
+    ensures { IfOk result (λ found. MatchOption found
+        ((place : Path) → document spelling.now ≢ place_of place)
+        (λ place. document spelling.now ≡ place_of place)) }
 {
     pointing::spellings_have_no_fault();
     let Doc::Text(text) = spelling else {
-        return Err(LiveFault::NotKept);
+        return Ok(None);
     };
     match Pointer::parse(alloc, text.as_str()) {
-        Ok(place) => Ok(place),
-        Err(PointerFault::OutOfMemory) => Err(LiveFault::OutOfMemory),
-        Err(_) => Err(LiveFault::NotKept),
+        Ok(place) => Ok(Some(place)),
+        Err(PointerFault::OutOfMemory) => Err(AllocError),
+        Err(_) => Ok(None),
     }
 }

@@ -104,7 +104,7 @@ pub(crate) fn merge_laws()
     merge::applies_at_each_name();
     merge::merging_again();
     merge::all_conflicts();
-    merge::clash_with_a_join();
+    merge::conflict_with_a_join();
     merge::join_exists();
     merge::join_grows();
     merge::join_in_parts();

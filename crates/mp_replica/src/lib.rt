@@ -20,6 +20,7 @@ mod patches_texts;
 mod reading;
 mod replica;
 mod replica_texts;
+mod stored_join;
 mod stored_patches;
 mod writing;
 

@@ -1,15 +1,14 @@
 //! A join that stays in memory, and a patch that was received and is not joined whole yet.
-ghost use Rattle.std.specs.Prelude.{◌≡◌, ◌↔◌, None, Some, IsTrue, IfOk, IfSome, MatchOption, option_map, ⊤};
+ghost use Rattle.std.specs.Prelude.{◌≡◌, ◌≢◌, ◌↔◌, ◌⊎◌, None, Some, IsTrue, IfOk, IfSome, MatchOption, option_map, ⊤};
 ghost use Rattle.std.specs.Coded.{codes};
 ghost use Rattle.mp_tree.specs.View.{document};
-ghost use Rattle.mp_merge.specs.Clash.{AreAllClashes, Compatible};
+ghost use Rattle.mp_merge.specs.Clash.{Compatible};
 ghost use Rattle.mp_replica.specs.Held.{held_places};
-ghost use Rattle.mp_replica.specs.Private.Steps.{ClashesWithJoin, FirstClashesWithJoin, Fits, GrewTo, HoldsClashesWithJoin, JoinsStay, Regrows};
+ghost use Rattle.mp_replica.specs.Private.Steps.{FirstClashesWithJoin, Fits, GrewTo, HoldsClashesWithJoin, IsOffered, JoinsStay, Regrows};
 
-use crate::first_places::{FirstPlaces, first_places};
+use crate::first_places::{FirstPlaces, PLACES_BOUND};
 use crate::laws::merge_laws;
-use mp_merge::{Conflicts, compatible, conflict, conflict_within, join_into};
-use mp_pointer::Pointer;
+use mp_merge::{Conflicts, conflict_within, join_into};
 use mp_tree::Doc;
 use std::alloc::{AllocError, Global};
 use std::marker::Model;
@@ -27,6 +26,8 @@ pub(crate) struct LiveJoin {
     joined: Option<Doc>,
     // Received last, and compatible with what is joined, which may have a part of it.
     pending: Option<Doc>,
+    // Whether what is joined has all of it.
+    is_joined: bool,
 }
 
 impl Model for LiveJoin {
@@ -34,7 +35,7 @@ impl Model for LiveJoin {
     ghost use Rattle.std.specs.Coded.{codes};
     ghost use Rattle.mp_tree.specs.View.{document};
     ghost use Rattle.mp_tree.specs.contracts.doc.Doc.{the_row};
-    ghost use Rattle.mp_replica.specs.Private.Steps.{Fits, HeldJoin};
+    ghost use Rattle.mp_replica.specs.Private.Steps.{HeldJoin, IsHeld};
 
     ghost Value = { HeldJoin };
 
@@ -42,74 +43,45 @@ impl Model for LiveJoin {
 
     ghost coded = { Prim.hlevel (codes, the_row.coded) };
 
-    ghost invariant = { λ r. Fits (option_map document r.joined) (option_map document r.pending) };
+    ghost invariant = { λ r. IsHeld (option_map document r.joined)
+        (option_map document r.pending) r.is_joined };
 }
 
 impl LiveJoin {
-    pub(crate) fn new() -> LiveJoin
-        ensures joined { result.joined ≡ None }
-        ensures pending { result.pending ≡ None }
-    {
-        LiveJoin {
-            joined: None,
-            pending: None,
-        }
-    }
-
     // With this join, and nothing pending.
-    pub(crate) fn of(joined: Doc) -> LiveJoin
-        ensures joined { result.joined ≡ Some joined }
+    pub(crate) fn of(joined: Option<Doc>) -> LiveJoin
+        ensures joined { result.joined ≡ joined }
         ensures pending { result.pending ≡ None }
     {
         LiveJoin {
-            joined: Some(joined),
+            joined,
             pending: None,
+            is_joined: false,
         }
     }
 
+    // What is joined, unless a patch is pending.
     pub(crate) fn joined(&self) -> Option<&Doc>
-        ensures { option_map (λ j. j.now) result ≡ self.now.joined }
+        ensures { MatchOption result ((self.now.pending ≢ None) ⊎ (self.now.joined ≡ None))
+            (λ j. (self.now.pending ≡ None) × (self.now.joined ≡ Some j.now)) }
     {
-        self.joined.as_ref()
+        self.if_settled(self.joined.as_ref())
     }
 
-    // What is pending, which fits.
     pub(crate) fn pending(&self) -> Option<&Doc>
-        ensures value { option_map (λ p. p.now) result ≡ self.now.pending }
-        ensures fits { Fits (option_map document self.now.joined)
-            (option_map document self.now.pending) }
+        ensures { option_map (λ p. p.now) result ≡ self.now.pending }
     {
         self.pending.as_ref()
     }
 
-    // Whether the patch is compatible with what is joined.
-    pub(crate) fn fits(&self, patch: &Doc) -> bool
-        ensures { IsTrue result
-            ↔ IfSome (option_map document self.now.joined) (Compatible (document patch.now)) }
+    // What is held, unless a patch is pending.
+    pub(crate) fn if_settled<'a>(&self, held: Option<&'a Doc>) -> Option<&'a Doc>
+        ensures { MatchOption result ((self.now.pending ≢ None) ⊎ (held.entry ≡ None))
+            (λ d. (self.now.pending ≡ None) × (held.entry ≡ Some d)) }
     {
-        match &self.joined {
-            Some(joined) => compatible(patch, joined),
-            None => true,
-        }
-    }
-
-    // All conflicts of the patch with what is joined; None if there are none.
-    pub(crate) fn conflicts(
-        &self,
-        alloc: Global,
-        patch: &Doc,
-    ) -> Result<Option<Vec<Pointer>>, AllocError>
-        ensures { IfOk result (λ found. MatchOption found
-            (IfSome (option_map document self.now.joined) (Compatible (document patch.now)))
-            (λ places. ClashesWithJoin (option_map document self.now.joined)
-            (document patch.now) places.items)) }
-    {
-        if self.fits(patch) {
-            return Ok(None);
-        }
-        match &self.joined {
-            Some(joined) => Ok(Some(conflict(alloc, patch, joined)?)),
-            None => Ok(None),
+        match &self.pending {
+            Some(_) => None,
+            None => held,
         }
     }
 
@@ -132,20 +104,24 @@ impl LiveJoin {
         }
     }
 
-    // The first conflicts of the patch with what is joined; None if there are none.
-    pub(crate) fn first_conflicts(&self, alloc: Global, patch: &Doc) -> Option<FirstPlaces>
-        ensures { MatchOption result
-            (IfSome (option_map document self.now.joined) (Compatible (document patch.now)))
-            (λ found. HoldsClashesWithJoin (option_map document self.now.joined)
-            (document patch.now) (held_places found)) }
+    // The first conflicts of a patch that does not fit. If memory runs out, none is held, and there are more.
+    pub(crate) fn first_conflicts(&self, alloc: Global, patch: &Doc) -> FirstPlaces
+        requires { ¬ IfSome (option_map document self.now.joined)
+            (Compatible (document patch.now)) }
+        ensures { HoldsClashesWithJoin (option_map document self.now.joined) (document patch.now)
+            (held_places result) }
     {
-        let Some(joined) = &self.joined else {
-            return None;
-        };
-        if compatible(patch, joined) {
-            return None;
+        merge_laws();
+        match self.conflicts_within(alloc, patch, PLACES_BOUND) {
+            Ok(Conflicts { places, total }) => {
+                let more = places.len() < total;
+                FirstPlaces { places, more }
+            }
+            Err(_) => FirstPlaces {
+                places: Vec::new(alloc),
+                more: true,
+            },
         }
-        Some(first_places(alloc, patch, joined))
     }
 
     // Whether what is joined weighs less than what the other has joined. Both are read as far as the lighter one goes: each
@@ -167,13 +143,25 @@ impl LiveJoin {
         false
     }
 
-    // Receives a patch that fits. It is pending until `settle`.
-    pub(crate) fn put(&mut self, patch: Doc)
-        requires fits { IfSome (option_map document self.old.joined) (Compatible (document patch)) }
-        ensures joined { self.new.joined ≡ self.old.joined }
-        ensures pending { self.new.pending ≡ Some patch }
+    // Receives a patch if it fits: what is joined has it then, as far as there was memory, and it is pending until `settle`.
+    // Hands back one that does not fit: then nothing is changed.
+    pub(crate) fn offer(&mut self, alloc: Global, patch: Doc) -> Option<Doc>
+        requires settled { self.old.pending ≡ None }
+        ensures { MatchOption result (IsOffered self.old patch self.new)
+            (λ back. (back ≡ patch) × (self.new ≡ self.old)
+            × ¬ IfSome (option_map document self.old.joined) (Compatible (document patch))) }
     {
+        merge_laws();
+        self.is_joined = match &mut self.joined {
+            Some(joined) => match join_into(alloc, joined, &patch) {
+                Ok(true) => true,
+                Ok(false) => return Some(patch),
+                Err(_) => false,
+            },
+            None => false,
+        };
         self.pending = Some(patch);
+        None
     }
 
     // Joins what is pending. False if memory ran out: it is pending still.
@@ -187,6 +175,9 @@ impl LiveJoin {
         let Some(patch) = mem::replace(&mut self.pending, None) else {
             return true;
         };
+        if self.is_joined {
+            return true;
+        }
         self.pending = grow(&mut self.joined, patch, alloc);
         self.pending.is_none()
     }

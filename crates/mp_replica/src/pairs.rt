@@ -1,13 +1,11 @@
 //! The pairs of stored patches that conflict.
 ghost use Rattle.std.specs.Prelude.{◌≡◌, ◌↔◌, None, map, IfOk, IsTrue, MatchOption, OnOk};
 ghost use Rattle.std.specs.List.Sorted.{IsStrictlySortedBy};
-ghost use Rattle.std.specs.declared.cmp.Ordering.TheVariants.{Less};
 ghost use Rattle.mp_tree.specs.View.{document};
-ghost use Rattle.mp_replica.specs.PatchLog.{DoClash, IsClashing, identities_of, identity_cmp, pair_cmp, seen, stored_in};
-ghost use Rattle.mp_replica.specs.Private.Pairs.{AreOf, AreOrdered, HasBoth, Includes, IsFirstAmong, NoneAmong, Notes};
+ghost use Rattle.mp_replica.specs.PatchLog.{DoClash, pair_cmp, seen, stored_in};
+ghost use Rattle.mp_replica.specs.Private.Pairs.{AreClashing, AreOf, AreOrdered, HasBoth, Includes, IsFirstAmong, NoneAmong, Notes};
 ghost use Rattle.mp_replica.specs.Private.StoredPatches.{FitsAll};
 
-use crate::laws::merge_laws;
 use crate::message::Identity;
 use mp_merge::{compatible, conflict};
 use mp_pointer::Pointer;
@@ -85,9 +83,13 @@ pub(crate) fn all_pairs(
 {
     let mut pairs = Vec::new(alloc);
     for pair in known.iter() {
-        let found = pair_of(alloc, pair.0, pair.1, patches)?;
-        if let Some(clashing) = found {
-            pairs.push(clashing)?;
+        if let Some((one, other)) = clashing(pair.0, pair.1, patches) {
+            let places = conflict(alloc, one, other)?;
+            pairs.push(ConflictingPair {
+                first: pair.0,
+                second: pair.1,
+                places,
+            })?;
         }
     }
     Ok(pairs)
@@ -107,7 +109,7 @@ pub(crate) fn first_pair(
     for pair in known.iter() {
         if chosen.contains(&pair.0)
             && chosen.contains(&pair.1)
-            && do_clash(pair.0, pair.1, patches)
+            && clashing(pair.0, pair.1, patches).is_some()
         {
             return Some(*pair);
         }
@@ -115,43 +117,20 @@ pub(crate) fn first_pair(
     None
 }
 
-// Whether both are stored, and conflict.
-fn do_clash(first: Identity, second: Identity, patches: &BTreeMap<Identity, Doc>) -> bool
-    ensures { IsTrue result ↔ DoClash (stored_in patches.now.entries) first second }
-{
-    match (patches.get(&first), patches.get(&second)) {
-        (Some(one), Some(other)) => !compatible(one, other),
-        _ => false,
-    }
-}
-
-// How the two that are stored there conflict; None if they do not, or not both are stored.
-fn pair_of(
-    alloc: Global,
+// The patches that are stored under the two, if both are there and conflict.
+pub(crate) fn clashing<'a>(
     first: Identity,
     second: Identity,
-    patches: &BTreeMap<Identity, Doc>,
-) -> Result<Option<ConflictingPair>, AllocError>
-    requires { identity_cmp first second ≡ Less }
-    ensures { IfOk result (λ found. MatchOption found
-        (¬ DoClash (stored_in patches.now.entries) first second)
-        (λ pair. (identities_of (seen pair) ≡ (first, second))
-        × IsClashing (stored_in patches.now.entries) (seen pair))) }
+    patches: &'a BTreeMap<Identity, Doc>,
+) -> Option<(&'a Doc, &'a Doc)>
+    ensures { MatchOption result (¬ DoClash (stored_in patches.now.entries) first second)
+        (λ two. AreClashing (stored_in patches.now.entries) first second
+        (document two.0.now) (document two.1.now)) }
 {
-    merge_laws();
-    let Some(one) = patches.get(&first) else {
-        return Ok(None);
-    };
-    let Some(other) = patches.get(&second) else {
-        return Ok(None);
-    };
+    let one = patches.get(&first)?;
+    let other = patches.get(&second)?;
     if compatible(one, other) {
-        return Ok(None);
+        return None;
     }
-    let places = conflict(alloc, one, other)?;
-    Ok(Some(ConflictingPair {
-        first,
-        second,
-        places,
-    }))
+    Some((one, other))
 }

@@ -2,7 +2,7 @@
 ghost use Rattle.std.specs.Prelude.{◌≡◌, ◌≢◌, ◌∷◌, ◌++◌, ◌<◌, ℕ, List, [], None, Some, length, map, Ok, IfOk, IfErr, MatchOption, OnOk, OnErr, ⊤};
 ghost use Rattle.mp_tree.specs.Document.{Document};
 ghost use Rattle.mp_tree.specs.View.{document};
-ghost use Rattle.mp_replica.specs.Messages.{LogFollows, Sent, sent};
+ghost use Rattle.mp_replica.specs.Messages.{Becomes, LogFollows, Sent, sent};
 ghost use Rattle.mp_replica.specs.PatchLog.{AreAllPairs, AreFirstPairs, AreFirstPairsOf, Begins, IsDecideFault, Shows, StoresAlso, seen, start_of, stored_of};
 ghost use Rattle.mp_replica.specs.Private.StoredPatches.{IsShownAfter};
 
@@ -122,20 +122,57 @@ impl PatchLog {
             → LogFollows epoch start (messages ++ sent message.now ∷ []) self.new) }
         ensures unchanged { OnErr result (self.new ≡ self.old) }
     {
-        if message.epoch < self.epoch {
-            return Ok(Arrival::Late);
-        }
-        if message.epoch > self.epoch {
-            return Ok(Arrival::Early);
-        }
-        if self.stored.has(message.identity) {
-            return Ok(Arrival::Repeat);
+        if let Some(arrival) = self.passed_over(message.epoch, message.identity) {
+            return Ok(arrival);
         }
         let patch = message.patch.copy(alloc)?;
-        let standing = self.stored.insert(alloc, message.identity, patch)?;
-        let shown = mem::replace(&mut self.shown, None);
-        self.shown = shown_after(alloc, shown, standing, &message.patch);
+        self.store(alloc, message.identity, patch)?;
         Ok(Arrival::Stored)
+    }
+
+    // What becomes of a message whose patch is not stored. None if it is to be stored.
+    pub(crate) fn passed_over(&self, epoch: u64, identity: Identity) -> Option<Arrival>
+        ensures { MatchOption result
+            ((epoch ≡ self.now.epoch) × (stored_of self.now identity ≡ None))
+            (λ what. (p : Document) → Becomes what
+            (record { epoch = epoch; identity = identity; patch = p }) self.now self.now) }
+    {
+        if epoch < self.epoch {
+            return Some(Arrival::Late);
+        }
+        if epoch > self.epoch {
+            return Some(Arrival::Early);
+        }
+        if self.stored.has(identity) {
+            return Some(Arrival::Repeat);
+        }
+        None
+    }
+
+    // Stores a patch of this start under an identity that has none, and brings what is shown up to date.
+    pub(crate) fn store(
+        &mut self,
+        alloc: Global,
+        identity: Identity,
+        patch: Doc,
+    ) -> Result<(), AllocError>
+        requires { stored_of self.old identity ≡ None }
+        ensures stored { OnOk result
+            (StoresAlso (stored_of self.old) identity (document patch) (stored_of self.new)) }
+        ensures start { self.new.start ≡ self.old.start }
+        ensures epoch { self.new.epoch ≡ self.old.epoch }
+        ensures unchanged { OnErr result (self.new ≡ self.old) }
+    {
+        let standing = self.stored.insert(alloc, identity, patch)?;
+        if self.shown.is_none() {
+            return Ok(());
+        }
+        let shown = mem::replace(&mut self.shown, None);
+        let Some(patch) = self.stored.get(identity) else {
+            return Ok(());
+        };
+        self.shown = shown_after(alloc, shown, standing, patch);
+        Ok(())
     }
 
     /// The document that the log shows: the outcome of its start and of the patches that conflict with no other. `AllocError` if

@@ -9,7 +9,7 @@ ghost use Rattle.mp_replica.specs.PatchLog.{AreFirstPairsOf, Shows, Stored, seen
 
 use crate::fault::LiveFault;
 use crate::first_pairs::FirstPairs;
-use crate::message::{Arrival, Identity, Message};
+use crate::message::{Arrival, Identity};
 use crate::pairs_texts::{PairsText, write_pairs, write_pairs_within};
 use crate::patch_log::PatchLog;
 use crate::reading::document_of;
@@ -63,12 +63,11 @@ impl PatchLog {
         ensures unchanged { OnErr result (self.new ≡ self.old) }
     {
         let patch = document_of(alloc, patch)?;
-        let message = Message {
-            epoch,
-            identity,
-            patch,
-        };
-        Ok(self.receive(alloc, &message)?)
+        if let Some(arrival) = self.passed_over(epoch, identity) {
+            return Ok(arrival);
+        }
+        self.store(alloc, identity, patch)?;
+        Ok(Arrival::Stored)
     }
 
     /// The compact text of the document that the log shows, as [`PatchLog::document`] gives it.

@@ -2,9 +2,7 @@
 ghost use Rattle.std.specs.Prelude.{◌≡◌, ◌≢◌, ◌↔◌, ◌⊎◌, ◌∷◌, ◌++◌, ℕ, List, [], None, Some, IsTrue, IfOk, IfSome, MatchOption, option_map};
 ghost use Rattle.mp_tree.specs.Document.{Document};
 ghost use Rattle.mp_tree.specs.View.{document};
-ghost use Rattle.mp_merge.specs.Clash.{Compatible};
 ghost use Rattle.mp_replica.specs.Held.{HoldsClashesBetween, HoldsClashesWith, held_places};
-ghost use Rattle.mp_replica.specs.Private.Steps.{HoldsClashesWithAll};
 ghost use Rattle.mp_replica.specs.Taking.{HasTaken, TakesAll, TakesOne};
 ghost use Rattle.mp_replica.specs.Texts.{HasTakenTexts};
 
@@ -68,33 +66,20 @@ impl Patches {
         ensures places { result.places ≡ None }
     {
         merge_laws();
-        Patches {
-            join: LiveJoin::new(),
-            places: None,
-        }
+        Patches::of(None, None)
     }
 
-    // With this join alone.
-    pub(crate) fn of_join(joined: Doc) -> Patches
-        ensures joined { result.joined ≡ Some joined }
-        ensures pending { result.pending ≡ None }
-        ensures places { result.places ≡ None }
+    // With this join, or with these places of a conflict.
+    pub(crate) fn of(joined: Option<Doc>, places: Option<FirstPlaces>) -> Patches
+        ensures { result ≡ record {
+          joined = joined;
+          pending = None;
+          places = option_map held_places places;
+        } }
     {
         Patches {
             join: LiveJoin::of(joined),
-            places: None,
-        }
-    }
-
-    // With these places of a conflict alone.
-    pub(crate) fn of_conflict(places: FirstPlaces) -> Patches
-        ensures joined { result.joined ≡ None }
-        ensures pending { result.pending ≡ None }
-        ensures places { result.places ≡ Some (held_places places) }
-    {
-        Patches {
-            join: LiveJoin::new(),
-            places: Some(places),
+            places,
         }
     }
 
@@ -118,74 +103,37 @@ impl Patches {
             → (result ≡ Added.Conflict) × (self.new ≡ self.old) }
     {
         merge_laws();
-        match &self.places {
-            Some(_) => Added::Conflict,
-            None => self.add_next(alloc, patch),
+        if self.places.is_some() {
+            return Added::Conflict;
         }
+        if !self.settle(alloc) {
+            return Added::Refused;
+        }
+        self.add_one(alloc, patch)
     }
 
-    // The same if no two conflict yet.
-    fn add_next(&mut self, alloc: Global, patch: Doc) -> Added
-        requires { self.old.places ≡ None }
+    // The same if nothing is pending and nothing conflicts.
+    fn add_one(&mut self, alloc: Global, patch: Doc) -> Added
+        requires places { self.old.places ≡ None }
+        requires settled { self.old.pending ≡ None }
         ensures taken { (taken : List Document) → HasTaken self.old taken
             → TakesOne HasTaken result taken (document patch) self.new }
         ensures seen { (taken : List Document) → HasTaken self.old taken
             → IfSome self.new.places (HoldsClashesWith taken (document patch)) }
         ensures conflict { (result ≡ Added.Conflict) ↔ (self.new.places ≢ None) }
+        ensures received { result ≢ Added.Refused }
     {
         merge_laws();
-        if !self.settle(alloc) {
-            return Added::Refused;
+        if let Some(patch) = self.join.offer(alloc, patch) {
+            let places = self.join.first_conflicts(alloc, &patch);
+            *self = Patches::of(None, Some(places));
+            return Added::Conflict;
         }
-        match self.join.first_conflicts(alloc, &patch) {
-            Some(places) => {
-                self.keep(places);
-                Added::Conflict
-            }
-            None => self.join_one(alloc, patch),
-        }
-    }
-
-    // One more patch that fits, if nothing is pending and nothing conflicts.
-    fn join_one(&mut self, alloc: Global, patch: Doc) -> Added
-        requires places { self.old.places ≡ None }
-        requires settled { self.old.pending ≡ None }
-        requires fits { IfSome (option_map document self.old.joined) (Compatible (document patch)) }
-        ensures taken { (taken : List Document) → HasTaken self.old taken
-            → TakesOne HasTaken result taken (document patch) self.new }
-        ensures places { self.new.places ≡ None }
-        ensures received { (result ≡ Added.Joined) ⊎ (result ≡ Added.Pending) }
-    {
-        merge_laws();
-        self.put(patch);
         if self.settle(alloc) {
             Added::Joined
         } else {
             Added::Pending
         }
-    }
-
-    // Takes a patch that fits. It is pending until `settle`.
-    fn put(&mut self, patch: Doc)
-        requires places { self.old.places ≡ None }
-        requires settled { self.old.pending ≡ None }
-        requires fits { IfSome (option_map document self.old.joined) (Compatible (document patch)) }
-        ensures taken { (taken : List Document) → HasTaken self.old taken
-            → HasTaken self.new (taken ++ document patch ∷ []) }
-        ensures places { self.new.places ≡ None }
-    {
-        merge_laws();
-        self.join.put(patch);
-    }
-
-    // From now on two conflict, at these places; the join is not needed any more.
-    fn keep(&mut self, places: FirstPlaces)
-        ensures places { self.new.places ≡ Some (held_places places) }
-        ensures joined { self.new.joined ≡ None }
-        ensures pending { self.new.pending ≡ None }
-    {
-        self.join = LiveJoin::new();
-        self.places = Some(places);
     }
 
     /// Makes good what is pending: false if memory ran out again. Nothing is lost then, and the call can be made again. If
@@ -230,11 +178,11 @@ impl Patches {
     {
         merge_laws();
         if self.places.is_some() {
-            other.clear();
+            *other = Patches::new();
             return Added::Conflict;
         }
         if other.places.is_some() {
-            self.take_conflict(other);
+            *self = mem::replace(other, Patches::new());
             return Added::Conflict;
         }
         if !self.settle(alloc) {
@@ -243,30 +191,13 @@ impl Patches {
         if !other.settle(alloc) {
             return Added::Refused;
         }
-        self.join_either(alloc, other)
-    }
-
-    // The same if nothing is pending and nothing conflicts: what weighs less is joined into the other.
-    fn join_either(&mut self, alloc: Global, other: &mut Patches) -> Added
-        requires places { (self.old.places ≡ None) × (other.old.places ≡ None) }
-        requires settled { (self.old.pending ≡ None) × (other.old.pending ≡ None) }
-        ensures taken { (taken others : List Document) → HasTaken self.old taken
-            → HasTaken other.old others → TakesAll HasTaken result taken others self.new other.new }
-        ensures seen { (taken others : List Document) → HasTaken self.old taken
-            → HasTaken other.old others
-            → IfSome self.new.places (HoldsClashesBetween taken others) }
-        ensures conflict { (result ≡ Added.Conflict) ↔ (self.new.places ≢ None) }
-    {
-        merge_laws();
-        if !self.join.is_lighter(&other.join) {
-            return self.join_all(alloc, other);
+        if self.join.is_lighter(&other.join) {
+            mem::swap(self, other);
         }
-        let added = other.join_all(alloc, self);
-        mem::swap(self, other);
-        added
+        self.join_all(alloc, other)
     }
 
-    // The same: what the other has joined is joined into what is joined here.
+    // The same if nothing is pending and nothing conflicts: what the other has joined is joined into what is joined here.
     fn join_all(&mut self, alloc: Global, other: &mut Patches) -> Added
         requires places { (self.old.places ≡ None) × (other.old.places ≡ None) }
         requires settled { (self.old.pending ≡ None) × (other.old.pending ≡ None) }
@@ -276,64 +207,13 @@ impl Patches {
             → HasTaken other.old others
             → IfSome self.new.places (HoldsClashesBetween taken others) }
         ensures conflict { (result ≡ Added.Conflict) ↔ (self.new.places ≢ None) }
-        ensures taken_all { result ≢ Added.Refused }
+        ensures received { result ≢ Added.Refused }
     {
         merge_laws();
-        if let Some(clashes) = self.conflicts_of(alloc, other) {
-            self.keep(clashes);
-            *other = Patches::new();
-            return Added::Conflict;
-        }
-        match other.give() {
-            Some(patch) => self.join_one(alloc, patch),
-            None => Added::Joined,
-        }
-    }
-
-    // The first conflicts of what the other has joined with what is joined here; None if there are none.
-    fn conflicts_of(&self, alloc: Global, other: &Patches) -> Option<FirstPlaces>
-        ensures { MatchOption result
-            (IfSome (option_map document other.now.joined) (λ p.
-            IfSome (option_map document self.now.joined) (Compatible p)))
-            (λ found. HoldsClashesWithAll (option_map document self.now.joined)
-            (option_map document other.now.joined) (held_places found)) }
-    {
-        match other.join.joined() {
-            Some(patch) => self.join.first_conflicts(alloc, patch),
-            None => None,
-        }
-    }
-
-    // What is joined, which is not held any more.
-    fn give(&mut self) -> Option<Doc>
-        requires settled { self.old.pending ≡ None }
-        requires places { self.old.places ≡ None }
-        ensures given { result ≡ self.old.joined }
-        ensures left { HasTaken self.new [] }
-    {
-        merge_laws();
-        self.join.take()
-    }
-
-    // Takes the other's conflict.
-    fn take_conflict(&mut self, other: &mut Patches)
-        ensures places { self.new.places ≡ other.old.places }
-        ensures joined { self.new.joined ≡ None }
-        ensures pending { self.new.pending ≡ None }
-        ensures left { HasTaken other.new [] }
-    {
-        self.join = LiveJoin::new();
-        self.places = mem::replace(&mut other.places, None);
-        *other = Patches::new();
-    }
-
-    // No patches any more.
-    fn clear(&mut self)
-        ensures { HasTaken self.new [] }
-    {
-        merge_laws();
-        self.join = LiveJoin::new();
-        self.places = None;
+        let Some(patch) = other.join.take() else {
+            return Added::Joined;
+        };
+        self.add_one(alloc, patch)
     }
 
     /// Whether a patch is pending: it is taken, and memory ran out before it was joined.
@@ -348,10 +228,7 @@ impl Patches {
         ensures { MatchOption result ((self.now.pending ≢ None) ⊎ (self.now.joined ≡ None))
             (λ j. (self.now.pending ≡ None) × (self.now.joined ≡ Some j.now)) }
     {
-        match self.join.pending() {
-            Some(_) => None,
-            None => self.join.joined(),
-        }
+        self.join.joined()
     }
 
     /// The first places of the first conflict that was seen, in the order of paths. Which conflict that is, and so which places,

@@ -74,7 +74,7 @@ impl Replica {
         merge_laws();
         Replica {
             shown: start,
-            join: LiveJoin::new(),
+            join: LiveJoin::of(None),
         }
     }
 
@@ -98,27 +98,14 @@ impl Replica {
         if !self.settle(alloc) {
             return Received::Refused;
         }
-        if !self.join.fits(&patch) {
+        if let Some(patch) = self.join.offer(alloc, patch) {
             return Received::Conflict(patch);
         }
-        self.put(patch);
         if self.settle(alloc) {
             Received::Taken
         } else {
             Received::Pending
         }
-    }
-
-    // Receives a patch that fits. It is pending until `settle`.
-    fn put(&mut self, patch: Doc)
-        requires settled { self.old.pending ≡ None }
-        requires fits { IfSome (option_map document self.old.joined) (Compatible (document patch)) }
-        ensures follows { (start : Document) (received : List Document)
-            → Follows start received self.old
-            → Follows start (received ++ document patch ∷ []) self.new }
-    {
-        merge_laws();
-        self.join.put(patch);
     }
 
     /// Makes good what is pending: false if memory ran out again. Nothing is lost then, and the call can be made again. If
@@ -162,11 +149,11 @@ impl Replica {
 
     /// What is shown: the outcome of the start and of all that was received. None exactly while a patch is pending, so that
     /// none is shown in part.
-    pub fn shown(&self) -> Option<&Doc>
+    pub fn document(&self) -> Option<&Doc>
         ensures { MatchOption result (self.now.pending ≢ None)
             (λ d. (self.now.pending ≡ None) × (d.now ≡ self.now.shown)) }
     {
-        self.if_settled(Some(&self.shown))
+        self.join.if_settled(Some(&self.shown))
     }
 
     /// The join of what was received, which can be sent in place of that. None exactly if nothing was received, or while a
@@ -175,7 +162,7 @@ impl Replica {
         ensures { MatchOption result ((self.now.pending ≢ None) ⊎ (self.now.joined ≡ None))
             (λ j. (self.now.pending ≡ None) × (self.now.joined ≡ Some j.now)) }
     {
-        self.if_settled(self.join.joined())
+        self.join.joined()
     }
 
     /// The part of what is shown that the pointer names, borrowed. None exactly if there is no such part, or while a patch is
@@ -190,18 +177,7 @@ impl Replica {
             (λ d. (self.now.pending ≡ None)
             × (part (document self.now.shown) pointer.now ≡ Some (document d.now))) }
     {
-        self.if_settled(get(&self.shown, pointer))
-    }
-
-    // What is held, unless a patch is pending.
-    fn if_settled<'a>(&self, held: Option<&'a Doc>) -> Option<&'a Doc>
-        ensures { MatchOption result ((self.now.pending ≢ None) ⊎ (held.entry ≡ None))
-            (λ d. (self.now.pending ≡ None) × (held.entry ≡ Some d)) }
-    {
-        match self.join.pending() {
-            Some(_) => None,
-            None => held,
-        }
+        self.join.if_settled(get(&self.shown, pointer))
     }
 
     /// Where the patch conflicts with what was received: each place once, in the order of paths, and none exactly if
@@ -216,14 +192,8 @@ impl Replica {
             → AreClashesWith received (document patch.now) places.items) }
         ensures pending { IsOk result → self.now.pending ≡ None }
     {
-        merge_laws();
-        if self.is_pending() {
-            return Err(AllocError);
-        }
-        match self.join.conflicts(alloc, patch)? {
-            Some(places) => Ok(places),
-            None => Ok(Vec::new(alloc)),
-        }
+        let Conflicts { places, total: _ } = self.conflicts_within(alloc, patch, usize::MAX)?;
+        Ok(places)
     }
 
     /// The places that [`Replica::conflicts`] has, of which those that come first are handed out, as many as weigh at most `limit`

@@ -63,9 +63,9 @@ impl Replica {
     /// is made. `OutOfMemory` may come at any point.
     ///
     /// ```text
-    /// replica.shown_text(alloc, usize::MAX)  // {"a":1,"b":2}
+    /// replica.document_text(alloc, usize::MAX)  // {"a":1,"b":2}
     /// ```
-    pub fn shown_text(&self, alloc: Global, limit: usize) -> Result<String, LiveFault>
+    pub fn document_text(&self, alloc: Global, limit: usize) -> Result<String, LiveFault>
         ensures shown { MatchResult result
             (λ text. (self.now.pending ≡ None)
             × (string_bytes text ≡ compact (document self.now.shown)))
@@ -76,7 +76,7 @@ impl Replica {
             → IsReplayText start texts (string_bytes text)) }
     {
         text_laws();
-        match self.shown() {
+        match self.document() {
             Some(shown) => text_within(alloc, shown, limit),
             None => Err(LiveFault::Pending),
         }
@@ -111,9 +111,9 @@ impl Replica {
     /// there is no such part; `TooLarge` if its text has more than `limit` bytes. `OutOfMemory` may come at any point.
     ///
     /// ```text
-    /// replica.part_text(alloc, "/b", usize::MAX)  // 2
+    /// replica.get_text(alloc, "/b", usize::MAX)  // 2
     /// ```
-    pub fn part_text(&self, alloc: Global, pointer: &str, limit: usize) -> Result<String, LiveFault>
+    pub fn get_text(&self, alloc: Global, pointer: &str, limit: usize) -> Result<String, LiveFault>
         ensures part { MatchResult result
             (λ text. (self.now.pending ≡ None)
             × IsPartOf (document self.now.shown) pointer.now (string_bytes text))

@@ -5,15 +5,16 @@ ghost use Rattle.mp_tree.specs.Document.{Document, IsDocument};
 ghost use Rattle.mp_tree.specs.View.{document};
 ghost use Rattle.mp_merge.specs.Clash.{Compatible};
 ghost use Rattle.mp_merge.specs.Outcome.{IsOutcome};
+ghost use Rattle.mp_replica.specs.Following.{settled};
 ghost use Rattle.mp_replica.specs.PatchLog.{AreAllPairs, AreChosen, AreFirstConflictsAt, AreFirstPairsOf, ClashesWithNone, HaveArrived, IsFirstMissing, IsFirstPair, Shows, StoresAlso, seen, stored_in};
 ghost use Rattle.mp_replica.specs.Private.StoredPatches.{AreApart, AreConflictingWith, JoinsOthers, StillShows};
 
 use crate::first_pairs::{FirstPairs, first_pairs};
 use crate::identity_set::set_of;
 use crate::laws::{merge_laws, text_laws};
-use crate::live_join::LiveJoin;
 use crate::message::Identity;
 use crate::pairs::{ConflictingPair, all_pairs, first_pair, note_clashes};
+use crate::stored_join::{StoredJoin, grow_by};
 use mp_merge::{Conflicts, compatible, conflict_within, merge_into};
 use mp_tree::Doc;
 use std::alloc::{AllocError, Global};
@@ -29,7 +30,7 @@ pub(crate) struct StoredPatches {
     // Each two of them that conflict, the lower one first. There may be others: only those that conflict count.
     pairs: BTreeSet<(Identity, Identity)>,
     // The join of all others.
-    join: LiveJoin,
+    join: StoredJoin,
 }
 
 // What a patch that is stored is to those that were stored before.
@@ -49,7 +50,7 @@ impl Model for StoredPatches {
     ghost use Rattle.mp_tree.specs.declared.doc.Doc.{Doc};
     ghost use Rattle.mp_tree.specs.contracts.doc.Doc.{the_row};
     ghost use Rattle.mp_replica.specs.declared.message.Identity.{Identity};
-    ghost use Rattle.mp_replica.specs.Private.StoredPatches.{KnowsConflicts};
+    ghost use Rattle.mp_replica.specs.Private.StoredPatches.{KnowsConflicts, join_in};
 
     ghost Value = { List (Identity × Doc) };
 
@@ -57,7 +58,8 @@ impl Model for StoredPatches {
 
     ghost coded = { Prim.hlevel (codes, the_row.coded) };
 
-    ghost invariant = { λ r. KnowsConflicts r.patches.entries r.conflicting.items r.pairs r.join };
+    ghost invariant = { λ r. KnowsConflicts r.patches.entries r.conflicting.items r.pairs
+        (join_in r.patches.entries r.join) };
 }
 
 impl StoredPatches {
@@ -69,7 +71,10 @@ impl StoredPatches {
             patches: BTreeMap::new(alloc),
             conflicting: Vec::new(alloc),
             pairs: BTreeSet::new(alloc),
-            join: LiveJoin::new(),
+            join: StoredJoin {
+                joined: None,
+                unjoined: None,
+            },
         }
     }
 
@@ -77,6 +82,13 @@ impl StoredPatches {
         ensures { IsTrue result ↔ (stored_in self.now identity ≢ None) }
     {
         self.patches.contains_key(&identity)
+    }
+
+    // The patch that is stored under this identity.
+    pub(crate) fn get(&self, identity: Identity) -> Option<&Doc>
+        ensures { option_map (λ p. document p.now) result ≡ stored_in self.now identity }
+    {
+        self.patches.get(&identity)
     }
 
     // How many patches are stored.
@@ -102,7 +114,7 @@ impl StoredPatches {
         ensures unchanged { OnErr result (self.new ≡ self.old) }
     {
         merge_laws();
-        if !self.join.settle(alloc) {
+        if !self.join.settle(alloc, &self.patches) {
             return Err(AllocError);
         }
         if !self.join.fits(&patch) {
@@ -111,10 +123,9 @@ impl StoredPatches {
         }
         let known = self.conflicting.as_slice();
         if note_clashes(identity, &patch, known, &self.patches, &mut self.pairs)? {
-            let copy = patch.copy(alloc)?;
             self.patches.insert(identity, patch)?;
-            self.join.put(copy);
-            let _settled = self.join.settle(alloc);
+            self.join.unjoined = Some(identity);
+            let _settled = self.join.settle(alloc, &self.patches);
             return Ok(Standing::Fits);
         }
         let conflicting = with_one(alloc, self.conflicting.as_slice(), identity)?;
@@ -141,27 +152,27 @@ impl StoredPatches {
         let conflicting = conflicting_with(alloc, identity, &patch, known, &self.patches)?;
         let others = conflicting.as_slice();
         let _fits = note_clashes(identity, &patch, others, &self.patches, &mut self.pairs)?;
-        let join = join_of_others(alloc, conflicting.as_slice(), &self.patches)?;
+        let joined = join_of_others(alloc, conflicting.as_slice(), &self.patches)?;
         self.patches.insert(identity, patch)?;
         self.conflicting = conflicting;
-        self.join = join;
+        self.join = StoredJoin {
+            joined,
+            unjoined: None,
+        };
         Ok(())
     }
 
     // The outcome of the start and of the patches that conflict with no other.
-    pub(crate) fn outcome(&self, alloc: Global, start: &Doc) -> Result<Doc, AllocError>
-        ensures { IfOk result (λ shown.
-            Shows (document start.now) (stored_in self.now) (document shown)) }
+    pub(crate) fn outcome(&mut self, alloc: Global, start: &Doc) -> Result<Doc, AllocError>
+        ensures shows { IfOk result (λ shown.
+            Shows (document start.now) (stored_in self.old) (document shown)) }
+        ensures unchanged { self.new ≡ self.old }
     {
         text_laws();
-        let mut shown = start.copy(alloc)?;
-        if let Some(joined) = self.join.joined() {
-            merge_into(alloc, &mut shown, joined)?;
+        if !self.join.settle(alloc, &self.patches) {
+            return Err(AllocError);
         }
-        if let Some(patch) = self.join.pending() {
-            merge_into(alloc, &mut shown, patch)?;
-        }
-        Ok(shown)
+        merged(alloc, start, &self.join.joined)
     }
 
     // Each two patches that conflict.
@@ -252,6 +263,18 @@ impl StoredPatches {
     }
 }
 
+// The start, into which what is joined is merged.
+fn merged(alloc: Global, start: &Doc, joined: &Option<Doc>) -> Result<Doc, AllocError>
+    ensures { IfOk result (λ shown.
+        document shown ≡ settled (document start.now) (option_map document joined.now)) }
+{
+    let mut shown = start.copy(alloc)?;
+    if let Some(patch) = joined {
+        merge_into(alloc, &mut shown, patch)?;
+    }
+    Ok(shown)
+}
+
 // These identities, and one more.
 fn with_one(
     alloc: Global,
@@ -293,24 +316,22 @@ fn join_of_others(
     alloc: Global,
     conflicting: &[Identity],
     patches: &BTreeMap<Identity, Doc>,
-) -> Result<LiveJoin, AllocError>
+) -> Result<Option<Doc>, AllocError>
     requires { (i j : Identity) (p q : Document) → stored_in patches.now.entries i ≡ Some p
         → stored_in patches.now.entries j ≡ Some q → ¬ Contains conflicting.now i
         → ¬ Contains conflicting.now j → Compatible p q }
-    ensures { IfOk result (λ join.
-        JoinsOthers (stored_in patches.now.entries) conflicting.now join) }
+    ensures { IfOk result (λ joined. JoinsOthers (stored_in patches.now.entries) conflicting.now
+        (record { joined = joined; pending = None })) }
 {
     merge_laws();
     let left_out = set_of(alloc, conflicting)?;
-    let mut join = LiveJoin::new();
+    let mut joined = None;
     for (identity, patch) in patches.iter() {
         if !left_out.contains(identity) {
-            let copy = patch.copy(alloc)?;
-            join.put(copy);
-            if !join.settle(alloc) {
+            if !grow_by(alloc, &mut joined, patch) {
                 return Err(AllocError);
             }
         }
     }
-    Ok(join)
+    Ok(joined)
 }

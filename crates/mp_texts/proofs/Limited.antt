@@ -1,16 +1,14 @@
 -- What stops operations within a limit, as it is reported.
-use Rattle.std.proofs.Common.{◌≢◌, ℕ, List}
+use Rattle.std.proofs.Common.{ℕ, List}
 use Rattle.mp_tree.specs.Document.{Document}
-use Rattle.mp_patch.specs.Laws.{LimitsChangeNothing}
 use Rattle.mp_patch.specs.Operation.{Operation}
 use Rattle.mp_patch.specs.Within.{IsApplyWithinFault}
+use Rattle.mp_patch.specs.Work.{no_limit}
 use Rattle.mp_patch.specs.declared.fault.ApplyWithinFault.{ApplyWithinFault}
 use Rattle.mp_patch.specs.declared.fault.ApplyWithinFault.TheVariants as stop
-use Rattle.mp_texts.specs.Answers.{no_limit}
 use Rattle.mp_texts.specs.Faults.{IsRunFault, texts_fault_of_apply_within}
 
-pub stop_reported : (limit : ℕ) (d : Document) (operations : List Operation) → LimitsChangeNothing limit d operations → limit ≢ no_limit
-    → (fault : ApplyWithinFault) → IsApplyWithinFault limit fault d operations → IsRunFault limit (texts_fault_of_apply_within fault) d operations
-stop_reported limit d operations same limited (stop.Refused k cause) stopped = (same.is_refused k cause stopped, λ also. stopped)
-stop_reported limit d operations same limited (stop.TooLarge k) stopped = (limited, stopped)
-stop_reported limit d operations same limited stop.OutOfMemory stopped = tt
+pub stop_reported : (limit : ℕ) (d : Document) (operations : List Operation) (fault : ApplyWithinFault) → IsApplyWithinFault limit fault d operations → IsRunFault limit (texts_fault_of_apply_within fault) d operations
+stop_reported limit d operations (stop.Refused k cause) stopped = stopped
+stop_reported limit d operations (stop.TooLarge k) stopped = stopped
+stop_reported limit d operations stop.OutOfMemory stopped = tt

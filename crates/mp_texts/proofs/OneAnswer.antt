@@ -13,12 +13,12 @@ use Rattle.mp_pointer.specs.declared.fault.PointerFault.TheVariants as pointer
 use Rattle.mp_patch.specs.Form.{AreForms, IsFormFault, shapes}
 use Rattle.mp_patch.specs.Operation.{HaveDocuments, Operation}
 use Rattle.mp_patch.specs.Weight.{operations_weight}
-use Rattle.mp_patch.specs.Run.{RefusedAt, Runs}
+use Rattle.mp_patch.specs.Run.{Runs}
+use Rattle.mp_patch.specs.Work.{no_limit}
 use Rattle.mp_patch.specs.Within.{IsApplyWithinFault, RunsWithin}
 use Rattle.mp_patch.specs.declared.fault.ApplyFault.TheVariants as apply
 use Rattle.mp_patch.specs.declared.fault.ApplyWithinFault.{ApplyWithinFault}
 use Rattle.mp_patch.specs.declared.fault.ApplyWithinFault.TheVariants as stop
-use Rattle.mp_patch.specs.declared.fault.Cause.{Cause}
 use Rattle.mp_patch.specs.declared.fault.FormFault.{FormFault}
 use Rattle.mp_patch.specs.declared.fault.FormFault.TheVariants as form
 use Rattle.mp_merge.specs.Application.{in_turn}
@@ -27,9 +27,8 @@ use Rattle.mp_merge.specs.Lists.{HaveSameMembers, PairwiseCompatible}
 use Rattle.mp_merge.specs.Outcome.{IsOutcome}
 use Rattle.mp_merge.specs.Rewriting.{IsRewriting}
 use Rattle.mp_merge.specs.Within.{IsReportedPairWithin, IsTooLargeRewriting}
-use Rattle.mp_merge.specs.declared.fault.ListWithinFault.TheVariants as list
+use Rattle.mp_merge.specs.declared.fault.ListFault.TheVariants as list
 use Rattle.mp_texts.specs.Calls.{Call, join_texts, replay_texts, merge_texts, rewrite_text, patch_text, part_text, CallAnswer, returned, conflicting, failed, IsCallAnswer, MayFail, seen_of}
-use Rattle.mp_texts.specs.Answers.{no_limit}
 use Rattle.mp_texts.specs.Faults.{texts_fault_of_apply_within}
 use Rattle.mp_texts.specs.Laws.{CallHasOneAnswer, FaultsShowTheAnswer}
 use Rattle.mp_texts.specs.Private.LawsBelow.{AnswerLaws}
@@ -68,9 +67,8 @@ data RewriteEnd (limit : ℕ) (d p : Document) (a : CallAnswer) : Type 0 where
   heavy : (fitting : ℕ) → limit ≢ no_limit → IsTooLargeRewriting limit fitting d p → a ≡ failed (TooLarge fitting) → RewriteEnd limit d p a
 
 data RunEnd (limit : ℕ) (d : Document) (operations : List Operation) (a : CallAnswer) : Type 0 where
-  ran : (e : Document) → Runs d operations e → (limit ≢ no_limit → RunsWithin limit d operations e) → a ≡ sized limit (compact e) → RunEnd limit d operations a
-  refused_at : (k : ℕ) (cause : Cause) → RefusedAt d operations k cause → (limit ≢ no_limit → IsApplyWithinFault limit (stop.Refused k cause) d operations) → a ≡ failed (Refused (apply.Refused k cause)) → RunEnd limit d operations a
-  too_large_at : (k : ℕ) → limit ≢ no_limit → IsApplyWithinFault limit (stop.TooLarge k) d operations → a ≡ failed (TooLarge k) → RunEnd limit d operations a
+  ran : (e : Document) → Runs d operations e → RunsWithin limit d operations e → a ≡ sized limit (compact e) → RunEnd limit d operations a
+  stopped_by : (fault : ApplyWithinFault) → fault ≢ stop.OutOfMemory → IsApplyWithinFault limit fault d operations → a ≡ failed (texts_fault_of_apply_within fault) → RunEnd limit d operations a
 
 abbrev part_answer : ℕ → Option Document → CallAnswer
 part_answer limit None = failed Missing
@@ -208,12 +206,12 @@ module _ (laws : AnswerLaws) (limit : ℕ) where
       goes_on is.2.0.0 is.2.0.1 (goes_on is.2.1.1 is.2.1.2 (stops (Form fault) (fault, is.2.1.0, refl, is.2.1.3) refl))
   patch_steps document patch (failed (Refused (apply.Refused k cause))) is =
       let run = is.2 in
-      goes_on run.from run.document_read (goes_on run.form run.patch_read (goes_on run.operations run.forms (refused_at k cause run.stopped.0 run.stopped.1 refl)))
+      goes_on run.from run.document_read (goes_on run.form run.patch_read (goes_on run.operations run.forms (stopped_by (stop.Refused k cause) (λ e. cc) run.stopped refl)))
   patch_steps document patch (failed (Refused apply.OutOfMemory)) is = absurd is.2.stopped
   patch_steps document patch (failed (Pointer fault)) is = absurd is.2
   patch_steps document patch (failed Missing) is = absurd is.2
   patch_steps document patch (failed (TooLarge n)) (some, seen, inl run) =
-      goes_on run.from run.document_read (goes_on run.form run.patch_read (goes_on run.operations run.forms (too_large_at n run.stopped.0 run.stopped.1 refl)))
+      goes_on run.from run.document_read (goes_on run.form run.patch_read (goes_on run.operations run.forms (stopped_by (stop.TooLarge n) (λ e. cc) run.stopped refl)))
   patch_steps document patch (failed (TooLarge n)) (some, seen, inr (zero_is, (t, (is, light), over))) =
       goes_on is.from is.document_read (goes_on is.form is.patch_read (goes_on is.operations is.forms (ran is.end is.runs light (too_long limit n t (compact is.end) zero_is is.text.is over))))
   patch_steps document patch (failed OutOfMemory) is = absurd (is.0 refl)
@@ -302,29 +300,12 @@ module _ (laws : AnswerLaws) (limit : ℕ) where
   one_rewrite_end d p a b (heavy fitting limited one is) (rewritten operations two light was) = absurd (laws.not_too_large limit fitting d p operations two (light limited) one)
   one_rewrite_end d p a b (heavy fitting limited one is) (heavy other also two was) = is ∙ ap (λ n. failed (TooLarge n)) (laws.one_fitting limit fitting other d p one two) ∙ sym was
 
-  -- what stops a patch within the limit, as it is reported
-  one_stopped : (d : Document) (operations : List Operation) (fault other : ApplyWithinFault) → IsDocument d → HaveDocuments operations → fault ≢ stop.OutOfMemory → other ≢ stop.OutOfMemory
-      → IsApplyWithinFault limit fault d operations → IsApplyWithinFault limit other d operations → failed (texts_fault_of_apply_within fault) ≡ failed (texts_fault_of_apply_within other)
-  one_stopped d operations fault other good values some more one two = ap (λ f. failed (texts_fault_of_apply_within f)) (laws.one_stop limit d operations fault other good values some more one two)
-
-  never_stopped : (d e : Document) (operations : List Operation) (k : ℕ) → IsDocument d → HaveDocuments operations → RunsWithin limit d operations e → IsApplyWithinFault limit (stop.TooLarge k) d operations → ⊥
-  never_stopped d e operations k good values steps stopped = let same = laws.unstopped limit d e operations (stop.TooLarge k) good values steps stopped in cc
-
   one_run_end : (d : Document) (operations : List Operation) (a b : CallAnswer) → IsDocument d → HaveDocuments operations → RunEnd limit d operations a → RunEnd limit d operations b → a ≡ b
-  one_run_end d operations a b good values (ran e runs light is) (ran f more also was) = is ∙ ap (λ x. sized limit (compact x)) (laws.one_end d e f operations good values runs more) ∙ sym was
-  one_run_end d operations a b good values (ran e runs light is) (refused_at n cause refused steps was) = absurd (laws.unrefused d e operations n cause good values runs refused)
-  one_run_end d operations a b good values (ran e runs light is) (too_large_at n limited stopped was) = absurd (never_stopped d e operations n good values (light limited) stopped)
-  one_run_end d operations a b good values (refused_at k cause refused steps is) (ran f runs light was) = absurd (laws.unrefused d f operations k cause good values runs refused)
-  one_run_end d operations a b good values (refused_at k cause refused steps is) (refused_at n other also more was) =
-      let same = laws.one_refusal d operations k n cause other good values refused also in
-      is ∙ ap (λ m. failed (Refused (apply.Refused m cause))) same.0 ∙ ap (λ c. failed (Refused (apply.Refused n c))) same.1 ∙ sym was
-  one_run_end d operations a b good values (refused_at k cause refused steps is) (too_large_at n limited stopped was) =
-      is ∙ one_stopped d operations (stop.Refused k cause) (stop.TooLarge n) good values (λ e. cc) (λ e. cc) (steps limited) stopped ∙ sym was
-  one_run_end d operations a b good values (too_large_at k limited stopped is) (ran f runs light was) = absurd (never_stopped d f operations k good values (light limited) stopped)
-  one_run_end d operations a b good values (too_large_at k limited stopped is) (refused_at n cause refused steps was) =
-      is ∙ one_stopped d operations (stop.TooLarge k) (stop.Refused n cause) good values (λ e. cc) (λ e. cc) stopped (steps limited) ∙ sym was
-  one_run_end d operations a b good values (too_large_at k limited stopped is) (too_large_at n also other was) =
-      is ∙ one_stopped d operations (stop.TooLarge k) (stop.TooLarge n) good values (λ e. cc) (λ e. cc) stopped other ∙ sym was
+  one_run_end d operations a b good values (ran e runs steps is) (ran f more also was) = is ∙ ap (λ x. sized limit (compact x)) (laws.one_end d e f operations good values runs more) ∙ sym was
+  one_run_end d operations a b good values (ran e runs steps is) (stopped_by fault some stopped was) = absurd (some (laws.unstopped limit d e operations fault good values steps stopped))
+  one_run_end d operations a b good values (stopped_by fault some stopped is) (ran f runs steps was) = absurd (some (laws.unstopped limit d f operations fault good values steps stopped))
+  one_run_end d operations a b good values (stopped_by fault some stopped is) (stopped_by other more also was) =
+      is ∙ ap (λ f. failed (texts_fault_of_apply_within f)) (laws.one_stop limit d operations fault other good values some more stopped also) ∙ sym was
 
   one_form_end : (d p : Document) (a b : CallAnswer) → IsDocument d → IsDocument p → FormEnd limit d p a → FormEnd limit d p b → a ≡ b
   one_form_end d p a b good fine =

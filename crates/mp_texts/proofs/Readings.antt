@@ -6,7 +6,7 @@ use Rattle.mp_tree.specs.Document.{Document, IsReadable, depth, depth_limit}
 use Rattle.mp_tree.specs.Laws.{ReadsBack, ReadsReadable}
 use Rattle.mp_tree.specs.Text.{document_in, read, text as compact}
 use Rattle.mp_tree.proofs.Facts.{Contains-nil, Contains-head, Contains-tail, Contains-cases, document_in-read}
-use Rattle.mp_merge.specs.Lists.{AreWithin}
+use Rattle.mp_merge.specs.Lists.{AreNoDeeper}
 use Rattle.mp_texts.specs.Answers.{IsTextOf}
 use Rattle.mp_texts.specs.Texts.{AreRead}
 
@@ -79,7 +79,7 @@ all_readable can (t ∷ ts) (d ∷ ds) are =
     let rest : AreRead ts ds = cc in
     All-cons IsReadable d ds (can t d here) (all_readable can ts ds rest)
 
-pub all_within : ReadsReadable → (ts : List (List ℕ)) (ds : List Document) → AreRead ts ds → AreWithin depth_limit ds
+pub all_within : ReadsReadable → (ts : List (List ℕ)) (ds : List Document) → AreRead ts ds → AreNoDeeper depth_limit ds
 all_within can ts ds are = All-weaker IsReadable (λ d. depth d ≤ depth_limit) (λ d good. good.within) ds (all_readable can ts ds are)
 
 pub some_documents : (ts : List (List ℕ)) (ds : List Document) → AreRead ts ds → ts ≢ [] → ds ≢ []

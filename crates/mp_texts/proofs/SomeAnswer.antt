@@ -14,15 +14,15 @@ use Rattle.mp_patch.specs.Form.{AreForms, deepest, shapes}
 use Rattle.mp_patch.specs.Operation.{HaveDocuments, Operation}
 use Rattle.mp_patch.specs.Run.{Runs}
 use Rattle.mp_patch.specs.Weight.{operations_weight}
+use Rattle.mp_patch.specs.Work.{no_limit}
 use Rattle.mp_patch.specs.Within.{RunsWithin}
-use Rattle.mp_patch.specs.declared.fault.ApplyFault.TheVariants as apply
 use Rattle.mp_patch.specs.declared.fault.ApplyWithinFault.{ApplyWithinFault}
 use Rattle.mp_patch.specs.declared.fault.ApplyWithinFault.TheVariants as stop
 use Rattle.mp_merge.specs.Application.{in_turn}
 use Rattle.mp_merge.specs.Rewriting.{IsRewriting}
 use Rattle.mp_merge.specs.Within.{IsTooLargeRewriting}
-use Rattle.mp_merge.specs.declared.fault.ListWithinFault.TheVariants as list
-use Rattle.mp_texts.specs.Answers.{IsJoinText, IsLightPatchText, IsLightRewriteText, IsMergeText, IsPartText, IsPatchText, IsReplayText, IsRewriteText, IsTooLong, Within, no_limit}
+use Rattle.mp_merge.specs.declared.fault.ListFault.TheVariants as list
+use Rattle.mp_texts.specs.Answers.{IsJoinText, IsLightPatchText, IsLightRewriteText, IsMergeText, IsPartText, IsPatchText, IsReplayText, IsRewriteText, IsTooLong, Within}
 use Rattle.mp_texts.specs.Calls.{Call, join_texts, replay_texts, merge_texts, rewrite_text, patch_text, part_text, CallAnswer, returned, conflicting, failed, IsCallAnswer, MayFail, MayReturn}
 use Rattle.mp_texts.specs.Faults.{IsHeavyRewriting, IsMissingPart, IsRead, IsRunFault, IsRunTextFault, texts_fault_of_apply_within}
 use Rattle.mp_texts.specs.Laws.{CallHasAnswer}
@@ -76,7 +76,7 @@ sized limit call IsAnswer text is returns fails = elim (dec_le (length text) lim
 -- the operations lead to an end, within the limit if there is one, or they have a fault
 abbrev EndsOrFails : ℕ → Document → List Operation → Type 0
 EndsOrFails limit d operations =
-    ((e : Document) × Runs d operations e × (limit ≢ no_limit → RunsWithin limit d operations e))
+    ((e : Document) × Runs d operations e × RunsWithin limit d operations e)
     ⊎ ((fault : TextsFault) × (fault ≢ OutOfMemory) × IsRunFault limit fault d operations)
 
 some_fault : (fault : ApplyWithinFault) → fault ≢ stop.OutOfMemory → texts_fault_of_apply_within fault ≢ OutOfMemory
@@ -205,15 +205,9 @@ module _ (laws : ExistenceLaws) (limit : ℕ) where
   ]
 
   ends_or_fails : (d : Document) (operations : List Operation) → IsDocument d → HaveDocuments operations → EndsOrFails limit d operations
-  ends_or_fails d operations good values = elim (eqb_tells limit no_limit) [
-    | inl (tested, none) ↦ elim (laws.runs_or_refused d operations good values) [
-      | inl (e, ends, runs) ↦ inl (e, runs, λ limited. absurd (limited none))
-      | inr (k, cause, refused) ↦ inr (Refused (apply.Refused k cause), (λ e. cc), (refused, λ limited. absurd (limited none)))
-    ]
-    | inr (tested, limited) ↦ elim (laws.runs_or_stops limit d operations good values) [
-      | inl (e, ends, steps) ↦ inl (e, (laws.limits_change_nothing limit d operations).is_run e steps, λ also. steps)
-      | inr (fault, some, stopped) ↦ inr (texts_fault_of_apply_within fault, some_fault fault some, stop_reported limit d operations (laws.limits_change_nothing limit d operations) limited fault stopped)
-    ]
+  ends_or_fails d operations good values = elim (laws.runs_or_stops limit d operations good values) [
+    | inl (e, ends, steps) ↦ inl (e, (laws.limits_change_nothing limit d operations).is_run e steps, steps)
+    | inr (fault, some, stopped) ↦ inr (texts_fault_of_apply_within fault, some_fault fault some, stop_reported limit d operations fault stopped)
   ]
 
   answer_of_fault : (document json_patch : List ℕ) (fault : TextsFault) → fault ≢ OutOfMemory → IsRunTextFault limit fault document json_patch → Has limit (patch_text document json_patch)

@@ -1,5 +1,5 @@
 -- The text that each call answers.
-use Rattle.std.specs.Prelude.{◌≡◌, ◌≢◌, ◌<◌, ◌≤◌, ◌+◌, ◌-◌, ◌^◌, ℕ, List, length, map, Some, Ok}
+use Rattle.std.specs.Prelude.{◌≡◌, ◌≢◌, ◌<◌, ◌≤◌, ◌+◌, ℕ, List, length, map, Some, Ok}
 use Rattle.mp_tree.specs.Document.{Document, list, string, depth_limit}
 use Rattle.mp_tree.specs.Elements.{items_of}
 use Rattle.mp_tree.specs.Text.{document_in, text as compact}
@@ -10,6 +10,7 @@ use Rattle.mp_patch.specs.Operation.{Operation}
 use Rattle.mp_patch.specs.Run.{Runs}
 use Rattle.mp_patch.specs.Weight.{operations_weight}
 use Rattle.mp_patch.specs.Within.{RunsWithin}
+use Rattle.mp_patch.specs.Work.{no_limit}
 use Rattle.mp_merge.specs.Application.{in_turn}
 use Rattle.mp_merge.specs.Join.{IsJoin}
 use Rattle.mp_merge.specs.Outcome.{IsOutcome}
@@ -96,10 +97,6 @@ places_list places = list (items_of (map place_of places))
 
 -- ---- within a limit in bytes
 
--- `usize::MAX`, which stands for none
-abbrev pub no_limit : ℕ
-no_limit = 2 ^ 64 - 1
-
 -- the answer has at most so many bytes
 abbrev pub Within : ℕ → (List ℕ → Type 0) → List ℕ → Type 0
 Within limit IsAnswer answer = IsAnswer answer × (length answer ≤ limit)
@@ -114,8 +111,8 @@ IsLightRewriteText limit document patch answer =
     (rewritten : IsRewriteText document patch answer)
     × (limit ≢ no_limit → operations_weight rewritten.operations ≤ limit)
 
--- each result on the way weighs at most the limit, if there is one
+-- the operations lead to the end within the limit, if there is one
 abbrev pub IsLightPatchText : ℕ → List ℕ → List ℕ → List ℕ → Type 0
 IsLightPatchText limit document json_patch answer =
     (patched : IsPatchText document json_patch answer)
-    × (limit ≢ no_limit → RunsWithin limit patched.from patched.operations patched.end)
+    × RunsWithin limit patched.from patched.operations patched.end

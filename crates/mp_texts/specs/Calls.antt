@@ -3,7 +3,7 @@ use Rattle.std.specs.Prelude.{◌≡◌, ◌≢◌, ℕ, List}
 use Rattle.mp_tree.specs.Document.{Document}
 use Rattle.mp_pointer.specs.Spelling.{Tokens}
 use Rattle.mp_merge.specs.Within.{IsReportedPairWithin}
-use Rattle.mp_merge.specs.declared.fault.ListWithinFault.TheVariants.{ConflictOf}
+use Rattle.mp_merge.specs.declared.fault.ListFault.TheVariants.{ConflictOf}
 use Rattle.mp_texts.specs.Answers.{IsJoinText, IsLightPatchText, IsLightRewriteText, IsMergeText, IsPartText, IsReplayText, Within}
 use Rattle.mp_texts.specs.Faults.{IsJoinTextFault, IsMergeTextFault, IsPartTextFault, IsPatchTextFault, IsRead}
 use Rattle.mp_texts.specs.Faults.{IsReplayTextFault, IsRewriteTextFault}

@@ -10,20 +10,20 @@ use Rattle.mp_pointer.specs.declared.fault.PointerFault.{PointerFault}
 use Rattle.mp_pointer.specs.declared.fault.PointerFault.TheVariants as pointer
 use Rattle.mp_patch.specs.Form.{AreForms, IsFormFault}
 use Rattle.mp_patch.specs.Operation.{Operation}
-use Rattle.mp_patch.specs.declared.fault.ApplyFault.{ApplyFault}
 use Rattle.mp_patch.specs.declared.fault.ApplyFault.TheVariants as apply
 use Rattle.mp_patch.specs.declared.fault.FormFault.{FormFault}
 use Rattle.mp_patch.specs.declared.fault.FormFault.TheVariants as form
+use Rattle.mp_patch.specs.Work.{no_limit}
 use Rattle.mp_patch.specs.Within.{IsApplyWithinFault}
-use Rattle.mp_patch.specs.Run.{RefusedAt}
 use Rattle.mp_patch.specs.declared.fault.ApplyWithinFault.{ApplyWithinFault}
 use Rattle.mp_patch.specs.declared.fault.ApplyWithinFault.TheVariants as within
 use Rattle.mp_merge.specs.Within.{IsJoinAllWithinFault, IsReplayWithinFault, IsTooLargeRewriting}
-use Rattle.mp_merge.specs.declared.fault.ListWithinFault.{ListWithinFault}
-use Rattle.mp_merge.specs.declared.fault.ListWithinFault.TheVariants as list
+use Rattle.mp_merge.specs.declared.comparing.Conflicts.{Conflicts}
+use Rattle.mp_merge.specs.declared.fault.ListFault.{ListFault}
+use Rattle.mp_merge.specs.declared.fault.ListFault.TheVariants as list
 use Rattle.mp_merge.specs.declared.fault.RewriteFault.{RewriteFault}
 use Rattle.mp_merge.specs.declared.fault.RewriteFault.TheVariants as rewrite
-use Rattle.mp_texts.specs.Answers.{IsJoinText, IsLightPatchText, IsLightRewriteText, IsMergeText, IsPartText, IsReplayText, IsTooLong, no_limit}
+use Rattle.mp_texts.specs.Answers.{IsJoinText, IsLightPatchText, IsLightRewriteText, IsMergeText, IsPartText, IsReplayText, IsTooLong}
 use Rattle.mp_texts.specs.Texts.{AreRead, IsFirstUnread}
 use Rattle.mp_texts.specs.declared.fault.TextsFault.{TextsFault}
 use Rattle.mp_texts.specs.declared.fault.TextsFault.TheVariants.{Document as NoDocument, Patch, List as OfList, Form, Refused}
@@ -31,17 +31,13 @@ use Rattle.mp_texts.specs.declared.fault.TextsFault.TheVariants.{Pointer, Missin
 
 -- ---- what is reported of an error of a call below
 
-abbrev pub texts_fault_of_list : ListWithinFault → TextsFault
+abbrev pub texts_fault_of_list : ListFault Conflicts → TextsFault
 texts_fault_of_list list.OutOfMemory = OutOfMemory
 texts_fault_of_list refusal = OfList refusal
 
 abbrev pub texts_fault_of_form : FormFault → TextsFault
 texts_fault_of_form form.OutOfMemory = OutOfMemory
 texts_fault_of_form refusal = Form refusal
-
-abbrev pub texts_fault_of_apply : ApplyFault → TextsFault
-texts_fault_of_apply apply.OutOfMemory = OutOfMemory
-texts_fault_of_apply refusal = Refused refusal
 
 -- a result that weighs more than the limit has the number of its operation
 abbrev pub texts_fault_of_apply_within : ApplyWithinFault → TextsFault
@@ -123,14 +119,11 @@ abbrev pub IsFormTextFault : FormFault → List ℕ → Type 0
 IsFormTextFault fault patch =
     (fault ≢ form.OutOfMemory) × (p : Document) × (document_in patch ≡ Ok p) × IsFormFault fault p
 
--- an operation is refused, and no result before it weighs more than the limit, if there is one; or there is one, and a result
--- weighs more
+-- an operation is refused, and nothing before it is too much for the limit, if there is one; or it is too much for it
 abbrev pub IsRunFault : ℕ → TextsFault → Document → List Operation → Type 0
 IsRunFault limit (Refused (apply.Refused number cause)) d operations =
-    RefusedAt d operations number cause
-    × (limit ≢ no_limit → IsApplyWithinFault limit (within.Refused number cause) d operations)
-IsRunFault limit (TooLarge number) d operations =
-    (limit ≢ no_limit) × IsApplyWithinFault limit (within.TooLarge number) d operations
+    IsApplyWithinFault limit (within.Refused number cause) d operations
+IsRunFault limit (TooLarge number) d operations = IsApplyWithinFault limit (within.TooLarge number) d operations
 IsRunFault limit OutOfMemory d operations = ⊤
 IsRunFault limit other d operations = ⊥
 

@@ -4,12 +4,11 @@ ghost use Rattle.mp_texts.specs.Answers.{IsLightPatchText, IsLightRewriteText, I
 ghost use Rattle.mp_texts.specs.Faults.{IsPartTextFault, IsPatchTextFault, IsRewriteTextFault};
 
 use crate::fault::TextsFault;
-use crate::limiting::{rewrite_under, run_under};
 use crate::reading::{read_document_value, read_patch_value};
 use crate::writing::{patch_unless_longer, text_unless_longer};
-use mp_merge::laws as merging;
-use mp_patch::{laws as patching, ops_of_value};
-use mp_pointer::{Pointer, get_value, laws as pointing};
+use mp_merge::{laws as merging, rewrite_within};
+use mp_patch::{Op, apply_within, laws as patching};
+use mp_pointer::{Pointer, laws as pointing, part_in};
 use mp_tree::laws as reading;
 use std::alloc::Global;
 
@@ -41,7 +40,7 @@ pub fn rewrite_text(
     patching::shapes_are_readable();
     let doc = read_document_value(alloc, document)?;
     let patch = read_patch_value(alloc, patch, 0)?;
-    let edits = rewrite_under(alloc, &doc, &patch, limit)?;
+    let edits = rewrite_within(alloc, &doc, &patch, limit)?;
     patch_unless_longer(alloc, &edits, limit)
 }
 
@@ -68,11 +67,12 @@ pub fn patch_text(
 {
     reading::readings_are_documents();
     patching::forms_are_writable();
+    patching::limits_change_nothing();
     patching::runs_are_readable();
     let doc = read_document_value(alloc, document)?;
     let form = read_patch_value(alloc, json_patch, 0)?;
-    let operations = ops_of_value(alloc, form)?;
-    let patched = run_under(alloc, doc, operations, limit)?;
+    let operations = Op::list_from(alloc, form)?;
+    let patched = apply_within(alloc, doc, operations, limit)?;
     text_unless_longer(alloc, &patched, limit)
 }
 
@@ -99,7 +99,7 @@ pub fn part_text(
     pointing::parts_are_readable();
     let doc = read_document_value(alloc, document)?;
     let pointer = Pointer::parse(alloc, pointer)?;
-    match get_value(&doc, &pointer) {
+    match part_in(&doc, &pointer, pointer.len()) {
         Some(part) => text_unless_longer(alloc, part, limit),
         None => Err(TextsFault::Missing),
     }

@@ -1,7 +1,7 @@
 //! Why a call over texts gives no text.
 ghost use Rattle.std.specs.Prelude.{◌≡◌};
 
-use mp_merge::{ListWithinFault, RewriteFault};
+use mp_merge::{Conflicts, ListFault, RewriteFault};
 use mp_patch::{ApplyFault, ApplyWithinFault, FormFault};
 use mp_pointer::PointerFault;
 use mp_tree::ReadFault;
@@ -25,7 +25,7 @@ pub enum TextsFault {
     },
     /// There are no patches, or two of them conflict: with the places that the limit allows, and how many there are.
     #[error("{0}")]
-    List(ListWithinFault),
+    List(ListFault<Conflicts>),
     /// The patch is a document, but not a JSON Patch.
     #[error("{0}")]
     Form(FormFault),
@@ -50,14 +50,14 @@ pub enum TextsFault {
     OutOfMemory,
 }
 
-impl From<ListWithinFault> for TextsFault {
+impl From<ListFault<Conflicts>> for TextsFault {
     ghost use Rattle.mp_texts.specs.Faults.{texts_fault_of_list};
 
     ghost from_gives = { λ cause fault. fault ≡ texts_fault_of_list cause };
 
-    fn from(cause: ListWithinFault) -> TextsFault {
+    fn from(cause: ListFault<Conflicts>) -> TextsFault {
         match cause {
-            ListWithinFault::OutOfMemory => TextsFault::OutOfMemory,
+            ListFault::OutOfMemory => TextsFault::OutOfMemory,
             refusal => TextsFault::List(refusal),
         }
     }
@@ -72,19 +72,6 @@ impl From<FormFault> for TextsFault {
         match cause {
             FormFault::OutOfMemory => TextsFault::OutOfMemory,
             refusal => TextsFault::Form(refusal),
-        }
-    }
-}
-
-impl From<ApplyFault> for TextsFault {
-    ghost use Rattle.mp_texts.specs.Faults.{texts_fault_of_apply};
-
-    ghost from_gives = { λ cause fault. fault ≡ texts_fault_of_apply cause };
-
-    fn from(cause: ApplyFault) -> TextsFault {
-        match cause {
-            ApplyFault::OutOfMemory => TextsFault::OutOfMemory,
-            refusal => TextsFault::Refused(refusal),
         }
     }
 }

@@ -122,9 +122,6 @@ fn answer_laws()
     patch::forms_have_no_fault();
     patch::one_fault();
     patch::one_end();
-    patch::runs_are_not_refused();
-    patch::one_refusal();
-    patch::limits_change_nothing();
     patch::one_answer_within();
     merge::one_outcome();
     merge::outcome_exists();
@@ -144,7 +141,6 @@ fn existence_laws()
     pointer::spells_or_is_faulty();
     pointer::parts_are_readable();
     patch::forms_have_documents();
-    patch::runs_or_is_refused();
     patch::limits_change_nothing();
     patch::one_answer_within();
     patch::forms_are_writable();

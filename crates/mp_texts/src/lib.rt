@@ -5,7 +5,6 @@ mod documents;
 mod fault;
 mod fault_places;
 pub mod laws;
-mod limiting;
 mod lists;
 mod reading;
 mod writing;

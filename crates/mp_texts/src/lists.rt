@@ -9,7 +9,7 @@ ghost use Rattle.mp_texts.specs.Texts.{given};
 use crate::fault::TextsFault;
 use crate::reading::{read_document_value, read_patch_values};
 use crate::writing::text_unless_longer;
-use mp_merge::{join_all_values_within, laws as merging, merge_value, replay_values_within};
+use mp_merge::{join_all_within, laws as merging, merge_owned, replay_within};
 use mp_tree::laws as reading;
 use serde_json::Value;
 use std::alloc::{AllocError, Global};
@@ -36,7 +36,7 @@ pub fn join_texts(alloc: Global, patches: &[&[u8]], limit: usize) -> Result<Stri
 {
     reading::readings_are_documents();
     let patches = read_patch_values(alloc, patches)?;
-    let joined = join_all_values_within(alloc, patches.as_slice(), limit)?;
+    let joined = join_all_within(alloc, patches.as_slice(), limit)?;
     drop(patches);
     text_unless_longer(alloc, &joined, limit)
 }
@@ -66,7 +66,7 @@ pub fn replay_texts(
     reading::readings_are_documents();
     let start = read_document_value(alloc, start)?;
     let patches = read_patch_values(alloc, patches)?;
-    let outcome = replay_values_within(alloc, start, patches.as_slice(), limit)?;
+    let outcome = replay_within(alloc, start, patches.as_slice(), limit)?;
     drop(patches);
     text_unless_longer(alloc, &outcome, limit)
 }
@@ -105,7 +105,7 @@ fn merge_each(mut value: Value, patches: Vec<Value>, alloc: Global) -> Result<Va
         ≡ in_turn (value_document value) (map value_document patches.items)) }
 {
     for patch in patches {
-        value = merge_value(alloc, Some(value), patch)?;
+        value = merge_owned(alloc, Some(value), patch)?;
     }
     Ok(value)
 }

@@ -5,7 +5,7 @@ pub use Rattle.mp_tree.proofs.Documents.Elements.{all_before, append-documents, 
 pub use Rattle.mp_tree.proofs.Documents.Meaning.{IsDocument-document, documents_by, document_of_map, document-Null, document-Text, document-Items, document-Members}
 pub use Rattle.mp_tree.proofs.Documents.SameParts.{members_of_object, no_list_is_map, same_elements, same_item, same_text_at}
 pub use Rattle.mp_tree.proofs.Documents.Throughout.{Throughout-find, Throughout-put, Throughout-without}
-pub use Rattle.mp_tree.proofs.Documents.Weights.{items_weight-append, items_weight-set, least-weight, left_inside, members_weight-put, members_weight-without, scalar-weight, weight_at}
+pub use Rattle.mp_tree.proofs.Documents.Weights.{items_weight-append, items_weight-set, least-weight, members_weight-put, members_weight-without, weight_at}
 pub use Rattle.mp_tree.proofs.Looks.Equal.{equal_looks, found_document, is_here, IsDocument-find, none_there, same_plain, same_there}
 pub use Rattle.mp_tree.proofs.Looks.Known.{Speaks, name_above, nothing_or, same_look, some_part, speaks_or_silent}
 pub use Rattle.mp_tree.proofs.Maps.Edits.{IsMap-by, find-by, inserted-by, looked_up-by, put-by, removed-by, IsMap-members, looked_up, members-inserted, members-put, members-removed}
@@ -18,4 +18,4 @@ pub use Rattle.mp_tree.proofs.Texts.IntoData.{members-cons-by}
 pub use Rattle.mp_tree.proofs.Texts.Lengths.{length-list, length-object}
 pub use Rattle.mp_tree.proofs.Texts.Unescaped.{IsUtf8-ascii}
 pub use Rattle.mp_tree.proofs.Texts.Written.{has_float-data_of}
-pub use Rattle.mp_tree.proofs.Valued.Meaning.{IsDocument-value, value-Array}
+pub use Rattle.mp_tree.proofs.Valued.Meaning.{IsDocument-value}

@@ -2,6 +2,7 @@ pub mod Arrays
 pub mod ByName
 pub mod Document
 pub mod Elements
+pub mod Kind
 pub mod Laws
 pub mod Look
 pub mod Private

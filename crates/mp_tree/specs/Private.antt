@@ -3,3 +3,4 @@ pub mod Entries
 pub mod Faults
 pub mod Lengths
 pub mod Readings
+pub mod Scalars

@@ -1,29 +1,48 @@
 // Equality of documents: nothing is allocated, each part is looked at once at most, and the first difference ends it.
 ghost use Rattle.std.specs.Prelude.{◌≡◌, ◌↔◌, IsTrue};
-ghost use Rattle.mp_tree.specs.View.{document, items};
-ghost use Rattle.mp_tree.specs.Private.Entries.{members};
+ghost use Rattle.mp_tree.specs.View.{items_by, members_by};
 
-use crate::doc::Doc;
+use crate::node_kind::NodeKind;
+use crate::walked::Walked;
 use std::collections::BTreeMap;
 
 #[cycle(same)]
-pub(crate) fn is_same(doc: &Doc, other: &Doc) -> bool
-    ensures { IsTrue result ↔ (document doc.now ≡ document other.now) }
+#[inline(always)]
+pub(crate) fn is_same<T: Walked>(node: &T, other: &T) -> bool
+    ensures { IsTrue result ↔ (T.means node.now ≡ T.means other.now) }
 {
-    match (doc, other) {
-        (Doc::Null, Doc::Null) => true,
-        (Doc::Flag(flag), Doc::Flag(other_flag)) => flag == other_flag,
-        (Doc::Whole(number), Doc::Whole(other_number)) => number == other_number,
-        (Doc::Text(text), Doc::Text(other_text)) => text.as_str() == other_text.as_str(),
-        (Doc::Items(elements), Doc::Items(others)) => are_same_items(elements, others),
-        (Doc::Members(entries), Doc::Members(others)) => are_same_members(entries, others),
-        _ => false,
+    match node.top() {
+        NodeKind::Null => match other.top() {
+            NodeKind::Null => true,
+            _ => false,
+        },
+        NodeKind::Flag(flag) => match other.top() {
+            NodeKind::Flag(other_flag) => flag == other_flag,
+            _ => false,
+        },
+        NodeKind::Whole(number) => match other.top() {
+            NodeKind::Whole(other_number) => number == other_number,
+            _ => false,
+        },
+        NodeKind::Text(text) => match other.top() {
+            NodeKind::Text(other_text) => text == other_text,
+            _ => false,
+        },
+        NodeKind::Items(elements) => match other.top() {
+            NodeKind::Items(others) => are_same_items(elements, others),
+            _ => false,
+        },
+        NodeKind::Members(entries) => match other.top() {
+            NodeKind::Members(others) => are_same_members(entries, others),
+            _ => false,
+        },
     }
 }
 
 #[cycle(same)]
-fn are_same_items(elements: &Vec<Doc>, others: &Vec<Doc>) -> bool
-    ensures { IsTrue result ↔ (items elements.now.items ≡ items others.now.items) }
+fn are_same_items<T: Walked>(elements: &Vec<T>, others: &Vec<T>) -> bool
+    ensures { IsTrue result
+        ↔ (items_by T.means elements.now.items ≡ items_by T.means others.now.items) }
 {
     if elements.len() != others.len() {
         return false;
@@ -37,8 +56,9 @@ fn are_same_items(elements: &Vec<Doc>, others: &Vec<Doc>) -> bool
 }
 
 #[cycle(same)]
-fn are_same_members(entries: &BTreeMap<String, Doc>, others: &BTreeMap<String, Doc>) -> bool
-    ensures { IsTrue result ↔ (members entries.now.entries ≡ members others.now.entries) }
+fn are_same_members<T: Walked>(entries: &BTreeMap<String, T>, others: &BTreeMap<String, T>) -> bool
+    ensures { IsTrue result
+        ↔ (members_by T.means entries.now.entries ≡ members_by T.means others.now.entries) }
 {
     if entries.len() != others.len() {
         return false;

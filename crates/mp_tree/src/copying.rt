@@ -1,72 +1,75 @@
-// From `serde_json`'s value to a document, by reference: texts and names are copied.
+// Copies of documents, which share nothing with them: texts and names are copied. A map of many names is built whole from its
+// pairs: an insertion each costs more, and so does `clone`, which inserts.
 ghost use Rattle.std.specs.Prelude.{◌≡◌, IfOk};
-ghost use Rattle.mp_tree.specs.View.{document, items};
-ghost use Rattle.mp_tree.specs.Private.Entries.{members, value_members};
-ghost use Rattle.mp_tree.specs.Values.{value_document, value_items};
+ghost use Rattle.mp_tree.specs.View.{items_by, members_by};
 
 use crate::building::{FEW, map_of};
-use crate::converting::whole_or_zero;
-use crate::doc::Doc;
-use serde_json::{Map, Value};
+use crate::node_kind::NodeKind;
+use crate::walked::{CopyOf, Walked};
 use std::alloc::{AllocError, Global};
 use std::collections::BTreeMap;
 
-#[cycle(doc_copied)]
-pub(crate) fn doc_copied(value: &Value, alloc: Global) -> Result<Doc, AllocError>
-    ensures { IfOk result (λ d. document d ≡ value_document value.now) }
+#[cycle(copy)]
+#[inline(always)]
+pub(crate) fn copy_of<T: Walked, U: CopyOf<T>>(node: &T, alloc: Global) -> Result<U, AllocError>
+    ensures { IfOk result (λ d. U.means d ≡ T.means node.now) }
 {
-    match value {
-        Value::Null => Ok(Doc::Null),
-        Value::Bool(flag) => Ok(Doc::Flag(*flag)),
-        Value::Number(number) => Ok(Doc::Whole(whole_or_zero(number))),
-        Value::String(text) => Ok(Doc::Text(String::from_str(alloc, text.as_str())?)),
-        Value::Array(elements) => Ok(Doc::Items(items_copied(elements, alloc)?)),
-        Value::Object(entries) => Ok(Doc::Members(members_copied(entries, alloc)?)),
+    match node.top() {
+        NodeKind::Null | NodeKind::Flag(_) | NodeKind::Whole(_) => Ok(U::scalar_of(node)),
+        NodeKind::Text(text) => Ok(U::from_text(String::from_str(alloc, text)?)),
+        NodeKind::Items(elements) => Ok(U::from_items(copy_items(elements, alloc)?)),
+        NodeKind::Members(entries) => Ok(U::from_members(copy_members(entries, alloc)?)),
     }
 }
 
-#[cycle(doc_copied)]
-fn items_copied(elements: &Vec<Value>, alloc: Global) -> Result<Vec<Doc>, AllocError>
-    ensures { IfOk result (λ docs. items docs.items ≡ value_items elements.now.items) }
-{
-    let mut docs = Vec::with_capacity(alloc, elements.len())?;
-    for element in elements {
-        docs.push(doc_copied(element, alloc)?)?;
-    }
-    Ok(docs)
-}
-
-#[cycle(doc_copied)]
-fn members_copied(
-    entries: &Map<String, Value>,
+#[cycle(copy)]
+fn copy_items<T: Walked, U: CopyOf<T>>(
+    elements: &Vec<T>,
     alloc: Global,
-) -> Result<BTreeMap<String, Doc>, AllocError>
-    ensures { IfOk result (λ docs. members docs.entries ≡ value_members entries.now.entries) }
+) -> Result<Vec<U>, AllocError>
+    ensures { IfOk result (λ copies.
+        items_by U.means copies.items ≡ items_by T.means elements.now.items) }
+{
+    let mut copies = Vec::with_capacity(alloc, elements.len())?;
+    for element in elements {
+        copies.push(copy_of(element, alloc)?)?;
+    }
+    Ok(copies)
+}
+
+#[cycle(copy)]
+fn copy_members<T: Walked, U: CopyOf<T>>(
+    entries: &BTreeMap<String, T>,
+    alloc: Global,
+) -> Result<BTreeMap<String, U>, AllocError>
+    ensures { IfOk result (λ copies.
+        members_by U.means copies.entries ≡ members_by T.means entries.now.entries) }
 {
     if entries.len() <= FEW {
-        return few_copied(entries, alloc);
+        return copy_few(entries, alloc);
     }
     let mut pairs = Vec::with_capacity(alloc, entries.len())?;
     for (name, value) in entries.iter() {
         let copied_name = String::from_str(alloc, name.as_str())?;
-        let copied_value = doc_copied(value, alloc)?;
+        let copied_value = copy_of(value, alloc)?;
         pairs.push((copied_name, copied_value))?;
     }
     map_of(alloc, pairs)
 }
 
-#[cycle(doc_copied)]
-fn few_copied(
-    entries: &Map<String, Value>,
+#[cycle(copy)]
+fn copy_few<T: Walked, U: CopyOf<T>>(
+    entries: &BTreeMap<String, T>,
     alloc: Global,
-) -> Result<BTreeMap<String, Doc>, AllocError>
-    ensures { IfOk result (λ docs. members docs.entries ≡ value_members entries.now.entries) }
+) -> Result<BTreeMap<String, U>, AllocError>
+    ensures { IfOk result (λ copies.
+        members_by U.means copies.entries ≡ members_by T.means entries.now.entries) }
 {
-    let mut docs = BTreeMap::new(alloc);
+    let mut copies = BTreeMap::new(alloc);
     for (name, value) in entries.iter() {
         let copied_name = String::from_str(alloc, name.as_str())?;
-        let copied_value = doc_copied(value, alloc)?;
-        drop(docs.insert(copied_name, copied_value)?);
+        let copied_value = copy_of(value, alloc)?;
+        drop(copies.insert(copied_name, copied_value)?);
     }
-    Ok(docs)
+    Ok(copies)
 }

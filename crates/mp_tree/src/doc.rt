@@ -1,8 +1,8 @@
 //! Documents: copies, equality and depth.
 ghost use Rattle.std.specs.Prelude.{◌≡◌, ◌≤◌, ◌<◌, ◌+◌, ◌↔◌, length, IfOk, IsTrue, MatchOption};
 
-use crate::building::{FEW, map_of};
 use crate::comparing::is_same;
+use crate::copying::copy_of;
 use crate::measuring::is_within;
 use crate::text_lengths::left_of_text;
 use crate::weighing::left_of;
@@ -107,67 +107,4 @@ impl Doc {
     {
         left_of_text(self, budget)
     }
-}
-
-ghost use Rattle.mp_tree.specs.View.{document, items};
-ghost use Rattle.mp_tree.specs.Private.Entries.{members};
-
-#[cycle(copy)]
-fn copy_of(doc: &Doc, alloc: Global) -> Result<Doc, AllocError>
-    ensures { IfOk result (λ d. document d ≡ document doc.now) }
-{
-    match doc {
-        Doc::Null => Ok(Doc::Null),
-        Doc::Flag(flag) => Ok(Doc::Flag(*flag)),
-        Doc::Whole(number) => Ok(Doc::Whole(*number)),
-        Doc::Text(text) => Ok(Doc::Text(String::from_str(alloc, text.as_str())?)),
-        Doc::Items(elements) => Ok(Doc::Items(copy_items(elements, alloc)?)),
-        Doc::Members(entries) => Ok(Doc::Members(copy_members(entries, alloc)?)),
-    }
-}
-
-#[cycle(copy)]
-fn copy_items(elements: &Vec<Doc>, alloc: Global) -> Result<Vec<Doc>, AllocError>
-    ensures { IfOk result (λ copies. items copies.items ≡ items elements.now.items) }
-{
-    let mut copies = Vec::with_capacity(alloc, elements.len())?;
-    for element in elements {
-        copies.push(copy_of(element, alloc)?)?;
-    }
-    Ok(copies)
-}
-
-#[cycle(copy)]
-fn copy_members(
-    entries: &BTreeMap<String, Doc>,
-    alloc: Global,
-) -> Result<BTreeMap<String, Doc>, AllocError>
-    ensures { IfOk result (λ copies. members copies.entries ≡ members entries.now.entries) }
-{
-    if entries.len() <= FEW {
-        return copy_few(entries, alloc);
-    }
-    let mut pairs = Vec::with_capacity(alloc, entries.len())?;
-    for (name, value) in entries.iter() {
-        let copied_name = String::from_str(alloc, name.as_str())?;
-        let copied_value = copy_of(value, alloc)?;
-        pairs.push((copied_name, copied_value))?;
-    }
-    map_of(alloc, pairs)
-}
-
-#[cycle(copy)]
-fn copy_few(
-    entries: &BTreeMap<String, Doc>,
-    alloc: Global,
-) -> Result<BTreeMap<String, Doc>, AllocError>
-    ensures { IfOk result (λ copies. members copies.entries ≡ members entries.now.entries) }
-{
-    let mut copies = BTreeMap::new(alloc);
-    for (name, value) in entries.iter() {
-        let copied_name = String::from_str(alloc, name.as_str())?;
-        let copied_value = copy_of(value, alloc)?;
-        drop(copies.insert(copied_name, copied_value)?);
-    }
-    Ok(copies)
 }

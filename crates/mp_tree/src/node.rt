@@ -7,11 +7,16 @@ ghost use Rattle.std.specs.declared.alloc.Global.{Global};
 ghost use Rattle.std.specs.BTreeMap.{BTreeMap};
 ghost use Rattle.mp_tree.specs.Rows.{list_row_of, map_row_of};
 ghost use Rattle.mp_tree.specs.Document.{Document, null, string, list, object, IsDocument};
+ghost use Rattle.mp_tree.specs.Kind.{kind_document};
 ghost use Rattle.mp_tree.specs.View.{document, items_by, members_by};
 
 use crate::borrowing::{items_mut, members_mut};
+use crate::comparing::is_same;
+use crate::copying::copy_of;
 use crate::doc::Doc;
-use crate::values::{copy_to_doc, copy_value, same_value, value_items_mut, value_members_mut};
+use crate::node_kind::NodeKind;
+use crate::values::{value_items_mut, value_members_mut};
+use crate::walked::Walked;
 use serde_json::{Map, Value};
 use std::alloc::{AllocError, Global};
 use std::collections::BTreeMap;
@@ -27,30 +32,63 @@ pub trait Node: Drop {
 
     ghost of_members: { BTreeMap (String Global) Self → Self };
 
+    /// What it is at its top, with what it holds borrowed.
+    fn kind(&self) -> NodeKind<'_, Self>
+        ensures documents { (d : Self) → IsDocument (means d) }
+        ensures value { means self.now ≡ kind_document means result };
+
     /// Null.
     fn null() -> Self
         ensures { means result ≡ null };
 
     /// Whether it is null.
+    #[inline(always)]
     fn is_null(&self) -> bool
-        ensures { IsTrue result ↔ (means self.now ≡ null) };
+        ensures { IsTrue result ↔ (means self.now ≡ null) }
+    {
+        match self.kind() {
+            NodeKind::Null => true,
+            _ => false,
+        }
+    }
 
     /// The characters of a text. None for any other document.
+    #[inline(always)]
     fn text(&self) -> Option<&str>
         ensures { MatchOption result ((s : _) → means self.now ≢ string s)
-            (λ s. means self.now ≡ string s.now) };
+            (λ s. means self.now ≡ string s.now) }
+    {
+        match self.kind() {
+            NodeKind::Text(text) => Some(text),
+            _ => None,
+        }
+    }
 
     /// The elements of an array. None for any other document.
+    #[inline(always)]
     fn items(&self) -> Option<&Vec<Self>>
         ensures documents { (d : Self) → IsDocument (means d) }
         ensures value { MatchOption result ((ds : _) → means self.now ≢ list ds)
-            (λ v. means self.now ≡ list (items_by means v.now.items)) };
+            (λ v. means self.now ≡ list (items_by means v.now.items)) }
+    {
+        match self.kind() {
+            NodeKind::Items(elements) => Some(elements),
+            _ => None,
+        }
+    }
 
     /// The members of an object. None for any other document.
+    #[inline(always)]
     fn members(&self) -> Option<&BTreeMap<String, Self>>
         ensures documents { (d : Self) → IsDocument (means d) }
         ensures value { MatchOption result ((ms : _) → means self.now ≢ object ms)
-            (λ m. means self.now ≡ object (members_by means m.now.entries)) };
+            (λ m. means self.now ≡ object (members_by means m.now.entries)) }
+    {
+        match self.kind() {
+            NodeKind::Members(entries) => Some(entries),
+            _ => None,
+        }
+    }
 
     /// The elements of an array, borrowed for writing: what is left there is the document's. None for any other document.
     fn items_mut(&mut self) -> Option<&mut Vec<Self>>
@@ -103,40 +141,13 @@ impl Node for Doc {
     ghost of_members = { Members };
 
     #[inline(always)]
+    fn kind(&self) -> NodeKind<'_, Doc> {
+        self.top()
+    }
+
+    #[inline(always)]
     fn null() -> Doc {
         Doc::Null
-    }
-
-    #[inline(always)]
-    fn is_null(&self) -> bool {
-        match self {
-            Doc::Null => true,
-            _ => false,
-        }
-    }
-
-    #[inline(always)]
-    fn text(&self) -> Option<&str> {
-        match self {
-            Doc::Text(text) => Some(text.as_str()),
-            _ => None,
-        }
-    }
-
-    #[inline(always)]
-    fn items(&self) -> Option<&Vec<Doc>> {
-        match self {
-            Doc::Items(elements) => Some(elements),
-            _ => None,
-        }
-    }
-
-    #[inline(always)]
-    fn members(&self) -> Option<&BTreeMap<String, Doc>> {
-        match self {
-            Doc::Members(entries) => Some(entries),
-            _ => None,
-        }
     }
 
     #[inline(always)]
@@ -166,17 +177,17 @@ impl Node for Doc {
 
     #[inline(always)]
     fn copied(&self, alloc: Global) -> Result<Doc, AllocError> {
-        self.copy(alloc)
+        copy_of(self, alloc)
     }
 
     #[inline(always)]
     fn to_doc(&self, alloc: Global) -> Result<Doc, AllocError> {
-        self.copy(alloc)
+        copy_of(self, alloc)
     }
 
     #[inline(always)]
     fn equals(&self, other: &Doc) -> bool {
-        self.same(other)
+        is_same(self, other)
     }
 }
 
@@ -191,40 +202,13 @@ impl Node for Value {
     ghost of_members = { Object };
 
     #[inline(always)]
+    fn kind(&self) -> NodeKind<'_, Value> {
+        self.top()
+    }
+
+    #[inline(always)]
     fn null() -> Value {
         Value::Null
-    }
-
-    #[inline(always)]
-    fn is_null(&self) -> bool {
-        match self {
-            Value::Null => true,
-            _ => false,
-        }
-    }
-
-    #[inline(always)]
-    fn text(&self) -> Option<&str> {
-        match self {
-            Value::String(text) => Some(text.as_str()),
-            _ => None,
-        }
-    }
-
-    #[inline(always)]
-    fn items(&self) -> Option<&Vec<Value>> {
-        match self {
-            Value::Array(elements) => Some(elements),
-            _ => None,
-        }
-    }
-
-    #[inline(always)]
-    fn members(&self) -> Option<&BTreeMap<String, Value>> {
-        match self {
-            Value::Object(entries) => Some(entries),
-            _ => None,
-        }
     }
 
     #[inline(always)]
@@ -254,16 +238,16 @@ impl Node for Value {
 
     #[inline(always)]
     fn copied(&self, alloc: Global) -> Result<Value, AllocError> {
-        copy_value(alloc, self)
+        copy_of(self, alloc)
     }
 
     #[inline(always)]
     fn to_doc(&self, alloc: Global) -> Result<Doc, AllocError> {
-        copy_to_doc(alloc, self)
+        copy_of(self, alloc)
     }
 
     #[inline(always)]
     fn equals(&self, other: &Value) -> bool {
-        same_value(self, other)
+        is_same(self, other)
     }
 }

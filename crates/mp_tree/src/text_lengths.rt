@@ -1,15 +1,20 @@
 //! How many bytes a text has, found without writing it: nothing is allocated, and the first part that is too long ends it.
-ghost use Rattle.std.specs.Prelude.{◌≡◌, ◌<◌, ◌≤◌, ◌+◌, ◌-◌, ◌^◌, ◌⊎◌, ℕ, length, MatchBool, MatchOption};
+ghost use Rattle.std.specs.Prelude.{◌≡◌, ◌<◌, ◌≤◌, ◌+◌, ◌-◌, ◌^◌, ◌⊎◌, ℕ, length, decimal, MatchBool, MatchOption};
+ghost use Rattle.std.specs.Fmt.{signed_decimal};
 ghost use Rattle.json.specs.Print.{escape_byte, quoted};
+ghost use Rattle.mp_tree.specs.Document.{flag as flag_document, whole as whole_document};
 ghost use Rattle.mp_tree.specs.Text.{text};
-ghost use Rattle.mp_tree.specs.View.{items_by, members_by};
+ghost use Rattle.mp_tree.specs.View.{items_by, members_by, number_of};
 ghost use Rattle.mp_tree.specs.Private.Lengths.{bracketed, items_length, members_length};
 
-use crate::scalar_lengths::Measured;
+use crate::node::Node;
+use crate::node_kind::NodeKind;
+use crate::whole::Whole;
+use itoa::Buffer;
 use std::collections::BTreeMap;
 
 // Whether the text has more bytes than the limit. With `usize::MAX` nothing is measured.
-pub(crate) fn is_longer<T: Measured>(node: &T, limit: usize) -> bool
+pub(crate) fn is_longer<T: Node>(node: &T, limit: usize) -> bool
     ensures { MatchBool result (limit < length (text (T.means node.now)))
         ((limit ≡ 2 ^ 64 - 1) ⊎ (length (text (T.means node.now)) ≤ limit)) }
 {
@@ -21,23 +26,22 @@ pub(crate) fn is_longer<T: Measured>(node: &T, limit: usize) -> bool
 
 // What remains of so many bytes after the text. None if it has more.
 #[cycle(measure)]
-pub(crate) fn left_of_text<T: Measured>(node: &T, budget: usize) -> Option<usize>
+pub(crate) fn left_of_text<T: Node>(node: &T, budget: usize) -> Option<usize>
     ensures { MatchOption result (budget < length (text (T.means node.now)))
         (λ left. left + length (text (T.means node.now)) ≡ budget) }
 {
-    if let Some(plain) = node.text() {
-        left_of_quoted(plain, budget)
-    } else if let Some(elements) = node.items() {
-        left_of_elements(elements, budget)
-    } else if let Some(entries) = node.members() {
-        left_of_entries(entries, budget)
-    } else {
-        budget.checked_sub(node.scalar_length())
+    match node.kind() {
+        NodeKind::Null => budget.checked_sub(4),
+        NodeKind::Flag(flag) => budget.checked_sub(flag_length(flag)),
+        NodeKind::Whole(whole) => budget.checked_sub(whole_length(whole)),
+        NodeKind::Text(plain) => left_of_quoted(plain, budget),
+        NodeKind::Items(elements) => left_of_elements(elements, budget),
+        NodeKind::Members(entries) => left_of_entries(entries, budget),
     }
 }
 
 #[cycle(measure)]
-fn left_of_elements<T: Measured>(elements: &Vec<T>, budget: usize) -> Option<usize>
+fn left_of_elements<T: Node>(elements: &Vec<T>, budget: usize) -> Option<usize>
     ensures { MatchOption result
         (budget < bracketed (items_length (items_by T.means elements.now.items)))
         (λ left. left + bracketed (items_length (items_by T.means elements.now.items))
@@ -51,7 +55,7 @@ fn left_of_elements<T: Measured>(elements: &Vec<T>, budget: usize) -> Option<usi
 }
 
 #[cycle(measure)]
-fn left_of_entries<T: Measured>(entries: &BTreeMap<String, T>, budget: usize) -> Option<usize>
+fn left_of_entries<T: Node>(entries: &BTreeMap<String, T>, budget: usize) -> Option<usize>
     ensures { MatchOption result
         (budget < bracketed (members_length (members_by T.means entries.now.entries)))
         (λ left. left + bracketed (members_length (members_by T.means entries.now.entries))
@@ -63,6 +67,38 @@ fn left_of_entries<T: Measured>(entries: &BTreeMap<String, T>, budget: usize) ->
         left = left_of_text(value, named)?.checked_sub(1)?;
     }
     after_bracket(budget, left)
+}
+
+fn flag_length(flag: bool) -> usize
+    ensures { result ≡ length (text (flag_document flag)) }
+{
+    if flag { 4 } else { 5 }
+}
+
+fn whole_length(whole: Whole) -> usize
+    ensures { result ≡ length (text (whole_document (number_of whole))) }
+{
+    match u64::try_from(whole.value()) {
+        Ok(natural) => natural_length(natural),
+        Err(_) => match i64::try_from(whole.value()) {
+            Ok(below_zero) => integer_length(below_zero),
+            Err(_) => unreachable!(),
+        },
+    }
+}
+
+fn natural_length(natural: u64) -> usize
+    ensures { result ≡ length (decimal natural) }
+{
+    let mut buffer = Buffer::new();
+    buffer.format(natural).len()
+}
+
+fn integer_length(integer: i64) -> usize
+    ensures { result ≡ length (signed_decimal integer) }
+{
+    let mut buffer = Buffer::new();
+    buffer.format(integer).len()
 }
 
 // What remains after the closing bracket. It was counted with the last part, if there is one: else only the opening bracket was.
@@ -92,6 +128,7 @@ fn left_of_quoted(plain: &str, budget: usize) -> Option<usize>
 
 /// How many bytes a byte of a text takes in a JSON string (RFC 8259 section 7): 2 for a quote, a backslash and the five control
 /// characters with a short escape, 6 for each other control character, and else 1. Takes no memory.
+#[tactic(auto, unfolding(json::specs::Print::escape_byte))]
 pub fn escaped_length(byte: u8) -> usize
     ensures length { result ≡ length (escape_byte byte) }
 {

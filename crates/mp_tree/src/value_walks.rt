@@ -1,6 +1,5 @@
-// Walks down a value that allocate nothing: whether its numbers are whole and it is as shallow as asked, and whether it means the
-// same as another. The first part that decides ends each: a number that is not whole, or a difference.
-ghost use Rattle.std.specs.Prelude.{◌≡◌, ◌↔◌, None, Some, IsTrue, MatchBool};
+// Whether a value's numbers are whole and it is as shallow as asked: nothing is allocated, and a number that is not whole ends it.
+ghost use Rattle.std.specs.Prelude.{◌≡◌, None, Some, MatchBool};
 ghost use Rattle.serde_json.specs.View.{view, items_view, members_view, number_view};
 ghost use Rattle.mp_tree.specs.Document.{depth, items_depth, members_depth};
 ghost use Rattle.mp_tree.specs.Private.Entries.{value_members};
@@ -8,7 +7,7 @@ ghost use Rattle.mp_tree.specs.Private.Readings.{IsReading, reading_around};
 ghost use Rattle.mp_tree.specs.Text.{from_data, items_from_data, members_from_data, whole_number};
 ghost use Rattle.mp_tree.specs.Values.{number_in, value_document, value_items};
 
-use crate::converting::{whole_of, whole_or_zero};
+use crate::converting::whole_of;
 use serde_json::{Map, Number, Value};
 
 // Whether a value is read as a document, and as one that is as shallow as asked.
@@ -104,59 +103,4 @@ fn members_reading(values: &Map<String, Value>, limit: u32, left: &mut u32) -> R
         }
     }
     reading
-}
-
-#[cycle(same)]
-#[inline(always)]
-pub(crate) fn is_same(value: &Value, other: &Value) -> bool
-    ensures { IsTrue result ↔ (value_document value.now ≡ value_document other.now) }
-{
-    match (value, other) {
-        (Value::Null, Value::Null) => true,
-        (Value::Bool(flag), Value::Bool(other_flag)) => flag == other_flag,
-        (Value::Number(number), Value::Number(other_number)) => {
-            is_same_number(number, other_number)
-        }
-        (Value::String(text), Value::String(other_text)) => { text.as_str() == other_text.as_str() }
-        (Value::Array(values), Value::Array(others)) => are_same_items(values, others),
-        (Value::Object(values), Value::Object(others)) => are_same_members(values, others),
-        _ => false,
-    }
-}
-
-fn is_same_number(number: &Number, other: &Number) -> bool
-    ensures { IsTrue result ↔ (number_in number.now ≡ number_in other.now) }
-{
-    whole_or_zero(number) == whole_or_zero(other)
-}
-
-#[cycle(same)]
-fn are_same_items(values: &Vec<Value>, others: &Vec<Value>) -> bool
-    ensures { IsTrue result ↔ (value_items values.now.items ≡ value_items others.now.items) }
-{
-    if values.len() != others.len() {
-        return false;
-    }
-    for (value, other) in values.iter().zip(others) {
-        if !is_same(value, other) {
-            return false;
-        }
-    }
-    true
-}
-
-#[cycle(same)]
-fn are_same_members(values: &Map<String, Value>, others: &Map<String, Value>) -> bool
-    ensures { IsTrue result
-        ↔ (value_members values.now.entries ≡ value_members others.now.entries) }
-{
-    if values.len() != others.len() {
-        return false;
-    }
-    for ((name, value), (other_name, other)) in values.iter().zip(others.iter()) {
-        if name.as_str() != other_name.as_str() || !is_same(value, other) {
-            return false;
-        }
-    }
-    true
 }

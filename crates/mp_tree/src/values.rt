@@ -13,17 +13,15 @@ ghost use Rattle.mp_tree.specs.Text.{data_in, document_in, documents_in, read, t
 ghost use Rattle.mp_tree.specs.Values.{value_document, value_items};
 ghost use Rattle.mp_tree.specs.View.{document};
 
+use crate::comparing::is_same;
 use crate::converting::whole_of;
-use crate::copying::doc_copied;
+use crate::copying::copy_of;
 use crate::doc::Doc;
 use crate::fault::{DocsFault, ReadFault};
 use crate::reading::read_json;
-use crate::text_lengths::is_longer;
-use crate::value_copying::copy_of;
 use crate::value_reading::{Tree, read_tree};
-use crate::value_walks::is_same;
-use crate::value_writing::Written;
-use serde_json::{Map, Number, Value, to_string};
+use crate::writing::{written, written_within};
+use serde_json::{Map, Number, Value};
 use std::alloc::{AllocError, Global};
 
 /// As `read_doc`, but what `serde_json` reads is kept as it is. It costs less where a document is read, changed and written.
@@ -103,10 +101,7 @@ pub fn write_value(alloc: Global, value: &Value) -> Result<String, AllocError>
     ensures reads_back { IfOk result (λ s. depth (value_document value.now) ≤ depth_limit
         → read (string_bytes s) ≡ Some (value_document value.now)) }
 {
-    match to_string(alloc, &Written { value }) {
-        Ok(written) => Ok(written),
-        Err(_) => Err(AllocError),
-    }
+    written(alloc, value)
 }
 
 /// As `write_doc_within`, of the document that the value means.
@@ -122,10 +117,7 @@ pub fn write_value_within(
     ensures reads_back { depth (value_document value.now) ≤ depth_limit
         → read (text (value_document value.now)) ≡ Some (value_document value.now) }
 {
-    if is_longer(value, limit) {
-        return Ok(None);
-    }
-    Ok(Some(write_value(alloc, value)?))
+    written_within(alloc, value, limit)
 }
 
 /// As `Doc::copy`: a value that means an equal document, and shares nothing with this one. A number that is not whole means 0 in
@@ -145,7 +137,7 @@ pub fn copy_value(alloc: Global, value: &Value) -> Result<Value, AllocError>
 pub fn copy_to_doc(alloc: Global, value: &Value) -> Result<Doc, AllocError>
     ensures equal { IfOk result (λ d. document d ≡ value_document value.now) }
 {
-    doc_copied(value, alloc)
+    copy_of(value, alloc)
 }
 
 /// As `Doc::same`: whether the two mean equal documents, as 1.5 and 2.5 do, which both mean 0. It takes no memory, looks at each

@@ -43,7 +43,7 @@ pub fn agree(alloc: Global, bytes: u64, count: u64) -> Result<Option<u64>, Alloc
     }
     let all = bytes_of(alloc, texts.as_slice())?;
     match (
-        replica.shown_text(alloc, usize::MAX),
+        replica.document_text(alloc, usize::MAX),
         replay_texts(alloc, start.as_bytes(), all.as_slice(), usize::MAX),
     ) {
         (Ok(shown), Ok(replayed)) => Ok(if shown == replayed { Some(taken) } else { None }),

@@ -1,7 +1,7 @@
 //! The texts of the errors, which no contract says.
 use crate::written::says;
 use mp_cli::{CommandFault, RunFault};
-use mp_merge::{Conflicts, ConvergeFault, JoinFault, ListFault, ListWithinFault, RewriteFault};
+use mp_merge::{Conflicts, ConvergeFault, JoinFault, ListFault, RewriteFault};
 use mp_patch::{ApplyFault, ApplyWithinFault, Cause, FormCause, FormFault};
 use mp_pointer::PointerFault;
 use mp_replica::{DecideFault, Identity, LiveFault};
@@ -192,26 +192,26 @@ fn of_json_patches(rt: HostRuntime) -> Result<(), Fail> {
 fn of_merging(rt: HostRuntime) -> Result<(), Fail> {
     says(&rt, &JoinFault::Conflict(Vec::new(rt.alloc())), "conflict")?;
     says(&rt, &JoinFault::OutOfMemory, "out of memory")?;
-    says(&rt, &ListFault::NoPatches, "no patches")?;
-    says(&rt, &ListFault::OutOfMemory, "out of memory")?;
-    let clash = ListFault::ConflictOf {
+    let none: ListFault = ListFault::NoPatches;
+    says(&rt, &none, "no patches")?;
+    let no_memory: ListFault = ListFault::OutOfMemory;
+    says(&rt, &no_memory, "out of memory")?;
+    let conflict: ListFault = ListFault::ConflictOf {
         first: 1,
         second: 3,
         places: Vec::new(rt.alloc()),
     };
-    says(&rt, &clash, "conflict: patches 1 and 3")
+    says(&rt, &conflict, "conflict: patches 1 and 3")
 }
 
 #[test]
 fn of_merging_within_a_limit(rt: HostRuntime) -> Result<(), Fail> {
-    says(&rt, &ListWithinFault::NoPatches, "no patches")?;
-    says(&rt, &ListWithinFault::OutOfMemory, "out of memory")?;
-    let clash = ListWithinFault::ConflictOf {
+    let conflict: ListFault<Conflicts> = ListFault::ConflictOf {
         first: 1,
         second: 3,
-        conflicts: no_conflicts(rt.alloc(), 2),
+        places: no_conflicts(rt.alloc(), 2),
     };
-    says(&rt, &clash, "conflict: patches 1 and 3")?;
+    says(&rt, &conflict, "conflict: patches 1 and 3")?;
     let fault = RewriteFault::TooLarge { fitting: 2 };
     says(&rt, &fault, "too large")?;
     says(&rt, &RewriteFault::OutOfMemory, "out of memory")
@@ -260,7 +260,7 @@ fn of_texts(rt: HostRuntime) -> Result<(), Fail> {
         fault: ReadFault::TooDeep,
     };
     is_reported(&rt, unread, "patch 1: too deep")?;
-    let none = TextsFault::List(ListWithinFault::NoPatches);
+    let none = TextsFault::List(ListFault::NoPatches);
     is_reported(&rt, none, "no patches")?;
     let no_array = TextsFault::Form(FormFault::NotAnArray);
     is_reported(&rt, no_array, "not an array")?;

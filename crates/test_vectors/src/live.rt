@@ -38,9 +38,9 @@ fn follows(alloc: Global, patches: &[&[u8]]) -> Result<Replica, LiveFault> {
 fn replicas_show_the_same(rt: HostRuntime) -> Result<(), Fail> {
     let shown = r#"{"a":{"x":1},"l":[1,2]}"#;
     let here = follows(rt.alloc(), &[ONE, TWO, THREE, ONE])?;
-    answers(&rt, here.shown_text(rt.alloc(), usize::MAX), shown)?;
+    answers(&rt, here.document_text(rt.alloc(), usize::MAX), shown)?;
     let there = follows(rt.alloc(), &[THREE, TWO, THREE, ONE])?;
-    answers(&rt, there.shown_text(rt.alloc(), usize::MAX), shown)
+    answers(&rt, there.document_text(rt.alloc(), usize::MAX), shown)
 }
 
 /// Patches of which these were taken.

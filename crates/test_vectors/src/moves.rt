@@ -1,7 +1,7 @@
 //! The calls that apply a JSON Patch to a `Doc`, on moves that lead back. `tests/program` counts what they take on documents of
 //! its own, which it writes to a file.
 use crate::written::holds;
-use mp_patch::{JsonPatch, apply, apply_once, apply_owned};
+use mp_patch::{JsonPatch, apply, apply_owned, apply_within};
 use mp_tree::{Doc, read_doc};
 use std::fs::Files;
 use std::rt::Env;
@@ -34,7 +34,7 @@ fn document_and_patch<R: Env + Files + AllocGlobal>(rt: &R) -> Result<(Doc, Json
     let (Some(form), Some(doc)) = (parts.pop(), parts.pop()) else {
         return Err(Fail::new("it has no document and patch"));
     };
-    Ok((doc, JsonPatch::from_doc_owned(rt.alloc(), form)?))
+    Ok((doc, JsonPatch::from_doc(rt.alloc(), &form)?))
 }
 
 #[test]
@@ -54,9 +54,10 @@ fn apply_owned_moves_there_and_back(rt: HostRuntime) -> Result<(), Fail> {
 }
 
 #[test]
-fn apply_once_moves_there_and_back(rt: HostRuntime) -> Result<(), Fail> {
+fn apply_within_moves_there_and_back(rt: HostRuntime) -> Result<(), Fail> {
     let (doc, patch) = document_and_patch(&rt)?;
-    let moved = apply_once(rt.alloc(), doc.copy(rt.alloc())?, patch)?;
+    let given = doc.copy(rt.alloc())?;
+    let moved = apply_within(rt.alloc(), given, patch.into_ops(), usize::MAX)?;
     holds(&rt, moved.same(&doc), "the moves lead back");
     Ok(())
 }

@@ -61,7 +61,7 @@ const PAIRS: &[(&str, &str, bool)] = &[
 
 fn patch_of(alloc: Global, form: &str) -> Result<JsonPatch, Fail> {
     let doc = read_doc(alloc, form.as_bytes())?;
-    Ok(JsonPatch::from_doc_owned(alloc, doc)?)
+    Ok(JsonPatch::from_doc(alloc, &doc)?)
 }
 
 fn is_written<R: Abort + AllocGlobal>(rt: &R, patch: &JsonPatch, wanted: &str) -> Result<(), Fail> {

@@ -164,12 +164,12 @@ fn a_replica_receives_what_is_of_its_start(rt: HostRuntime) -> Result<(), Fail> 
         replica.replica().joined().is_none(),
         "nothing is joined",
     );
-    is_some_text(&rt, replica.replica().shown(), START)?;
+    is_some_text(&rt, replica.replica().document(), START)?;
     for (epoch, text, wanted) in MESSAGES {
         becomes(&rt, &mut replica, *epoch, text, *wanted)?;
     }
     holds(&rt, replica.settle(rt.alloc()), "nothing is pending");
-    is_some_text(&rt, replica.replica().shown(), SHOWN)?;
+    is_some_text(&rt, replica.replica().document(), SHOWN)?;
     let joined = r#"{"a":{"x":1,"y":null},"k":null}"#;
     is_some_text(&rt, replica.replica().joined(), joined)
 }
@@ -189,7 +189,7 @@ fn a_patch_that_clashes_is_not_received(rt: HostRuntime) -> Result<(), Fail> {
     let places = replica.conflicts(rt.alloc(), &clashing)?;
     is_at(&rt, places.as_slice(), "/a/x")?;
     becomes(&rt, &mut replica, 1, CLASHING, Became::Conflict)?;
-    is_some_text(&rt, replica.replica().shown(), r#"{"a":{"x":1},"k":0}"#)
+    is_some_text(&rt, replica.replica().document(), r#"{"a":{"x":1},"k":0}"#)
 }
 
 #[test]

@@ -19,7 +19,7 @@ const OPERATIONS: &[(&str, usize)] = &[
 fn operations_weigh(rt: HostRuntime) -> Result<(), Fail> {
     for (form, weight) in OPERATIONS {
         let form = read_doc(rt.alloc(), form.as_bytes())?;
-        let patch = JsonPatch::from_doc_owned(rt.alloc(), form)?;
+        let patch = JsonPatch::from_doc(rt.alloc(), &form)?;
         holds(&rt, patch.ops().len() == 1, "there is one operation");
         for op in patch.ops() {
             equal(&rt, op.left_of(*weight), Some(0));

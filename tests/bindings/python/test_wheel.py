@@ -29,7 +29,7 @@ def followed(log: mergejoin.PatchLog, chosen: list[tuple[int, int]]) -> int:
     if log.receive(log.epoch, (1, 2), memoryview(b"{}")) is Arrival.STORED:
         log.decide(chosen)
     pairs, more = log.first_conflicts(limit=1_000)
-    return log.count() if more else sum(len(pair.places) + pair.first.sender for pair in [*pairs, *log.conflicts(), *log.conflicts_of(1, 2)[0]])
+    return log.count() if more else sum(len(pair.places) + pair.first.sender for pair in [*pairs, *log.conflicts(), *log.conflicts_of((1, 2))[0]])
 
 texts: list[str | bytearray] = ["{}", bytearray(b"{}")]
 joined: str = mergejoin.join(text for text in texts)

@@ -1,8 +1,9 @@
 """What stays in memory: a replica, patches without a start, and a log of patches that may conflict."""
 
+import copyreg
 import enum
 import json
-from typing import Iterable, List, NamedTuple, Optional, Tuple, TypeVar, Union, overload
+from typing import Any, Dict, Iterable, List, NamedTuple, NoReturn, Optional, Tuple, Type, TypeVar, Union, overload
 
 from . import _library
 from ._errors import Missing, NoPatches, TooLarge
@@ -15,6 +16,40 @@ _SHOWN = 60  # characters of a text that repr() shows
 
 def _shown(text: str) -> str:
     return text if len(text) <= _SHOWN else f"{text[:_SHOWN]}.. of {len(text):,} characters"
+
+
+_Added = Tuple[Optional[Dict[str, Any]], Dict[str, Any]]
+
+
+def _added_to(it: object) -> Optional[_Added]:
+    """The attributes and the slots that a subclass added, if it did."""
+    names = [name for name in copyreg._slotnames(type(it)) if name != "_held"]  # type: ignore[attr-defined]
+    slots = {name: getattr(it, name) for name in names if hasattr(it, name)}
+    named = getattr(it, "__dict__", None)
+    return (named, slots) if named or slots else None
+
+
+def _add_to(it: object, added: _Added) -> None:
+    """Gives a copy what a subclass added."""
+    for name, value in {**(added[0] or {}), **added[1]}.items():
+        object.__setattr__(it, name, value)
+
+
+def _replica(kind: "Type[Replica]", document: str, joined: Optional[str]) -> "Replica":
+    """A replica that was pickled. The join changes nothing of a document that shows it."""
+    replica = kind.__new__(kind)
+    replica._held = _library.Replica(document)
+    if joined is not None:
+        replica._held.receive(joined, None)
+    return replica
+
+
+def _patches(kind: "Type[Patches]", kept: str) -> "Patches":
+    """Patches that were pickled."""
+    patches = kind.__new__(kind)
+    patches._held = _library.Patches()
+    patches._held.from_kept(kept)
+    return patches
 
 
 class Replica:
@@ -40,11 +75,11 @@ class Replica:
     mergejoin.Conflict: conflict: two patches at "/author"
 
     The start and the patches are not kept: a replica has its document, and the join of what it received. Two replicas are equal
-    if they have the same of both. It pickles as these two texts, and copies. Any threads may use it: they take it one after
-    the other.
+    if they have the same of both. It pickles as these two texts, with what a subclass adds, and copies. Any threads may use it: they
+    take it one after the other.
     """
 
-    __slots__ = ("_held",)
+    __slots__ = ("_held", "__weakref__")
     __hash__ = None  # type: ignore[assignment]  # it changes
 
     def __init__(self, start: Given) -> None:
@@ -106,13 +141,15 @@ class Replica:
     def __repr__(self) -> str:
         return f"<mergejoin.Replica {_shown(self.document())}>"
 
-    def __reduce__(self) -> Tuple[type, Tuple[str], Optional[str]]:
-        document, joined = self._texts()
-        return type(self), (document,), joined
+    def __reduce__(self) -> Tuple[Any, ...]:
+        return _replica, (type(self), *self._texts()), _added_to(self)
 
-    def __setstate__(self, joined: str) -> None:
-        """Receives the join. It changes nothing of a document that shows it."""
-        self.receive(joined)
+    def __setstate__(self, state: Union[_Added, str]) -> None:
+        """Takes what a subclass added, or the join, as version 0.3 pickled it."""
+        if isinstance(state, str):
+            self._held.receive(state, None)
+        else:
+            _add_to(self, state)
 
 
 class Patches:
@@ -140,12 +177,12 @@ class Patches:
     Traceback (most recent call last):
     mergejoin.Conflict: conflict: two patches at "/author"
 
-    What a patch costs depends on the patch, and hardly on how many there are. A Patches pickles as one text, and copies: give it to a
-    process or keep it in a file. Two are equal if they pickle as the same text. Any threads may use it: they take it one after the
-    other.
+    What a patch costs depends on the patch, and hardly on how many there are. A Patches pickles as one text, with what a subclass adds,
+    and copies: give it to a process or keep it in a file. Two are equal if they pickle as the same text. Any threads may use it: they
+    take it one after the other.
     """
 
-    __slots__ = ("_held",)
+    __slots__ = ("_held", "__weakref__")
     __hash__ = None  # type: ignore[assignment]  # it changes
 
     def __init__(self) -> None:
@@ -188,12 +225,15 @@ class Patches:
     def __repr__(self) -> str:
         return f"<mergejoin.Patches {_shown(self._kept()) or 'of no patches'}>"
 
-    def __reduce__(self) -> Tuple[type, Tuple[()], str]:
-        return type(self), (), self._kept()
+    def __reduce__(self) -> Tuple[Any, ...]:
+        return _patches, (type(self), self._kept()), _added_to(self)
 
-    def __setstate__(self, kept: str) -> None:
-        """Takes the text that it was pickled as."""
-        self._held.from_kept(kept)
+    def __setstate__(self, state: Union[_Added, str]) -> None:
+        """Takes what a subclass added, or the text that version 0.3 pickled."""
+        if isinstance(state, str):
+            self._held.from_kept(state)
+        else:
+            _add_to(self, state)
 
 
 class Identity(NamedTuple):
@@ -255,14 +295,17 @@ class PatchLog:
     give them to a new one. It neither pickles nor copies. docs/NEW-START.md of the sources says how replicas agree on a decision.
     """
 
-    __slots__ = ("_held",)
+    __slots__ = ("_held", "__weakref__")
 
     def __init__(self, epoch: int, start: Given) -> None:
         """Begin with a start of this number, from 0 to 2**64 - 1. InputError is raised if the start is not a document."""
         self._held = _library.PatchLog(epoch, start)
 
-    def __copy__(self) -> "PatchLog":
-        raise TypeError("a PatchLog is not copied: give its messages to a new one")
+    def __repr__(self) -> str:
+        return f"<mergejoin.PatchLog {self.epoch} {_shown(self.document())}>"
+
+    def __reduce__(self) -> NoReturn:
+        raise TypeError("a PatchLog is neither pickled nor copied: give its messages to a new one")
 
     @property
     def epoch(self) -> int:
@@ -304,12 +347,12 @@ class PatchLog:
         text, more = self._held.conflicts(limit)
         return _pairs(text), bool(more)
 
-    def conflicts_of(self, sender: int, number: int, *, limit: Optional[int] = None) -> Tuple[List[ConflictingPair], bool]:
+    def conflicts_of(self, identity: Tuple[int, int], *, limit: Optional[int] = None) -> Tuple[List[ConflictingPair], bool]:
         """Return the same of the pairs with one identity: with which others its patch conflicts.
 
         The list is empty if no patch is stored under it.
         """
-        text, more = self._held.conflicts_of(sender, number, limit)
+        text, more = self._held.conflicts_of(*identity, limit)
         return _pairs(text), bool(more)
 
     def decide(self, chosen: Iterable[Tuple[int, int]], *, limit: Optional[int] = None) -> None:

@@ -73,7 +73,7 @@ def rewrite(document: Given, patch: Given, *, limit: Optional[int] = None) -> st
     return _library.rewrite(document, patch, limit)
 
 
-def patch(document: Given, operations: Given, *, limit: Optional[int] = None) -> str:
+def patch(document: Given, json_patch: Given, *, limit: Optional[int] = None) -> str:
     """Return the document after a JSON Patch (RFC 6902).
 
     >>> patch('[1]', '[{"op": "add", "path": "/-", "value": 2}]')
@@ -91,7 +91,7 @@ def patch(document: Given, operations: Given, *, limit: Optional[int] = None) ->
 
     InputError is looked for first, of the document and then of the patch, then Malformed, Refused and TooLarge.
     """
-    return _library.patch(document, operations, limit)
+    return _library.patch(document, json_patch, limit)
 
 
 @overload

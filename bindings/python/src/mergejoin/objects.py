@@ -71,13 +71,13 @@ def rewrite(document: object, patch: object, *, limit: Optional[int] = None) -> 
     return edits
 
 
-def patch(document: object, operations: object, *, limit: Optional[int] = None) -> Any:
+def patch(document: object, json_patch: object, *, limit: Optional[int] = None) -> Any:
     """Return the document after a JSON Patch, as mergejoin.patch().
 
     >>> patch([1], [{"op": "add", "path": "/-", "value": 2}])
     [1, 2]
     """
-    return _read(_library.patch(_written(document, "document"), _written(operations, "patch"), limit))[0]
+    return _read(_library.patch(_written(document, "document"), _written(json_patch, "patch"), limit))[0]
 
 
 def get(document: object, pointer: Given, default: Any = _ABSENT, *, limit: Optional[int] = None) -> Any:

@@ -1,15 +1,24 @@
 -- What a report leaves. Only private clauses cite it.
-use Rattle.std.specs.Prelude.{◌≡◌, ◌⊎◌, List, ℕ, Option, Result, Ok, Err, string_bytes, String}
+use Rattle.std.specs.Prelude.{◌⊎◌, List, [], ℕ, Bool, true, false, Option, MatchOption, Result, Ok, Err, length, string_bytes, String}
+use Rattle.std.specs.declared.alloc.AllocError.{AllocError}
 use Rattle.mp_pointer.specs.Spelling.{Tokens}
 use Rattle.mp_tree.specs.declared.fault.ReadFault.{ReadFault}
-use Rattle.mp_merge.specs.declared.fault.ListWithinFault.{ListWithinFault}
-use Rattle.mp_merge.specs.declared.fault.ListWithinFault.TheVariants.{ConflictOf}
+use Rattle.mp_merge.specs.declared.comparing.Conflicts.{Conflicts}
+use Rattle.mp_merge.specs.declared.fault.ListFault.{ListFault}
+use Rattle.mp_merge.specs.declared.fault.ListFault.TheVariants.{ConflictOf}
 use Rattle.mp_texts.specs.PlacesTexts.{IsPlacesText}
 use Rattle.mp_texts.specs.declared.fault.TextsFault.{TextsFault}
-use Rattle.mp_texts.specs.declared.fault.TextsFault.TheVariants.{Document as NoDocument, Patch, List as OfList, OutOfMemory}
-use Rattle.mp_c.specs.Answered.{ExportAnswer, IsOther, IsPlaceAt, IsPlaceIn, answer_conflict, answer_document, answer_fault, answer_patch, answer_text}
+use Rattle.mp_texts.specs.declared.fault.TextsFault.TheVariants.{Document as NoDocument, Patch, List as OfList}
+use Rattle.mp_replica.specs.Held.{HeldPatches, HeldPlaces}
+use Rattle.mp_replica.specs.declared.fault.LiveFault.{LiveFault}
+use Rattle.mp_replica.specs.declared.fault.LiveFault.TheVariants as live
+use Rattle.mp_replica.specs.declared.pairs_texts.PairsText.{PairsText}
+use Rattle.mp_replica.specs.declared.patches.Added.{Added}
+use Rattle.mp_replica.specs.declared.patches.Added.TheVariants as added
+use Rattle.mp_c.specs.Answered.{IsPlaceAt, IsPlaceIn}
+use Rattle.mp_c.specs.OnHandles.{HandleAnswer, IsPlacesTextOrNone, handle_fault, handle_first_pairs, handle_text}
 use Rattle.mp_c.specs.Replies.{IsReply}
-use Rattle.mp_c.specs.Report.{Report, no_memory, report_of, report_of_list, report_of_places, report_of_unread}
+use Rattle.mp_c.specs.Report.{Report, no_memory, report_of_fault, report_of_list, report_of_live_fault, report_of_places, report_of_text, report_of_unread, status_document, status_patch, status_result, unnumbered, with_more}
 use Rattle.mp_c.specs.declared.replying.Reply.{Reply}
 
 -- it is reported, or there was no memory to report it
@@ -23,35 +32,85 @@ ReportsUnread status number why IsPlace reply before after =
     ⊎ IsReply no_memory reply before after
 
 -- a conflict is reported with the text of those of its places that the limit allows
-abbrev pub ReportsList : ℕ → ListWithinFault → Reply → List ℕ → List ℕ → Type 0
+abbrev pub ReportsList : ℕ → ListFault Conflicts → Reply → List ℕ → List ℕ → Type 0
 ReportsList limit (ConflictOf first second conflicts) reply before after =
     ((array : List ℕ) × IsPlacesText limit conflicts.places.items array
     × IsReply (report_of_places first second conflicts.total array) reply before after)
     ⊎ IsReply no_memory reply before after
 ReportsList limit why reply before after = IsReply (report_of_list why) reply before after
 
--- the answer that is reported of an error of a call over these texts; out of memory may come in the place of any
-abbrev pub ShowsFault : ℕ → List ℕ → List (List ℕ) → TextsFault → ExportAnswer → Type 0
-ShowsFault limit document patches why (answer_fault shown) =
-    ((shown ≡ why) × IsOther why) ⊎ (shown ≡ OutOfMemory)
-ShowsFault limit document patches (NoDocument why) (answer_document shown place) =
-    (shown ≡ why) × IsPlaceIn why document place
-ShowsFault limit document patches (Patch number why) (answer_patch shown_number shown place) =
-    (shown_number ≡ number) × (shown ≡ why) × IsPlaceAt why patches number place
-ShowsFault limit document patches (OfList (ConflictOf first second conflicts)) (answer_conflict one other total array) =
-    (one ≡ first) × (other ≡ second) × (total ≡ conflicts.total)
-    × IsPlacesText limit conflicts.places.items array
-ShowsFault limit document patches why answer = ⊥
-
--- the answer that is reported of what a call over these texts gave
-abbrev pub Shows : {A : Type 0} → ℕ → List ℕ → List (List ℕ) → Result (String A) TextsFault → ExportAnswer → Type 0
-Shows limit document patches (Ok result) answer = answer ≡ answer_text (string_bytes result)
-Shows limit document patches (Err why) answer = ShowsFault limit document patches why answer
-
+-- so is an error of a call over these texts
 abbrev pub ReportsFault : ℕ → List ℕ → List (List ℕ) → TextsFault → Reply → List ℕ → List ℕ → Type 0
-ReportsFault limit document patches why reply before after =
-    (answer : ExportAnswer) × ShowsFault limit document patches why answer × IsReply (report_of answer) reply before after
+ReportsFault limit document patches (NoDocument why) reply before after =
+    ReportsUnread status_document 0 why (IsPlaceIn why document) reply before after
+ReportsFault limit document patches (Patch number why) reply before after =
+    ReportsUnread status_patch number why (IsPlaceAt why patches number) reply before after
+ReportsFault limit document patches (OfList why) reply before after = ReportsList limit why reply before after
+ReportsFault limit document patches why reply before after = IsReply (report_of_fault why) reply before after
 
+-- and what a call over these texts gave
 abbrev pub ReportsCall : {A : Type 0} → ℕ → List ℕ → List (List ℕ) → Result (String A) TextsFault → Reply → List ℕ → List ℕ → Type 0
-ReportsCall limit document patches given reply before after =
-    (answer : ExportAnswer) × Shows limit document patches given answer × IsReply (report_of answer) reply before after
+ReportsCall limit document patches (Ok result) reply before after =
+    IsReply (unnumbered status_result (string_bytes result)) reply before after
+ReportsCall limit document patches (Err why) reply before after = ReportsFault limit document patches why reply before after
+
+-- ---- of calls on handles
+
+-- a text that is no document is reported with the place of the value for which it is none
+abbrev pub ReportsUnreadText : ℕ → List ℕ → LiveFault → Reply → List ℕ → List ℕ → Type 0
+ReportsUnreadText unread text (live.Document why) reply before after = ReportsUnread unread 0 why (IsPlaceIn why text) reply before after
+ReportsUnreadText unread text why reply before after = IsReply (report_of_live_fault unread why) reply before after
+
+-- what a call that reads gives
+abbrev pub live_answer : {A : Type 0} → Result (String A) LiveFault → HandleAnswer
+live_answer (Ok result) = handle_text (string_bytes result)
+live_answer (Err why) = handle_fault why
+
+-- ---- what is reported of conflicts
+
+-- the places at which a patch clashes with what was received; or that it does, if there was no memory for them
+abbrev pub ReportsConflicts : ℕ → Result Conflicts AllocError → Reply → List ℕ → List ℕ → Type 0
+ReportsConflicts limit (Ok found) reply before after =
+    (array : List ℕ) × IsPlacesTextOrNone limit found.places.items array
+    × IsReply (report_of_places 0 0 found.total array) reply before after
+ReportsConflicts limit (Err _) reply before after = IsReply (report_of_live_fault status_patch live.Conflict) reply before after
+
+-- all places of a conflict, or the first of more
+abbrev pub report_of_conflict : Bool → ℕ → List ℕ → Report
+report_of_conflict false total array = report_of_places 0 0 total array
+report_of_conflict true total array = with_more (report_of_places 0 0 total array)
+
+-- the places that were found, as many as the limit allows
+abbrev pub ReportsFirstPlaces : ℕ → HeldPlaces → Reply → List ℕ → List ℕ → Type 0
+ReportsFirstPlaces limit held reply before after =
+    (array : List ℕ) × IsPlacesTextOrNone limit held.places array
+    × IsReply (report_of_conflict held.more (length held.places) array) reply before after
+
+-- where patches conflict, or nothing if they do not
+abbrev pub ReportsConflict : ℕ → Option HeldPlaces → Reply → List ℕ → List ℕ → Type 0
+ReportsConflict limit places reply before after =
+    MatchOption places (IsReply (report_of_text limit []) reply before after)
+    (λ held. ReportsFirstPlaces limit held reply before after)
+
+-- what became of patches that were to be taken
+abbrev pub ReportsAdded : ℕ → Added → HeldPatches → Reply → List ℕ → List ℕ → Type 0
+ReportsAdded limit added.Joined r reply before after = IsReply (report_of_text limit []) reply before after
+ReportsAdded limit added.Conflict r reply before after = ReportsConflict limit r.places reply before after
+ReportsAdded limit added.Pending r reply before after =
+    IsReply (report_of_live_fault status_document live.Pending) reply before after
+ReportsAdded limit added.Refused r reply before after = IsReply no_memory reply before after
+
+-- why there is no join: a conflict with its places
+abbrev pub ReportsNoJoin : ℕ → LiveFault → HeldPatches → Reply → List ℕ → List ℕ → Type 0
+ReportsNoJoin limit live.Conflict r reply before after = ReportsConflict limit r.places reply before after
+ReportsNoJoin limit why r reply before after = IsReply (report_of_live_fault status_document why) reply before after
+
+-- ---- what is said of pairs
+
+abbrev pub pairs_text_answer : Bool → List ℕ → HandleAnswer
+pairs_text_answer false text = handle_text text
+pairs_text_answer true text = handle_first_pairs text
+
+abbrev pub pairs_answer : Result PairsText LiveFault → HandleAnswer
+pairs_answer (Ok written) = pairs_text_answer written.more (string_bytes written.text)
+pairs_answer (Err why) = handle_fault why

@@ -4,10 +4,10 @@ use Rattle.std.specs.List.{sum_by}
 use Rattle.mp_tree.specs.Document.{Document, Members, member, find}
 use Rattle.mp_tree.specs.Look.{Path}
 use Rattle.mp_pointer.specs.Weight.{place_weight}
-use Rattle.mp_merge.specs.Private.Budgets.{add_each, admit}
-use Rattle.mp_merge.specs.Private.Clashes.{AreReported, Reported, WalksClashes, WalksMembers, counted, report, with_path}
+use Rattle.mp_merge.specs.Private.Budgets.{IsBudget, add_each, admit}
+use Rattle.mp_merge.specs.Private.Clashes.{Reported, WalksClashes, WalksMembers, counted, report, with_path}
 use Rattle.mp_merge.specs.Private.Growth.{GrewBy}
-use Rattle.mp_merge.specs.Within.{places_weight}
+use Rattle.mp_merge.specs.Within.{AreFirstOf, places_weight}
 use Rattle.mp_merge.specs.declared.budget.Budget.{Budget}
 use Rattle.mp_merge.specs.declared.budget.Budget.TheVariants.{Unlimited, Left, Over}
 use Rattle.mp_merge.proofs.Budgets.{each_none, each_both, all_added, taken}
@@ -39,6 +39,11 @@ all_counted (w ∷ ws) total few =
     let same : min (min (total + 1) (2 ^ 64 - 1) + length ws) (2 ^ 64 - 1) ≡ min (total + suc (length ws)) (2 ^ 64 - 1) = omega arith in
     all_counted ws (counted total) (omega arith) ∙ same
 
+counted_from_none : (all : List Path) → add_each count 0 all ≡ min (length all) (2 ^ 64 - 1)
+counted_from_none all =
+    let from_none : min (0 + length all) (2 ^ 64 - 1) ≡ min (length all) (2 ^ 64 - 1) = omega arith in
+    all_counted all 0 (omega arith) ∙ from_none
+
 all_paths : (ws places : List Path) → add_each with_path places ws ≡ places ++ ws
 all_paths [] places = sym (append-nil places)
 all_paths (w ∷ ws) places = all_paths ws (places ++ w ∷ []) ∙ append_assoc places (w ∷ []) ws
@@ -55,18 +60,29 @@ module _ (limit : ℕ) (added rest : List Path) where
       let same : x ≡ w = cc in
       subst (λ u. limit < places_weight added + place_weight u) same over
 
-pub reported_is : (budget : Budget) (all : List Path) (r : Reported) → r ≡ add_each report (([], budget), 0) all → AreReported budget all r.0.0 r.1
-reported_is Unlimited all r is = ap (λ (x : Reported). x.0.0) (is ∙ in_parts all (([], Unlimited), 0)) ∙ ap (λ (x : List Path × Budget). x.0) (all_added with_path place_weight all []) ∙ all_paths all []
-reported_is (Left limit) all r is =
-    let parts = is ∙ in_parts all (([], Left limit), 0) in
-    let t = taken with_path place_weight all limit [] in
+pub reported_is : (limit : ℕ) (budget : Budget) → IsBudget limit budget → (all : List Path) (r : Reported) → r ≡ add_each report (([], budget), 0) all → AreFirstOf limit all r.0.0 r.1
+reported_is limit Unlimited none all r is =
+    let parts = is ∙ in_parts all (([], Unlimited), 0) in
+    let places : r.0.0 ≡ all = ap (λ (x : Reported). x.0.0) parts ∙ ap (λ (x : List Path × Budget). x.0) (all_added with_path place_weight all []) ∙ all_paths all [] in
+    record {
+      rest = [];
+      whole = sym (append-nil r.0.0 ∙ places);
+      unlimited = λ also. refl;
+      within = λ limited. absurd (limited none);
+      longest = λ w more never. absurd (cc);
+      counted = ap (λ (x : Reported). x.1) parts ∙ counted_from_none all;
+    }
+reported_is limit (Left budget) (limited, same) all r is =
+    let parts = is ∙ in_parts all (([], Left budget), 0) in
+    let t = taken with_path place_weight all budget [] in
     let places : r.0.0 ≡ t.added = ap (λ (x : Reported). x.0.0) parts ∙ t.is ∙ all_paths t.added [] in
-    let from_none : min (0 + length all) (2 ^ 64 - 1) ≡ min (length all) (2 ^ 64 - 1) = omega arith in
     record {
       rest = t.rest;
       whole = t.split ∙ ap (λ us. us ++ t.rest) (sym places);
-      within = subst (λ us. places_weight us ≤ limit) (sym places) t.within;
-      longest = subst (λ (us : List Path). (w : Path) (more : List Path) → t.rest ≡ w ∷ more → limit < places_weight us + place_weight w) (sym places) (longest limit t.added t.rest (add_each (admit with_path place_weight) ([], Left limit) all) t.ends);
-      counted = ap (λ (x : Reported). x.1) parts ∙ all_counted all 0 (omega arith) ∙ from_none;
+      unlimited = λ none. absurd (limited none);
+      within = λ also. subst (λ us. places_weight us ≤ limit) (sym places) (subst (λ (l : ℕ). places_weight t.added ≤ l) same t.within);
+      longest = subst (λ (us : List Path). (w : Path) (more : List Path) → t.rest ≡ w ∷ more → limit < places_weight us + place_weight w) (sym places)
+          (subst (λ (l : ℕ). Longest l t.added t.rest) same (longest budget t.added t.rest (add_each (admit with_path place_weight) ([], Left budget) all) t.ends));
+      counted = ap (λ (x : Reported). x.1) parts ∙ counted_from_none all;
     }
-reported_is Over all r is = tt
+reported_is limit Over never all r is = absurd never

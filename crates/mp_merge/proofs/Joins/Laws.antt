@@ -8,7 +8,7 @@ use Rattle.mp_tree.proofs.Facts.{equal_looks, is_here, speaks_or_silent, Contain
 use Rattle.mp_merge.specs.Clash.{Clash, Compatible}
 use Rattle.mp_merge.specs.Join.{IsJoin}
 use Rattle.mp_merge.specs.Laws.{ClashWithAJoin, ClashesWithAMember, JoinIsIdempotent, JoinIsCommutative, IsJoinFromLeft, IsJoinFromRight, JoinIsAssociative, JoinGrows, JoinInParts, JoinOfSame, JoinAbsorbs, JoinTriesResume, HasOneJoin, EmptyHasNoJoin, JoinExists, PairHasJoin, JoinIsNoDeeper}
-use Rattle.mp_merge.specs.Lists.{PairwiseCompatible, AreWithin, HaveSameMembers}
+use Rattle.mp_merge.specs.Lists.{PairwiseCompatible, AreNoDeeper, HaveSameMembers}
 use Rattle.mp_merge.specs.Private.Unions.{union}
 use Rattle.mp_merge.proofs.Joins.Union.{IsDocument-union, depth-union, join-one, union_is_join, union_joins_first}
 
@@ -71,8 +71,8 @@ empty_has_no_join j joined = is_here j (joined.silent [] (λ p at. absurd (Conta
 
 -- ---- clashes with a join
 
-pub clash_with_a_join : ClashWithAJoin
-clash_with_a_join patches j r w joined = (to, from)
+pub conflict_with_a_join : ClashWithAJoin
+conflict_with_a_join patches j r w joined = (to, from)
   where
     to : Clash r j w → ClashesWithAMember patches r w
     to clash =
@@ -86,7 +86,7 @@ clash_with_a_join patches j r w joined = (to, from)
 
 -- a patch is compatible with a join if it is with each patch that was joined
 pub compatible_with_join : (patches : List Document) (j r : Document) → IsJoin patches j → ((p : Document) → Contains patches p → Compatible r p) → Compatible r j
-compatible_with_join patches j r joined free w clash = let some = (clash_with_a_join patches j r w joined).0 clash in free some.0 some.1 w some.2
+compatible_with_join patches j r joined free w clash = let some = (conflict_with_a_join patches j r w joined).0 clash in free some.0 some.1 w some.2
 
 -- ---- a join exists exactly if the patches are pairwise compatible
 
@@ -123,7 +123,7 @@ module _ (n : ℕ) where
   pub union_is_within : (p j : Document) → IsWithin p → IsWithin j → IsWithin (union p j)
   union_is_within p j one two = (IsDocument-union p j one.0 two.0, omega (arith, depth-union p j, one.1, two.1))
 
-  are_within : (patches : List Document) → All IsDocument patches → AreWithin n patches → All IsWithin patches
+  are_within : (patches : List Document) → All IsDocument patches → AreNoDeeper n patches → All IsWithin patches
   are_within patches all within = All-weaker (Contains patches) IsWithin (λ p at. (All-contains IsDocument patches p all at, All-contains (λ d. depth d ≤ n) patches p within at)) patches (All-contains_itself patches)
 
 pub join_is_no_deeper : JoinIsNoDeeper

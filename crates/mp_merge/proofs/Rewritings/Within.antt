@@ -1,5 +1,5 @@
 -- What the walk over a patch and a document adds within a limit, and without one.
-use Rattle.std.proofs.Common.{◌≡◌, ◌≤◌, ◌<◌, ◌+◌, ◌⊎◌, inl, inr, ◌↔◌, ℕ, List, [], ◌∷◌, ◌++◌, map, length, Some, refl, sym, ap, ap₂, ◌∙◌, subst, arith, append-nil, append_assoc, length-append}
+use Rattle.std.proofs.Common.{◌≡◌, ◌≢◌, ◌≤◌, ◌<◌, ◌+◌, ◌⊎◌, inl, inr, ◌↔◌, ℕ, List, [], ◌∷◌, ◌++◌, map, length, Some, refl, sym, ap, ap₂, ◌∙◌, subst, arith, append-nil, append_assoc, length-append}
 use Rattle.std.proofs.lemmas.List.{map-append}
 use Rattle.std.proofs.lemmas.List.Sums.{sum_by-cons, sum_by-append}
 use Rattle.std.specs.List.{Contains, flat_map, sum_by}
@@ -8,10 +8,11 @@ use Rattle.mp_tree.specs.Document.{Document, IsDocument}
 use Rattle.mp_tree.specs.Look.{Path}
 use Rattle.mp_patch.specs.Operation.{Operation}
 use Rattle.mp_patch.specs.Weight.{operations_weight}
+use Rattle.mp_patch.specs.Work.{no_limit}
 use Rattle.mp_merge.specs.Clash.{path_cmp}
 use Rattle.mp_merge.specs.EditPlace.{IsEditPlace}
 use Rattle.mp_merge.specs.Laws.{HasOneFitting, RewritingIsWithinOrNot, WithinIsNotTooLarge}
-use Rattle.mp_merge.specs.Private.Budgets.{add_each, admit}
+use Rattle.mp_merge.specs.Private.Budgets.{IsBudget, add_each, admit}
 use Rattle.mp_merge.specs.Private.Edits.{Admitted, AreEdits, GuardedEdit, Lists, admit_edit, guarded_weight, with_edit}
 use Rattle.mp_merge.specs.Private.Growth.{GrewBy}
 use Rattle.mp_merge.specs.Rewriting.{IsRewriting}
@@ -142,27 +143,33 @@ module _ (limit : ℕ) (d p : Document) (found : List GuardedEdit) (at : EditsAt
 -- ---- the walk
 
 module _ (d p : Document) (found : List GuardedEdit) (end : Admitted) (good : IsDocument p) (walk : AreEdits [] p (Some d) found) where
-  pub without_limit : (operations : List Operation) → end ≡ add_each admit_edit (([], []), Unlimited) found → operations ≡ end.0.0 ++ end.0.1 → IsRewriting d p operations
-  without_limit operations ends is =
+  its_places : EditsAt d p found
+  its_places = walk_finds_places d p found good walk
+
+  is_taken : (limit : ℕ) → end ≡ add_each admit_edit (([], []), Left limit) found → IsTaken limit found end
+  is_taken limit ends = subst (IsTaken limit found) (sym ends) (taken with_edit guarded_weight found limit ([], []))
+
+  pub within_limit : (limit : ℕ) (budget : Budget) → IsBudget limit budget → end ≡ add_each admit_edit (([], []), budget) found → (operations : List Operation) → ¬ (end.1 ≡ Over) → operations ≡ end.0.0 ++ end.0.1
+      → IsRewriting d p operations × (limit ≢ no_limit → operations_weight operations ≤ limit)
+  within_limit limit Unlimited none ends operations left is =
       let lists : end.0 ≡ (tests found, edits_in found) = ap (λ (x : Admitted). x.0) (ends ∙ all_added with_edit guarded_weight found ([], [])) ∙ both_lists found ([], []) in
-      walk_is_rewriting d p found operations good walk (is ∙ ap (λ (x : Lists). x.0 ++ x.1) lists)
+      (walk_is_rewriting d p found operations good walk (is ∙ ap (λ (x : Lists). x.0 ++ x.1) lists), λ limited. absurd (limited none))
+  within_limit limit (Left budget) (limited, same) ends operations left is =
+      let taken_of = is_taken budget ends in
+      let listed = all_listed budget d p found its_places end taken_of taken_of.ends left in (
+        record { places = its_places.places; rising = its_places.rising; all = its_places.all; guarded = is ∙ listed.0 },
+        λ also. omega (arith, ap operations_weight is, listed.1, same),
+      )
+  within_limit limit Over never ends operations left is = absurd never
 
-  module _ (limit : ℕ) (ends : end ≡ add_each admit_edit (([], []), Left limit) found) where
-    its_places : EditsAt d p found
-    its_places = walk_finds_places d p found good walk
-
-    is_taken : IsTaken limit found end
-    is_taken = subst (IsTaken limit found) (sym ends) (taken with_edit guarded_weight found limit ([], []))
-
-    pub within_limit : (operations : List Operation) → ¬ (end.1 ≡ Over) → operations ≡ end.0.0 ++ end.0.1 → IsRewriting d p operations × (operations_weight operations ≤ limit)
-    within_limit operations left is =
-        let listed = all_listed limit d p found its_places end is_taken is_taken.ends left in (
-          record { places = its_places.places; rising = its_places.rising; all = its_places.all; guarded = is ∙ listed.0 },
-          omega (arith, ap operations_weight is, listed.1),
-        )
-
-    pub too_large : end.1 ≡ Over → IsTooLargeRewriting limit (length end.0.0 + length end.0.1) d p
-    too_large = too_large_at limit d p found its_places end is_taken is_taken.ends
+  pub too_large : (limit : ℕ) (budget : Budget) → IsBudget limit budget → end ≡ add_each admit_edit (([], []), budget) found → end.1 ≡ Over
+      → (limit ≢ no_limit) × IsTooLargeRewriting limit (length end.0.0 + length end.0.1) d p
+  too_large limit Unlimited none ends over =
+      let never : Unlimited ≡ Over = sym (ap (λ (x : Admitted). x.1) (ends ∙ all_added with_edit guarded_weight found ([], []))) ∙ over in absurd (cc)
+  too_large limit (Left budget) (limited, same) ends over =
+      let taken_of = is_taken budget ends in
+      (limited, subst (λ (l : ℕ). IsTooLargeRewriting l (length end.0.0 + length end.0.1) d p) same (too_large_at budget d p found its_places end taken_of taken_of.ends over))
+  too_large limit Over never ends over = absurd never
 
 -- ---- the laws
 

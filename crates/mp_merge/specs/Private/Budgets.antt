@@ -1,7 +1,14 @@
 -- What a budget takes of what a walk adds. Only private clauses cite it.
-use Rattle.std.specs.Prelude.{◌-◌, ℕ, List, [], ◌∷◌, if◌then◌else◌, Option, None, Some, nat_lt}
+use Rattle.std.specs.Prelude.{◌≡◌, ◌≢◌, ◌-◌, ℕ, List, [], ◌∷◌, if◌then◌else◌, Option, None, Some, nat_lt}
+use Rattle.mp_patch.specs.Work.{no_limit}
 use Rattle.mp_merge.specs.declared.budget.Budget.{Budget}
 use Rattle.mp_merge.specs.declared.budget.Budget.TheVariants.{Unlimited, Left, Over}
+
+-- what a call with that limit may make
+abbrev pub IsBudget : ℕ → Budget → Type 0
+IsBudget limit Unlimited = limit ≡ no_limit
+IsBudget limit (Left budget) = (limit ≢ no_limit) × (budget ≡ limit)
+IsBudget limit Over = ⊥
 
 -- what is left of a budget after that weight
 abbrev pub left_after : ℕ → Budget → Budget

@@ -1,15 +1,14 @@
 -- What the walk over two patches adds to a list of paths. Only private clauses cite it.
-use Rattle.std.specs.Prelude.{◌≡◌, ◌≢◌, ◌⊎◌, ◌+◌, ◌-◌, ◌^◌, ℕ, min, List, [], ◌∷◌, ◌++◌, Option, None, Some, slice_get, ⊤}
+use Rattle.std.specs.Prelude.{◌≡◌, ◌≢◌, ◌⊎◌, ◌+◌, ◌-◌, ◌^◌, ℕ, min, List, [], ◌∷◌, ◌++◌, Option, None, Some, slice_get}
 use Rattle.mp_tree.specs.Document.{Document, object, Members, no_members, member, find}
 use Rattle.mp_tree.specs.Look.{Path}
 use Rattle.mp_pointer.specs.Weight.{place_weight}
-use Rattle.mp_merge.specs.Clash.{AreAllClashes}
-use Rattle.mp_merge.specs.Lists.{CompatibleBelow}
+use Rattle.mp_merge.specs.Lists.{CompatibleBelow, IsClashBelow}
 use Rattle.mp_merge.specs.Private.Budgets.{add_each, admit}
 use Rattle.mp_merge.specs.Private.Growth.{GrewBy}
 use Rattle.mp_merge.specs.Within.{AreFirstOf}
 use Rattle.mp_merge.specs.declared.budget.Budget.{Budget}
-use Rattle.mp_merge.specs.declared.budget.Budget.TheVariants.{Unlimited, Left, Over}
+use Rattle.mp_merge.specs.declared.comparing.Conflicts.{Conflicts}
 use Rattle.mp_merge.specs.declared.comparing.Found.{Found}
 
 -- at the path s: no clash if the two are equal, else that one alone
@@ -53,17 +52,14 @@ report reported w = (admit with_path place_weight reported.0 w, counted reported
 abbrev pub Passed : Found → Found → (List Path → Type 0) → Type 0
 Passed old new Holds = GrewBy (add_each report) (reported_of old) (reported_of new) Holds
 
--- what a walk with that budget reports of all paths; of a budget that something was too much for, nothing is asked
-abbrev pub AreReported : Budget → List Path → List Path → ℕ → Type 0
-AreReported Unlimited all places total = places ≡ all
-AreReported (Left limit) all places total = AreFirstOf limit all places total
-AreReported Over all places total = ⊤
-
-abbrev pub AreReportedConflicts : Budget → Document → Document → List Path → ℕ → Type 0
-AreReportedConflicts budget p q places total = (all : List Path) × AreAllClashes p q all × AreReported budget all places total
-
 -- ---- lists of patches
 
 -- patch number k is compatible with those before it
 abbrev pub IsFreeBelow : List Document → ℕ → Type 0
 IsFreeBelow patches k = (q : Document) → slice_get patches k ≡ Some q → CompatibleBelow patches k q
+
+-- the first patch that conflicts with number `second`, and what is reported of their conflicts
+abbrev pub IsReportedBelow : ℕ → List Document → ℕ → ℕ → Conflicts → Type 0
+IsReportedBelow limit patches first second conflicts =
+    (all : List Path) × IsClashBelow patches first second all
+    × AreFirstOf limit all conflicts.places.items conflicts.total

@@ -1,6 +1,7 @@
 -- The values of a patch are documents: of each `Op`, and of what a document is a form of.
 use Rattle.std.proofs.Common.{List, [], ◌∷◌, subst, codes}
 use Rattle.mp_tree.specs.Document.{Items, no_items, item, Members, IsDocument, AreDocuments, IsMap}
+use Rattle.mp_tree.specs.declared.doc.Doc.{Doc}
 use Rattle.mp_tree.proofs.Facts.{IsDocument-document, found_document}
 use Rattle.mp_patch.specs.Form.{Carries, EachForm, needed_members}
 use Rattle.mp_patch.specs.Laws.{FormsHaveDocuments, PatchesHaveDocuments}
@@ -10,7 +11,7 @@ use Rattle.mp_patch.specs.View.{operation_of}
 use Rattle.mp_patch.specs.declared.op.Op.{Op}
 use Rattle.mp_patch.specs.declared.op.Op.TheVariants as op
 
-has_document : (o : Op) → HasDocument (operation_of o)
+has_document : (o : Op Doc) → HasDocument (operation_of o)
 has_document (op.Add path value) = IsDocument-document value
 has_document (op.Remove path) = tt
 has_document (op.Replace path value) = IsDocument-document value

@@ -1,12 +1,12 @@
 -- A move is a removal and then an addition to what is left; a copy is an addition of what is there.
-use Rattle.std.proofs.Common.{◌≡◌, ◌≢◌, ◌+◌, ◌-◌, inl, inr, ℕ, Option, None, Some, MatchOption, Result, Ok, Err, refl, subst}
+use Rattle.std.proofs.Common.{◌≡◌, ◌≢◌, ◌<◌, ◌+◌, ◌-◌, inl, inr, ℕ, Option, None, Some, MatchOption, Result, Ok, Err, refl, subst}
 use Rattle.mp_tree.specs.Document.{Document, IsDocument}
 use Rattle.mp_pointer.specs.Part.{part}
 use Rattle.mp_pointer.specs.Spelling.{Tokens, IsProperPrefix}
 use Rattle.mp_patch.specs.Operation.{Operation, add, move, copy, remove, Removes}
 use Rattle.mp_patch.specs.Refusal.{HasNoPlace, IsTooDeep, LeavesNoPlace, PartIsTooDeep, RefusedBy, causes}
 use Rattle.mp_patch.specs.Private.Steps.{Answers}
-use Rattle.mp_patch.specs.Private.Within.{AnswersWithin, ExceedsLeft, IsTooMuch, Judges, LeavesWork, TakesToMove}
+use Rattle.mp_patch.specs.Private.Within.{AnswersWithin, IsTooMuch, Judges, TakesToMove}
 use Rattle.mp_patch.specs.Work.{shifted_at}
 use Rattle.mp_patch.specs.declared.fault.Cause.{Cause}
 use Rattle.mp_patch.specs.declared.fault.Refusal.{Refusal}
@@ -78,9 +78,9 @@ module _ (scale : Scale) (f t : Tokens) (x d left : Document) (good : IsDocument
       let done = moved f t x d left good apart other stood removes (Ok tt) j.1 (j.0, j.2) in
       too_heavy scale d (move f t) (done.0, j.1, done.1, j.3)
 
-  pub moved_within : (n removal arrival : ℕ) (e : Document) → Judges scale.limit (Some n) left (add t x) → (scale.work ≢ None → removal ≡ shifted_at f d - 1) → (scale.work ≢ None → arrival ≡ shifted_at t left) → Answers (Ok tt) left (add t x) e
-      → (r : Option Scale) → MatchOption r (ExceedsLeft scale.work (removal + arrival)) (λ next. (next.weight ≡ n) × (next.limit ≡ scale.limit) × LeavesWork scale.work (removal + arrival) next.work) → AnswersWithin scale (Ok r) d (move f t) e
+  pub moved_within : (n removal arrival : ℕ) (e : Document) → Judges scale.limit (Some n) left (add t x) → removal ≡ shifted_at f d - 1 → arrival ≡ shifted_at t left → Answers (Ok tt) left (add t x) e
+      → (r : Option Scale) → MatchOption r (scale.work < removal + arrival) (λ next. (next.weight ≡ n) × (next.limit ≡ scale.limit) × (next.work + (removal + arrival) ≡ scale.work)) → AnswersWithin scale (Ok r) d (move f t) e
   moved_within n removal arrival e j before after answers =
       let done = moved f t x d left good apart other stood removes (Ok tt) e answers in
       let weighs = j e answers.0 answers.1 in
-      followed scale n (removal + arrival) d e (move f t) done.0 done.1 weighs.0 weighs.1 (counts_move scale.work removal arrival f t d left good other removes before after)
+      followed scale n (removal + arrival) d e (move f t) done.0 done.1 weighs.0 weighs.1 (counts_move removal arrival f t d left good other removes before after)

@@ -1,5 +1,5 @@
 -- By how much an operation changes the weight of a document.
-use Rattle.std.proofs.Common.{◌≡◌, ◌≢◌, ◌≤◌, ◌<◌, ◌+◌, ◌⊎◌, inl, inr, ℕ, List, [], ◌∷◌, ◌++◌, length, MatchOption, Bool, IsFalse, Option, None, Some, option_and_then, Ok, refl, sym, ap, ◌∙◌, subst, arith, true≢false}
+use Rattle.std.proofs.Common.{◌≡◌, ◌≢◌, ◌≤◌, ◌<◌, ◌+◌, inl, inr, ℕ, List, [], ◌∷◌, ◌++◌, length, MatchOption, Bool, IsFalse, Option, None, Some, option_and_then, Ok, refl, sym, ap, ◌∙◌, subst, arith, true≢false}
 use Rattle.mp_tree.specs.Document.{Document, null, flag, whole, string, list, object, Items, no_items, item, Members, find, IsDocument, depth, depth_limit}
 use Rattle.mp_tree.specs.Weight.{name_weight, weight}
 use Rattle.mp_tree.specs.Elements.{append, count_of, nth}
@@ -9,7 +9,7 @@ use Rattle.mp_pointer.specs.Spelling.{Tokens}
 use Rattle.mp_pointer.proofs.Facts.{weighs_by_part, part-weight, part-document, document-changed, rewrite_part, same_last, not_empty, child-numeral, child-object, part-push}
 use Rattle.mp_patch.specs.Operation.{add, remove, replace, copy, AddsTo, to_map, to_list, RemovesFrom, from_map, from_list, Adds, Removes, Replaces}
 use Rattle.mp_patch.specs.Private.Within.{Fits, Judges}
-use Rattle.mp_patch.specs.Refusal.{HasNoPlace, LacksPlace, IsMissing}
+use Rattle.mp_patch.specs.Refusal.{HasNoPlace, LacksPlace}
 use Rattle.mp_patch.specs.Run.{IsRefused}
 use Rattle.mp_patch.specs.Private.Exchange.{IsExchange, TakesAt, named_weight, gives_at, takes_at}
 use Rattle.mp_patch.proofs.FirstCause.{free_of, unrefused}
@@ -72,17 +72,6 @@ Removes-weight t d e x named good new takes there c =
 
 -- ---- what an addition exchanges
 
-exchange_root : (d : Document) (t : Tokens) (gives : ℕ) → t ≡ [] → gives ≡ weight d → IsExchange d t gives 0
-exchange_root d t gives root is = record {
-  place = root_place d t root;
-  within = omega (arith, is);
-  is = λ v e value adds. at v e adds;
-}
-  where
-    at : (v e : Document) → Adds t v d e → weight e + gives ≡ weight d + 0 + weight v
-    at v e (inl here) = omega (arith, is, ap weight here.1)
-    at v e (inr c) = absurd (not_empty c.container c.last (sym c.is ∙ root))
-
 exchange_there : (d x : Document) (t s : Tokens) (last : List ℕ) (gives takes : ℕ) → IsDocument d → t ≡ s ++ last ∷ [] → part d s ≡ Some x → ¬ LacksPlace last (Some x) → gives ≡ gives_at last x → takes ≡ takes_at last x → IsExchange d t gives takes
 exchange_there d x t s last gives takes good is stood place given taken = record {
   place = has_place d x t s last is stood place;
@@ -121,19 +110,6 @@ module _ (limit : ℕ) (d : Document) (t : Tokens) where
 
   pub unfit_addition : (n : ℕ) (fits : Bool) (v : Document) → Fits fits t v → IsFalse fits → Judges limit (Some n) d (add t v)
   unfit_addition n fits v fit false e free adds = absurd (unfit fits v fit false (omega (arith, (free_of d (add t v) free).1.0)))
-
-  pub unfit_replacement : (n : ℕ) (fits : Bool) (v : Document) → Fits fits t v → IsFalse fits → Judges limit (Some n) d (replace t v)
-  unfit_replacement n fits v fit false e free replaces = absurd (unfit fits v fit false (omega (arith, (free_of d (replace t v) free).1.0)))
-
-  pub added_nowhere : (n : ℕ) (v : Document) → HasNoPlace d t → Judges limit (Some n) d (add t v)
-  added_nowhere n v none e free adds = absurd ((free_of d (add t v) free).0 none)
-
-  pub nothing_replaced : (n : ℕ) (v : Document) → IsMissing d t → Judges limit (Some n) d (replace t v)
-  nothing_replaced n v none e free replaces = absurd ((free_of d (replace t v) free).0 none)
-
-  pub nothing_removed : (n : ℕ) → (t ≡ []) ⊎ IsMissing d t → Judges limit (Some n) d (remove t)
-  nothing_removed n (inl root) e free removes = absurd ((free_of d (remove t) free).0 root)
-  nothing_removed n (inr none) e free removes = absurd ((free_of d (remove t) free).1.0 none)
 
   -- what is not refused leaves one of that weight
   pub judged_addition : (total gives takes : ℕ) (r : Option ℕ) (v : Document) → IsDocument d → IsDocument v → IsExchange d t gives takes → (r ≡ None → length t + depth v ≤ depth_limit) → total + gives ≡ weight d + takes + weight v

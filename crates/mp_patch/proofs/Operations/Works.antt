@@ -1,5 +1,5 @@
--- The work of operations: how the elements that shift are counted, that an operation has one work, and what is left of what a limit allows.
-use Rattle.std.proofs.Common.{◌≡◌, ◌≢◌, ◌≤◌, ◌<◌, ◌+◌, ◌-◌, ◌^◌, inl, inr, ℕ, zero, suc, List, [], ◌∷◌, ◌++◌, length, Option, None, Some, option_and_then, Ok, MatchOption, refl, sym, ap, ◌∙◌, subst, arith}
+-- The work of operations: how the elements that shift are counted, that an operation has one work, and the scale after it.
+use Rattle.std.proofs.Common.{◌≡◌, ◌≢◌, ◌≤◌, ◌<◌, ◌+◌, ◌-◌, ◌^◌, inl, inr, ℕ, zero, suc, List, [], ◌∷◌, ◌++◌, length, Option, None, Some, option_and_then, Ok, MatchOption, refl, sym, ap, ◌∙◌, arith}
 use Rattle.std.proofs.lemmas.Slice.Eq.{bytes_eq-Decides}
 use Rattle.std.specs.Option.{option_map_or}
 use Rattle.mp_tree.specs.Document.{Document, null, flag, whole, string, list, object, Items, no_items, item, IsDocument}
@@ -12,8 +12,8 @@ use Rattle.mp_pointer.specs.Spelling.{Tokens}
 use Rattle.mp_pointer.proofs.Facts.{elsewhere, same_numeral}
 use Rattle.mp_patch.specs.Operation.{Operation, add, remove, replace, move, copy, test, Removes, Step}
 use Rattle.mp_patch.specs.Run.{IsRefused}
-use Rattle.mp_patch.specs.Work.{AllowsWork, ExceedsWork, IsWork, count_from, shifted_at, shifted_in}
-use Rattle.mp_patch.specs.Private.Within.{AnswersWithin, CountsWork, ExceedsLeft, HasLeft, IsTooHeavy, IsTooMuch, LeavesWork}
+use Rattle.mp_patch.specs.Work.{IsWork, count_from, shifted_at, shifted_in}
+use Rattle.mp_patch.specs.Private.Within.{AnswersWithin, CountsWork, IsTooHeavy, IsTooMuch}
 use Rattle.mp_patch.specs.declared.scale.Scale.{Scale}
 use Rattle.mp_patch.proofs.Operations.Documents.{Removes-once}
 
@@ -58,14 +58,6 @@ module _ {V : Type 0} (f : V → Document) (token : List ℕ) (vs : List V) (d :
   pub shifted_in-none : length vs < 2 ^ 64 → ((i : ℕ) → token ≡ numeral i → 2 ^ 64 ≤ i) → shifted_in token d ≡ 0
   shifted_in-none short large = ap (shifted_in token) is ∙ count_from-none 0 token (items_by f vs) (λ j e. omega (arith, large j e, short, count_of-items-by f vs))
 
-pub shifted_in-other : (token : List ℕ) (d : Document) → ((ds : Items) → d ≢ list ds) → shifted_in token d ≡ 0
-shifted_in-other token null other = refl
-shifted_in-other token (flag b) other = refl
-shifted_in-other token (whole z) other = refl
-shifted_in-other token (string s) other = refl
-shifted_in-other token (list ds) other = absurd (other ds refl)
-shifted_in-other token (object ms) other = refl
-
 -- ---- the work of an operation
 
 pub one_work : (d : Document) (o : Operation) (v w : ℕ) → IsDocument d → IsWork d o v → IsWork d o w → v ≡ w
@@ -88,41 +80,11 @@ some_work d (move f t) e (x, stood, inr (other, left, removes, adds)) = ((shifte
 some_work d (copy f t) e step = (weight step.0 + shifted_at t d, (step.0, step.1, refl))
 some_work d (test t x) e step = (0, refl)
 
-pub counts_copy : (left : Option ℕ) (n : ℕ) (f t : Tokens) (d x : Document) → part d f ≡ Some x → n ≡ weight x + shifted_at t d → CountsWork left n d (copy f t)
-counts_copy left n f t d x stood is w some works = is ∙ ap (λ y. weight y + shifted_at t d) (some_same x works.0 (sym stood ∙ works.1)) ∙ sym works.2
-
-pub counts_move : (left : Option ℕ) (removal arrival : ℕ) (f t : Tokens) (d rest : Document) → IsDocument d → f ≢ t → Removes f d rest
-    → (left ≢ None → removal ≡ shifted_at f d - 1) → (left ≢ None → arrival ≡ shifted_at t rest) → CountsWork left (removal + arrival) d (move f t)
-counts_move left removal arrival f t d rest good other removes before after w some (inl same) = absurd (other same.0)
-counts_move left removal arrival f t d rest good other removes before after w some (inr works) =
-    omega (arith, before some, after some, ap (shifted_at t) (Removes-once f d rest works.1 good removes works.2), works.3)
-
--- ---- what is left
-
-pub left_allows : (limit done : ℕ) (left : Option ℕ) → HasLeft limit done left → AllowsWork limit done
-left_allows limit done None has bounded = absurd (bounded has)
-left_allows limit done (Some left) has bounded = omega (arith, has.1)
-
-pub left_later : (limit done w : ℕ) (left after : Option ℕ) → HasLeft limit done left → LeavesWork left w after → HasLeft limit (done + w) after
-left_later limit done w None after has leaves = subst (HasLeft limit (done + w)) (sym leaves) has
-left_later limit done w (Some left) None has leaves = absurd leaves
-left_later limit done w (Some left) (Some after) has leaves = (has.0, omega (arith, has.1, leaves))
-
-pub left_exceeded : (limit done w : ℕ) (left : Option ℕ) → HasLeft limit done left → ExceedsLeft left w → ExceedsWork limit (done + w)
-left_exceeded limit done w None has exceeds = absurd exceeds
-left_exceeded limit done w (Some left) has exceeds = (has.0, omega (arith, has.1, exceeds))
-
-some_left : (left : ℕ) → Some left ≢ None
-some_left left e = cc
-
-leaves_same : (left after : Option ℕ) (n w : ℕ) → (left ≢ None → n ≡ w) → LeavesWork left n after → LeavesWork left w after
-leaves_same None after n w same leaves = leaves
-leaves_same (Some left) None n w same leaves = leaves
-leaves_same (Some left) (Some after) n w same leaves = omega (arith, same (some_left left), leaves)
-
-exceeds_same : (left : Option ℕ) (n w : ℕ) → (left ≢ None → n ≡ w) → ExceedsLeft left n → ExceedsLeft left w
-exceeds_same None n w same exceeds = exceeds
-exceeds_same (Some left) n w same exceeds = omega (arith, same (some_left left), exceeds)
+pub counts_move : (removal arrival : ℕ) (f t : Tokens) (d rest : Document) → IsDocument d → f ≢ t → Removes f d rest
+    → removal ≡ shifted_at f d - 1 → arrival ≡ shifted_at t rest → CountsWork (removal + arrival) d (move f t)
+counts_move removal arrival f t d rest good other removes before after w (inl same) = absurd (other same.0)
+counts_move removal arrival f t d rest good other removes before after w (inr works) =
+    omega (arith, before, after, ap (shifted_at t) (Removes-once f d rest works.1 good removes works.2), works.3)
 
 -- ---- the scale
 
@@ -132,11 +94,11 @@ too_heavy scale d o heavy =
     (heavy.0, heavy.1, heavy.2, works.0, works.1, inl heavy.3)
 
 -- an operation that was done
-module _ (scale : Scale) (n work : ℕ) (d e : Document) (o : Operation) (free : ¬ IsRefused d o) (step : Step d o e) (weighs : n ≡ weight e) (within : n ≤ scale.limit) (counts : CountsWork scale.work work d o) where
-  pub followed : (r : Option Scale) → MatchOption r (ExceedsLeft scale.work work) (λ next. (next.weight ≡ n) × (next.limit ≡ scale.limit) × LeavesWork scale.work work next.work) → AnswersWithin scale (Ok r) d o e
+module _ (scale : Scale) (n work : ℕ) (d e : Document) (o : Operation) (free : ¬ IsRefused d o) (step : Step d o e) (weighs : n ≡ weight e) (within : n ≤ scale.limit) (counts : CountsWork work d o) where
+  pub followed : (r : Option Scale) → MatchOption r (scale.work < work) (λ next. (next.weight ≡ n) × (next.limit ≡ scale.limit) × (next.work + work ≡ scale.work)) → AnswersWithin scale (Ok r) d o e
   followed None exceeds =
       let works = some_work d o e step in
-      (free, e, step, works.0, works.1, inr (exceeds_same scale.work work works.0 (λ some. counts works.0 some works.1) exceeds))
+      (free, e, step, works.0, works.1, inr (omega (arith, counts works.0 works.1, exceeds)))
   followed (Some next) says =
       let works = some_work d o e step in (
         free,
@@ -147,13 +109,9 @@ module _ (scale : Scale) (n work : ℕ) (d e : Document) (o : Operation) (free :
           same_limit = says.1;
           work = works.0;
           is_work = works.1;
-          leaves = leaves_same scale.work next.work work works.0 (λ some. counts works.0 some works.1) says.2;
+          leaves = omega (arith, counts works.0 works.1, says.2);
         },
       )
-
-leaves_none : (left : Option ℕ) → LeavesWork left 0 left
-leaves_none None = refl
-leaves_none (Some left) = omega arith
 
 -- a move to where the part is
 pub unmoved : (scale : Scale) (d e : Document) (f t : Tokens) → f ≡ t → ¬ IsRefused d (move f t) → Step d (move f t) e → e ≡ d → scale.weight ≡ weight d
@@ -168,6 +126,6 @@ unmoved scale d e f t same free step stays weighs (Some next) says = (
     same_limit = ap Scale.limit says.0;
     work = 0;
     is_work = inl (same, refl);
-    leaves = subst (λ (s : Scale). LeavesWork scale.work 0 s.work) (sym says.0) (leaves_none scale.work);
+    leaves = omega (arith, ap Scale.work says.0);
   },
 )

@@ -1,41 +1,18 @@
--- Runs of a patch that grow at their end.
-use Rattle.std.proofs.Common.{◌≡◌, ◌<◌, ◌+◌, ℕ, List, [], ◌∷◌, ◌++◌, length, get_or, map, take, option_map, Some, Err, refl, sym, ap, ap₂, ◌∙◌, subst, arith, append_assoc, append-nil, length-append}
-use Rattle.std.proofs.lemmas.List.{take_more, map-append, length-map}
-use Rattle.std.proofs.lemmas.Option.{slice_get-map, slice_get_read, slice_get_within, get_or_from_slice_get}
+-- The list of operations that an iterator gives, taken apart while they are done.
+use Rattle.std.proofs.Common.{◌≡◌, ◌+◌, ℕ, List, [], ◌∷◌, ◌++◌, length, map, take, Option, None, Some, refl, sym, ap, ap₂, ◌∙◌, subst, append_assoc, append-nil, length-append}
+use Rattle.std.proofs.lemmas.Iterator.{YieldsList}
+use Rattle.std.specs.Iterator.{AlwaysYields}
 use Rattle.std.specs.List.{slice_get}
 use Rattle.mp_tree.specs.Document.{Document}
-use Rattle.mp_patch.specs.Operation.{Operation, Step}
-use Rattle.mp_patch.specs.Run.{IsRefused, Runs, IsApplyFault}
-use Rattle.mp_patch.specs.View.{operation_of, operations_of}
-use Rattle.mp_patch.specs.declared.op.Op.{Op}
-use Rattle.mp_patch.specs.Private.Faults.{fault_of_operation}
-use Rattle.mp_patch.specs.Private.Steps.{Answers}
-use Rattle.mp_patch.specs.declared.fault.Cause.{Cause}
-use Rattle.mp_patch.specs.declared.fault.Refusal.{Refusal}
-use Rattle.mp_patch.specs.declared.fault.Refusal.TheVariants.{By, OutOfMemory}
+use Rattle.mp_patch.specs.Operation.{Operation}
 
-pub Runs-more : (operations : List Operation) (d m e : Document) (o : Operation) → Runs d operations m → ¬ IsRefused m o → Step m o e → Runs d (operations ++ o ∷ []) e
-Runs-more [] d m e o run free step = (subst (λ x. ¬ IsRefused x o) run free, e, subst (λ x. Step x o e) run step, refl)
-Runs-more (p ∷ operations) d m e o run free step = (run.0, run.1, run.2, Runs-more operations run.1 m e o run.3 free step)
+mapped : {S A B C : Type 0} (steps : S → Option A → S → Type 0) (v : A → B) (h : B → C) (ys : List B) (s : S) → AlwaysYields steps v s ys → AlwaysYields steps (λ x. h (v x)) s (map h ys)
+mapped steps v h [] s none = none
+mapped steps v h (y ∷ ys) s some = (some.0, λ x t step. let next = some.1 x t step in (ap h next.0, mapped steps v h ys t next.1))
 
-pub fault_there : (fault : Refusal Cause) (k : ℕ) (d m e : Document) (operations : List Operation) (o : Operation) → Runs d (take k operations) m → slice_get operations k ≡ Some o → Answers (Err fault) m o e → IsApplyFault (fault_of_operation k fault) d operations
-fault_there (By cause) k d m e operations o run there refused = (m, run, o, there, refused)
-fault_there OutOfMemory k d m e operations o run there refused = tt
-
--- the operation that is read at a place
-pub operation_there : (ops items : List Op) (i : ℕ) (op : Op) → items ≡ ops → i < length items → op ≡ get_or items i op → slice_get (operations_of ops) i ≡ Some (operation_of op)
-operation_there ops items i op same less read = slice_get-map operation_of ops i ∙ ap (option_map operation_of) (ap (λ xs. slice_get xs i) (sym same) ∙ slice_get_read items (length items) i op refl less read)
-
-pub take_next : (operations : List Operation) (i : ℕ) (o : Operation) → slice_get operations i ≡ Some o → take (i + 1) operations ≡ take i operations ++ o ∷ []
-take_next operations i o there = take_more operations i o (slice_get_within operations i o there) ∙ ap (λ x. take i operations ++ x ∷ []) (get_or_from_slice_get operations i o o there)
-
--- ---- a list of operations that is taken apart, with a relation of those that were taken and the document that they lead to
-
-pub record HasRunTo {O : Type 0} (R : List Operation → Document → Type 0) (g : O → Operation) (ops left : List O) (done : ℕ) (e : Document) : Type 0 where
-  pub passed : List O
-  pub all : ops ≡ passed ++ left
-  pub numbered : done ≡ length passed
-  pub run : R (map g passed) e
+-- items that v takes to ys are items that h after v takes to what h gives of these
+pub AlwaysYields-map : {S A B C : Type 0} {steps : S → Option A → S → Type 0} {v : A → B} {s : S} {ys : List B} (h : B → C) → YieldsList steps v s ys → AlwaysYields steps (λ x. h (v x)) s (map h ys)
+AlwaysYields-map {steps = steps} {v = v} {s = s} {ys = ys} h given = mapped steps v h ys s given.runs
 
 take_front : (xs ys : List Operation) → take (length xs) (xs ++ ys) ≡ xs
 take_front [] ys = refl
@@ -45,36 +22,54 @@ get_next : (xs ys : List Operation) (y : Operation) → slice_get (xs ++ y ∷ y
 get_next [] ys y = refl
 get_next (x ∷ xs) ys y = get_next xs ys y
 
-module _ {O : Type 0} (R : List Operation → Document → Type 0) (g : O → Operation) (ops left : List O) (done : ℕ) (m : Document) (r : HasRunTo R g ops left done m) where
-  pub run_end : length left ≡ 0 → R (map g ops) m
-  run_end none = subst (λ os. R (map g os) m) (sym (r.all ∙ ap (λ os. r.passed ++ os) (empty left none) ∙ append-nil r.passed)) r.run
-    where
-      empty : (os : List O) → length os ≡ 0 → os ≡ []
-      empty [] none = refl
-      empty (o ∷ os) none = absurd (omega (arith, none))
+module _ {S O : Type 0} (steps : S → Option O → S → Type 0) (v : O → Operation) where
+  -- the iterator at s has left what follows so many operations, which led to the document e as R says
+  pub record HasRunTo (R : List Operation → Document → Type 0) (operations : List Operation) (s : S) (done : ℕ) (e : Document) : Type 0 where
+    pub passed : List Operation
+    pub left : List Operation
+    pub all : operations ≡ passed ++ left
+    pub numbered : done ≡ length passed
+    pub gives : AlwaysYields steps v s left
+    pub run : R passed e
 
-  module _ (op : O) (more : List O) (next : left ≡ op ∷ more) where
-    split : map g ops ≡ map g r.passed ++ g op ∷ map g more
-    split = ap (map g) (r.all ∙ ap (λ os. r.passed ++ os) next) ∙ map-append g r.passed (op ∷ more)
+  -- what the next item is, and what is left then
+  abbrev IsNext : List Operation → O → S → Type 0
+  IsNext left op t = (more : List Operation) × (left ≡ v op ∷ more) × AlwaysYields steps v t more
 
-    long : done ≡ length (map g r.passed)
-    long = r.numbered ∙ sym (length-map r.passed g)
+  next : (left : List Operation) (s t : S) (op : O) → AlwaysYields steps v s left → steps s (Some op) t → IsNext left op t
+  next [] s t op none step = absurd (none op t step)
+  next (o ∷ left) s t op some step = let is = some.1 op t step in (left, ap (λ p. p ∷ left) (sym is.0), is.1)
 
-    -- the relation after the next operation may be another one
-    pub run_further : (S : List Operation → Document → Type 0) (e : Document) → ((os : List Operation) → R os m → S (os ++ g op ∷ []) e) → HasRunTo S g ops more (done + 1) e
-    run_further S e longer = record {
-      passed = r.passed ++ op ∷ [];
-      all = r.all ∙ ap (λ os. r.passed ++ os) next ∙ sym (append_assoc r.passed (op ∷ []) more);
-      numbered = ap (λ n. n + 1) r.numbered ∙ sym (length-append r.passed (op ∷ []));
-      run = subst (λ os. S os e) (sym (map-append g r.passed (op ∷ []))) (longer (map g r.passed) r.run);
-    }
+  over : (left : List Operation) (s t : S) → AlwaysYields steps v s left → steps s None t → left ≡ []
+  over [] s t none step = refl
+  over (o ∷ left) s t some step = absurd (some.0 t step)
 
-    pub few_done : done < length ops
-    few_done = omega (arith, r.numbered, ap length (r.all ∙ ap (λ os. r.passed ++ os) next), length-append r.passed (op ∷ more))
+  module _ (R : List Operation → Document → Type 0) (operations : List Operation) (s t : S) (done : ℕ) (m : Document) (r : HasRunTo R operations s done m) where
+    pub run_end : steps s None t → R operations m
+    run_end step = subst (λ os. R os m) (sym (r.all ∙ ap (λ os. r.passed ++ os) (over r.left s t r.gives step) ∙ append-nil r.passed)) r.run
 
-    -- those that were taken are the first, and the next one is at their number
-    pub run_before : R (take done (map g ops)) m
-    run_before = subst (λ os. R os m) (sym (ap₂ take long split ∙ take_front (map g r.passed) (g op ∷ map g more))) r.run
+    -- those that were taken are the first
+    pub run_before : R (take done operations) m
+    run_before = subst (λ os. R os m) (sym (ap₂ take r.numbered r.all ∙ take_front r.passed r.left)) r.run
 
-    pub next_there : slice_get (map g ops) done ≡ Some (g op)
-    next_there = ap₂ slice_get split long ∙ get_next (map g r.passed) (map g more) (g op)
+    module _ (op : O) (step : steps s (Some op) t) where
+      abbrev is : IsNext r.left op t
+      is = next r.left s t op r.gives step
+
+      split : operations ≡ r.passed ++ v op ∷ is.0
+      split = r.all ∙ ap (λ os. r.passed ++ os) is.1
+
+      -- the relation after the next operation may be another one
+      pub run_further : (T : List Operation → Document → Type 0) (e : Document) → ((os : List Operation) → R os m → T (os ++ v op ∷ []) e) → HasRunTo T operations t (done + 1) e
+      run_further T e longer = record {
+        passed = r.passed ++ v op ∷ [];
+        left = is.0;
+        all = split ∙ sym (append_assoc r.passed (v op ∷ []) is.0);
+        numbered = ap (λ n. n + 1) r.numbered ∙ sym (length-append r.passed (v op ∷ []));
+        gives = is.2;
+        run = longer r.passed r.run;
+      }
+
+      -- and the next one is at their number
+      pub next_there : slice_get operations done ≡ Some (v op)
+      next_there = ap₂ slice_get split r.numbered ∙ get_next r.passed is.0 (v op)

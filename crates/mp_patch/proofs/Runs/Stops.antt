@@ -1,5 +1,5 @@
 -- Within a limit a patch runs to an end or is stopped, not both, and at one operation alone.
-use Rattle.std.proofs.Common.{◌≡◌, ◌≢◌, ◌≤◌, ◌+◌, ◌*◌, ◌⊎◌, inl, inr, ℕ, zero, suc, List, [], ◌∷◌, take, Some, refl, sym, ap, ap₂, subst, arith}
+use Rattle.std.proofs.Common.{◌≡◌, ◌≢◌, ◌≤◌, ◌<◌, ◌+◌, ◌*◌, ◌⊎◌, inl, inr, ℕ, zero, suc, List, [], ◌∷◌, take, Some, refl, sym, ap, ap₂, subst, arith}
 use Rattle.std.proofs.Math.Decide.{dec_le, ℕ_discrete}
 use Rattle.std.proofs.Math.Nat.{lt_of_not-le}
 use Rattle.std.specs.List.{slice_get}
@@ -9,8 +9,8 @@ use Rattle.mp_patch.specs.Laws.{HasOneStopWithin, RunsAreNotStopped, RunsWithinO
 use Rattle.mp_patch.specs.Operation.{HasDocument, HaveDocuments, Operation, Step}
 use Rattle.mp_patch.specs.Refusal.{RefusedBy, causes}
 use Rattle.mp_patch.specs.Run.{IsRefused}
-use Rattle.mp_patch.specs.Within.{IsApplyWithinFault, IsTooLarge, RunsWithin, RunsWorking, StopsAt}
-use Rattle.mp_patch.specs.Work.{AllowsWork, ExceedsWork, IsWork, unbounded, work_factor}
+use Rattle.mp_patch.specs.Within.{AllowsWeight, IsApplyWithinFault, IsTooLarge, RunsWithin, RunsWorking, StopsAt}
+use Rattle.mp_patch.specs.Work.{AllowsWork, IsWork, no_limit, work_factor}
 use Rattle.mp_patch.specs.declared.fault.ApplyWithinFault.{ApplyWithinFault}
 use Rattle.mp_patch.specs.declared.fault.ApplyWithinFault.TheVariants.{Refused, TooLarge, OutOfMemory}
 use Rattle.mp_patch.specs.declared.fault.Cause.{Cause}
@@ -30,10 +30,11 @@ no_operation k o e = cc
 fewer : (limit v w : ℕ) → v ≤ w → AllowsWork limit w → AllowsWork limit v
 fewer limit v w less allows bounded = omega (arith, less, allows bounded)
 
-decide_work : (limit w : ℕ) → AllowsWork limit w ⊎ ExceedsWork limit w
-decide_work limit w = elim (dec_le w (work_factor * limit)) [
+-- a limit that bounds something bounds n by most, or n is more
+decide : (limit n most : ℕ) → (limit ≢ no_limit → n ≤ most) ⊎ ((limit ≢ no_limit) × (most < n))
+decide limit n most = elim (dec_le n most) [
   | yes within ↦ inl (λ bounded. within)
-  | no over ↦ elim (ℕ_discrete limit unbounded) [ yes is ↦ inl (λ bounded. absurd (bounded is)) | no bounded ↦ inr (bounded, lt_of_not-le over) ]
+  | no over ↦ elim (ℕ_discrete limit no_limit) [ yes is ↦ inl (λ bounded. absurd (bounded is)) | no bounded ↦ inr (bounded, lt_of_not-le over) ]
 ]
 
 -- ---- runs and stops, after so much work
@@ -43,19 +44,19 @@ abbrev Stop : Type 1
 Stop = ℕ → Document → Operation → Type 0
 
 abbrev Halts : ℕ → Stop → Type 0
-Halts limit Stops = (before w : ℕ) (m n : Document) (o : Operation) → IsDocument m → HasDocument o → ¬ IsRefused m o → Step m o n → weight n ≤ limit → IsWork m o w → AllowsWork limit (before + w) → Stops before m o → ⊥
+Halts limit Stops = (before w : ℕ) (m n : Document) (o : Operation) → IsDocument m → HasDocument o → ¬ IsRefused m o → Step m o n → AllowsWeight limit n → IsWork m o w → AllowsWork limit (before + w) → Stops before m o → ⊥
 
 refusal_halts : (limit : ℕ) (cause : Cause) → Halts limit (λ done m o. RefusedBy m o cause)
 refusal_halts limit cause before w m n o good value free step within works allows refused = free (cause, refused)
 
 size_halts : (limit : ℕ) → Halts limit (IsTooLarge limit)
 size_halts limit before w m n o good value free step within works allows (also, e, other, v, again, inl over) =
-    omega (arith, within, over, ap weight (Step-once m o n e good value step other))
+    omega (arith, within over.0, over.1, ap weight (Step-once m o n e good value step other))
 size_halts limit before w m n o good value free step within works allows (also, e, other, v, again, inr exceeds) =
     omega (arith, allows exceeds.0, exceeds.1, one_work m o w v good works again)
 
 abbrev Light : ℕ → Document → List Operation → Document → ℕ → Type 0
-Light limit d operations e w = RunsWorking (λ m. weight m ≤ limit) d operations e w
+Light limit d operations e w = RunsWorking (AllowsWeight limit) d operations e w
 
 abbrev StopsAfter : Stop → ℕ → ℕ → Document → List Operation → ℕ → Type 0
 StopsAfter Stops limit before d operations k =
@@ -158,7 +159,7 @@ FaultAfter limit before (TooLarge k) d operations = StopsAfter (IsTooLarge limit
 FaultAfter limit before OutOfMemory d operations = Unit {0}
 
 -- a stop of the kind, one operation later
-stops_later : (Stops : Stop) (limit before w : ℕ) (d n : Document) (o : Operation) (operations : List Operation) (k : ℕ) → ¬ IsRefused d o → Step d o n → weight n ≤ limit → IsWork d o w
+stops_later : (Stops : Stop) (limit before w : ℕ) (d n : Document) (o : Operation) (operations : List Operation) (k : ℕ) → ¬ IsRefused d o → Step d o n → AllowsWeight limit n → IsWork d o w
     → StopsAfter Stops limit (before + w) n operations k → StopsAfter Stops limit before d (o ∷ operations) (suc k)
 stops_later Stops limit before w d n o operations k free step within works (m, done, run, allows, p, there, stopped) =
     let is : before + w + done ≡ before + (w + done) = omega arith in
@@ -167,7 +168,7 @@ stops_later Stops limit before w d n o operations k free step within works (m, d
 abbrev SomeFault : ℕ → ℕ → Document → List Operation → Type 0
 SomeFault limit before d operations = (fault : ApplyWithinFault) × (fault ≢ OutOfMemory) × FaultAfter limit before fault d operations
 
-later : (limit before w : ℕ) (d n : Document) (o : Operation) (operations : List Operation) → ¬ IsRefused d o → Step d o n → weight n ≤ limit → IsWork d o w → SomeFault limit (before + w) n operations → SomeFault limit before d (o ∷ operations)
+later : (limit before w : ℕ) (d n : Document) (o : Operation) (operations : List Operation) → ¬ IsRefused d o → Step d o n → AllowsWeight limit n → IsWork d o w → SomeFault limit (before + w) n operations → SomeFault limit before d (o ∷ operations)
 later limit before w d n o operations free step within works (Refused k cause, some, stops) = (Refused (suc k) cause, (λ e. cc), stops_later (λ done m o. RefusedBy m o cause) limit before w d n o operations k free step within works stops)
 later limit before w d n o operations free step within works (TooLarge k, some, stops) = (TooLarge (suc k), (λ e. cc), stops_later (IsTooLarge limit) limit before w d n o operations k free step within works stops)
 later limit before w d n o operations free step within works (OutOfMemory, some, stops) = absurd (some refl)
@@ -186,9 +187,9 @@ goes_or_stops limit before d [] good values allows = let is : before ≡ before 
 goes_or_stops limit before d (o ∷ operations) good values allows = elim (judge d o good) [
   | inr refused ↦ inr (Refused 0 refused.0, (λ e. cc), stops_first (λ done m p. RefusedBy m p refused.0) limit before d o operations allows refused.1)
   | inl leads ↦
-      let works = some_work d o leads.0 leads.2 in elim (dec_le (weight leads.0) limit) [
-        | no over ↦ inr (TooLarge 0, (λ e. cc), stops_first (IsTooLarge limit) limit before d o operations allows (leads.1, leads.0, leads.2, works.0, works.1, inl (lt_of_not-le over)))
-        | yes within ↦ elim (decide_work limit (before + works.0)) [
+      let works = some_work d o leads.0 leads.2 in elim (decide limit (weight leads.0) limit) [
+        | inr over ↦ inr (TooLarge 0, (λ e. cc), stops_first (IsTooLarge limit) limit before d o operations allows (leads.1, leads.0, leads.2, works.0, works.1, inl over))
+        | inl within ↦ elim (decide limit (before + works.0) (work_factor * limit)) [
           | inr exceeds ↦ inr (TooLarge 0, (λ e. cc), stops_first (IsTooLarge limit) limit before d o operations allows (leads.1, leads.0, leads.2, works.0, works.1, inr exceeds))
           | inl enough ↦ elim (goes_or_stops limit (before + works.0) leads.0 operations (Step-document d o leads.0 good values.0 leads.2) values.1 enough) [
             | inl run ↦

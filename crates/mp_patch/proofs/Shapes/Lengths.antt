@@ -44,16 +44,16 @@ shape-length s o is = omega (arith, members-length s.name s.path s.origin s.valu
 
 -- ---- of a patch: each operation with what stands after it
 
-abbrev pub parts_length : List Op → ℕ
+abbrev pub parts_length : List (Op Doc) → ℕ
 parts_length ops = items_length (items_of (map shape (operations_of ops)))
 
-pub patch-length : (ops : List Op) → length (text (shapes (operations_of ops))) ≡ bracketed (parts_length ops)
+pub patch-length : (ops : List (Op Doc)) → length (text (shapes (operations_of ops))) ≡ bracketed (parts_length ops)
 patch-length ops = length-list (items_of (map shape (operations_of ops)))
 
-pub some_length : (ops : List Op) → ops ≢ [] → 1 ≤ parts_length ops
+pub some_length : (ops : List (Op Doc)) → ops ≢ [] → 1 ≤ parts_length ops
 some_length [] some = absurd (some refl)
 some_length (op ∷ ops) some = omega arith
 
 -- from one operation on
-pub next_length : (ops : List Op) (i : ℕ) (op : Op) → i < length ops → op ≡ get_or ops i op → parts_length (drop i ops) ≡ length (text (shape (operation_of op))) + 1 + parts_length (drop (i + 1) ops)
+pub next_length : (ops : List (Op Doc)) (i : ℕ) (op : Op Doc) → i < length ops → op ≡ get_or ops i op → parts_length (drop i ops) ≡ length (text (shape (operation_of op))) + 1 + parts_length (drop (i + 1) ops)
 next_length ops i op within is = ap parts_length (drop_more ops i op within ∙ ap (λ o. o ∷ drop (i + 1) ops) (sym is))

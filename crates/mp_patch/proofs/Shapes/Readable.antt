@@ -19,6 +19,7 @@ use Rattle.mp_patch.specs.Operation.{Operation, add, remove, replace, move, copy
 use Rattle.mp_patch.specs.View.{operation_of, operations_of}
 use Rattle.mp_patch.specs.Writable.{IsWritable}
 use Rattle.mp_patch.specs.declared.op.Op.{Op}
+use Rattle.mp_tree.specs.declared.doc.Doc.{Doc}
 use Rattle.mp_patch.specs.declared.op.Op.TheVariants as op
 use Rattle.mp_patch.proofs.Shapes.Made.{shapes-depth}
 
@@ -156,7 +157,7 @@ shapes_are_readable spelled operations all within = record {
 -- ---- the values of a `JsonPatch` are those of its documents
 
 module _ (docs : DocsAreDocuments) where
-  op-document : (o : Op) → ValueIs IsDocument (operation_of o)
+  op-document : (o : Op Doc) → ValueIs IsDocument (operation_of o)
   op-document (op.Add path value) = (docs value).0
   op-document (op.Remove path) = tt
   op-document (op.Replace path value) = (docs value).0
@@ -164,7 +165,7 @@ module _ (docs : DocsAreDocuments) where
   op-document (op.Copy origin path) = tt
   op-document (op.Test path value) = (docs value).0
 
-  op-range : (o : Op) → ValueIs IsInRange (operation_of o)
+  op-range : (o : Op Doc) → ValueIs IsInRange (operation_of o)
   op-range (op.Add path value) = (docs value).2
   op-range (op.Remove path) = tt
   op-range (op.Replace path value) = (docs value).2
@@ -172,11 +173,11 @@ module _ (docs : DocsAreDocuments) where
   op-range (op.Copy origin path) = tt
   op-range (op.Test path value) = (docs value).2
 
-  each_op : (P : Operation → Type 0) → ((o : Op) → P (operation_of o)) → (ops : List Op) → All P (operations_of ops)
+  each_op : (P : Operation → Type 0) → ((o : Op Doc) → P (operation_of o)) → (ops : List (Op Doc)) → All P (operations_of ops)
   each_op P each [] = All-nil P
   each_op P each (o ∷ ops) = All-cons P (operation_of o) (operations_of ops) (each o) (each_op P each ops)
 
-  pub shapes-readable : (ops : List Op) → ReadsUtf8Back → 2 + deepest (operations_of ops) ≤ depth_limit → IsUtf8 (text (shapes (operations_of ops))) → read (text (shapes (operations_of ops))) ≡ Some (shapes (operations_of ops))
+  pub shapes-readable : (ops : List (Op Doc)) → ReadsUtf8Back → 2 + deepest (operations_of ops) ≤ depth_limit → IsUtf8 (text (shapes (operations_of ops))) → read (text (shapes (operations_of ops))) ≡ Some (shapes (operations_of ops))
   shapes-readable ops back within utf8 =
       let operations = operations_of ops in
       back (shapes operations) (IsDocument-shapes operations (each_op (ValueIs IsDocument) op-document ops)) (IsInRange-shapes operations (each_op (ValueIs IsInRange) op-range ops)) (omega (arith, shapes-depth operations)) utf8

@@ -19,10 +19,10 @@ use Rattle.mp_patch.specs.declared.name.OpName.{OpName}
 use Rattle.mp_patch.specs.declared.op.Op.{Op}
 use Rattle.mp_patch.specs.declared.shape.Shape.{Shape}
 
-abbrev pub shapes_data : List Op → json.Items
+abbrev pub shapes_data : List (Op Doc) → json.Items
 shapes_data ops = items_data (items_of (map shape (operations_of ops)))
 
-pub items_len-shapes : (ops : List Op) → items_len (shapes_data ops) ≡ length ops
+pub items_len-shapes : (ops : List (Op Doc)) → items_len (shapes_data ops) ≡ length ops
 items_len-shapes [] = refl
 items_len-shapes (op ∷ ops) = ap suc (items_len-shapes ops)
 

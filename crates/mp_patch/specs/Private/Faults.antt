@@ -1,7 +1,5 @@
 -- A refusal as the error of a patch. Only private clauses cite it.
 use Rattle.std.specs.Prelude.{ℕ}
-use Rattle.mp_patch.specs.declared.fault.ApplyFault.{ApplyFault}
-use Rattle.mp_patch.specs.declared.fault.ApplyFault.TheVariants as apply_fault
 use Rattle.mp_patch.specs.declared.fault.ApplyWithinFault.{ApplyWithinFault}
 use Rattle.mp_patch.specs.declared.fault.ApplyWithinFault.TheVariants as within_fault
 use Rattle.mp_patch.specs.declared.fault.Cause.{Cause}
@@ -11,13 +9,9 @@ use Rattle.mp_patch.specs.declared.fault.FormFault.TheVariants as form_fault
 use Rattle.mp_patch.specs.declared.fault.Refusal.{Refusal}
 use Rattle.mp_patch.specs.declared.fault.Refusal.TheVariants.{By, OutOfMemory}
 
-abbrev pub fault_of_operation : ℕ → Refusal Cause → ApplyFault
-fault_of_operation number (By cause) = apply_fault.Refused number cause
-fault_of_operation number OutOfMemory = apply_fault.OutOfMemory
-
-abbrev pub within_fault_of : ℕ → Refusal Cause → ApplyWithinFault
-within_fault_of number (By cause) = within_fault.Refused number cause
-within_fault_of number OutOfMemory = within_fault.OutOfMemory
+abbrev pub fault_of_operation : ℕ → Refusal Cause → ApplyWithinFault
+fault_of_operation number (By cause) = within_fault.Refused number cause
+fault_of_operation number OutOfMemory = within_fault.OutOfMemory
 
 abbrev pub fault_of_element : ℕ → Refusal FormCause → FormFault
 fault_of_element number (By cause) = form_fault.Form number cause

@@ -5,12 +5,9 @@ use Rattle.mp_tree.specs.Look.{at_name}
 use Rattle.mp_pointer.specs.Spelling.{Tokens, spell}
 use Rattle.mp_patch.specs.Form.{IsFaulty, IsNoPointer, HasOp, Need, path_alone, a_value, an_origin, NamesOp}
 use Rattle.mp_patch.specs.Form.{text_at}
-use Rattle.mp_patch.specs.Operation.{Operation, add, remove, replace, move, copy, test}
 use Rattle.mp_patch.specs.declared.fault.FormCause.TheVariants.{NotAnObject, NoOp, UnknownOp, NoPath, NoFrom}
 use Rattle.mp_patch.specs.declared.fault.FormCause.TheVariants.{BadPointer, NoValue}
 use Rattle.mp_patch.specs.declared.fault.FormCause.{FormCause}
-use Rattle.mp_patch.specs.declared.reading.Draft.{Draft}
-use Rattle.mp_patch.specs.declared.reading.Draft.TheVariants.{Add, Remove, Replace, Move, Copy, Test}
 use Rattle.mp_patch.specs.declared.fault.Refusal.{Refusal}
 use Rattle.mp_patch.specs.declared.fault.Refusal.TheVariants.{By, OutOfMemory}
 
@@ -70,14 +67,3 @@ abbrev pub IsValueFault : Refusal FormCause → Document → Type 0
 IsValueFault (By NoValue) d = at_name (codes "value") d ≡ None
 IsValueFault (By cause) d = ⊥
 IsValueFault OutOfMemory d = ⊤
-
--- ---- an operation as it is read
-
--- its value as the document that it means by f
-abbrev pub drafted : {V : Type 0} → (V → Document) → Draft V → Operation
-drafted f (Add path value) = add path (f value)
-drafted f (Remove path) = remove path
-drafted f (Replace path value) = replace path (f value)
-drafted f (Move origin path) = move origin path
-drafted f (Copy origin path) = copy origin path
-drafted f (Test path value) = test path (f value)

@@ -4,54 +4,26 @@ use Rattle.mp_tree.specs.Document.{Document, depth, depth_limit}
 use Rattle.mp_tree.specs.Weight.{weight}
 use Rattle.mp_pointer.specs.Part.{part}
 use Rattle.mp_pointer.specs.Spelling.{Tokens, IsProperPrefix}
-use Rattle.mp_patch.specs.Operation.{Operation, Step, Removes, add, remove, replace, move, copy, test}
+use Rattle.mp_patch.specs.Operation.{Operation, Step, Removes, move}
 use Rattle.mp_patch.specs.Refusal.{RefusedBy}
 use Rattle.mp_patch.specs.Run.{IsRefused}
-use Rattle.mp_patch.specs.Work.{IsWork, work_factor, unbounded}
+use Rattle.mp_patch.specs.Work.{IsWork, work_factor, no_limit}
+use Rattle.mp_patch.specs.declared.fault.ApplyWithinFault.{ApplyWithinFault}
+use Rattle.mp_patch.specs.declared.fault.ApplyWithinFault.TheVariants as fault
 use Rattle.mp_patch.specs.declared.fault.Cause.{Cause}
 use Rattle.mp_patch.specs.declared.fault.Refusal.{Refusal}
 use Rattle.mp_patch.specs.declared.fault.Refusal.TheVariants.{By, OutOfMemory}
 use Rattle.mp_patch.specs.declared.scale.Scale.{Scale}
-use Rattle.mp_patch.specs.declared.view.Change.{Change}
-use Rattle.mp_patch.specs.declared.view.Change.TheVariants as change
-use Rattle.mp_patch.specs.declared.view.View.{View}
-use Rattle.mp_patch.specs.declared.view.View.TheVariants as view
 
--- ---- an operation that is looked at, each value as the document that it means by f
+-- if the operation has a work, it is n
+abbrev pub CountsWork : ℕ → Document → Operation → Type 0
+CountsWork n d o = (w : ℕ) → IsWork d o w → n ≡ w
 
-abbrev pub changed : {T : Type 0} → (T → Document) → Change T → Operation
-changed f (change.Add path value) = add path.now (f value.now)
-changed f (change.Remove path) = remove path.now
-changed f (change.Replace path value) = replace path.now (f value.now)
-changed f (change.Copy origin path) = copy origin.now path.now
-changed f (change.Test path value) = test path.now (f value.now)
-
-abbrev pub viewed : {T : Type 0} → (T → Document) → View T → Operation
-viewed f (view.Change c) = changed f c
-viewed f (view.Move origin path) = move origin.now path.now
-
--- ---- the work that is left, which is none if it has no bound
-
--- so much is left of what a limit allows, once so much was done
-abbrev pub HasLeft : ℕ → ℕ → Option ℕ → Type 0
-HasLeft limit done None = limit ≡ unbounded
-HasLeft limit done (Some left) = (limit ≢ unbounded) × (left + done ≡ work_factor * limit)
-
--- what is left after so much more
-abbrev pub LeavesWork : Option ℕ → ℕ → Option ℕ → Type 0
-LeavesWork None w after = after ≡ None
-LeavesWork (Some left) w None = ⊥
-LeavesWork (Some left) w (Some after) = after + w ≡ left
-
-abbrev pub ExceedsLeft : Option ℕ → ℕ → Type 0
-ExceedsLeft None w = ⊥
-ExceedsLeft (Some left) w = left < w
-
--- if there is a bound, n is the work of the operation
-abbrev pub CountsWork : Option ℕ → ℕ → Document → Operation → Type 0
-CountsWork left n d o = (w : ℕ) → left ≢ None → IsWork d o w → n ≡ w
-
--- ---- answers
+-- the scale of a document d once so much work was done; there is none if the limit bounds nothing
+abbrev pub IsScale : ℕ → ℕ → Option Scale → Document → Type 0
+IsScale limit done None d = limit ≡ no_limit
+IsScale limit done (Some scale) d =
+    (limit ≢ no_limit) × (scale.limit ≡ limit) × (scale.weight ≡ weight d) × (scale.work + done ≡ work_factor * limit)
 
 -- the operation is not refused, and its result weighs more
 abbrev pub IsTooHeavy : ℕ → Document → Operation → Type 0
@@ -70,13 +42,13 @@ pub record ScaleFollows (scale next : Scale) (d : Document) (o : Operation) (e :
   pub same_limit : next.limit ≡ scale.limit
   pub work : ℕ
   pub is_work : IsWork d o work
-  pub leaves : LeavesWork scale.work work next.work
+  pub leaves : next.work + work ≡ scale.work
 
 -- the operation is not refused, and its result weighs more, or its work is more than what is left
 abbrev pub IsTooMuch : Scale → Document → Operation → Type 0
 IsTooMuch scale d o =
     ¬ IsRefused d o × (m : Document) × Step d o m × (w : ℕ) × IsWork d o w
-    × ((scale.limit < weight m) ⊎ ExceedsLeft scale.work w)
+    × ((scale.limit < weight m) ⊎ (scale.work < w))
 
 -- the operation was taken from d to e, and the scale follows, or it is too much, or it is refused
 abbrev pub AnswersWithin : Scale → Result (Option Scale) (Refusal Cause) → Document → Operation → Document → Type 0
@@ -84,6 +56,20 @@ AnswersWithin scale (Ok (Some next)) d o e = ¬ IsRefused d o × Step d o e × S
 AnswersWithin scale (Ok None) d o e = IsTooMuch scale d o
 AnswersWithin scale (Err (By cause)) d o e = RefusedBy d o cause
 AnswersWithin scale (Err OutOfMemory) d o e = ⊤
+
+-- the same with no scale, if there is no limit
+abbrev pub Follows : Option Scale → Option Scale → Document → Operation → Document → Type 0
+Follows None None d o e = ⊤
+Follows (Some scale) (Some next) d o e = ScaleFollows scale next d o e
+Follows None (Some next) d o e = ⊥
+Follows (Some scale) None d o e = ⊥
+
+-- why the operation of that number ends the patch
+abbrev pub EndsBy : Option Scale → ℕ → ApplyWithinFault → Document → Operation → Type 0
+EndsBy scale number (fault.Refused k cause) d o = (k ≡ number) × RefusedBy d o cause
+EndsBy None number (fault.TooLarge k) d o = ⊥
+EndsBy (Some scale) number (fault.TooLarge k) d o = (k ≡ number) × IsTooMuch scale d o
+EndsBy scale number fault.OutOfMemory d o = ⊤
 
 -- whether a value fits below so many tokens
 abbrev pub Fits : Bool → Tokens → Document → Type 0

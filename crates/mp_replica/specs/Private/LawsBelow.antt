@@ -13,7 +13,7 @@ pub record MergeLaws : Type 0 where
   pub all_clashes_exist : merge.ClashesExist
   pub one_list : merge.HaveOneList
   pub none_if_compatible : merge.EmptyIfCompatible
-  pub clash_with_a_join : merge.ClashWithAJoin
+  pub conflict_with_a_join : merge.ClashWithAJoin
   pub join_exists : merge.JoinExists
   pub join_grows : merge.JoinGrows
   pub join_in_parts : merge.JoinInParts

@@ -42,6 +42,12 @@ pub record KnowsPairs (stored : Stored) (set : KeptPairs) : Type 0 where
 
 -- ---- those whose patches clash
 
+-- these are the patches that are stored under the two, and they clash
+pub record AreClashing (stored : Stored) (i j : Identity) (p q : Document) : Type 0 where
+  pub at_first : stored i ≡ Some p
+  pub at_second : stored j ≡ Some q
+  pub clash : ¬ Compatible p q
+
 -- of the pairs that were passed those whose patches clash, and that are asked for
 pub record AreOf (of : Option Identity) (stored : Stored) (passed : List (Identity × Identity)) (pairs : List Pair) : Type 0 where
   pub rising : IsStrictlySortedBy pair_cmp (map identities_of pairs)

@@ -1,26 +1,14 @@
 -- What is read as places, and why something is not. Only private clauses cite it.
-use Rattle.std.specs.Prelude.{◌≡◌, ◌≢◌, ◌++◌, ◌⊎◌, ℕ, Bool, true, false, List, [], ◌∷◌, map, Ok, Err, ⊤}
+use Rattle.std.specs.Prelude.{◌≡◌, ◌≢◌, ◌++◌, ◌⊎◌, ℕ, Bool, true, false, List, [], ◌∷◌, Ok, Err, ⊤}
 use Rattle.std.specs.declared.cmp.Ordering.TheVariants.{Less}
 use Rattle.mp_tree.specs.Document.{Document, name_cmp}
 use Rattle.mp_tree.specs.Look.{Path}
 use Rattle.mp_tree.specs.Text.{document_in}
-use Rattle.mp_texts.specs.Answers.{place_of, places_list}
+use Rattle.mp_texts.specs.Answers.{places_list}
 use Rattle.mp_replica.specs.Held.{HeldPlaces}
 use Rattle.mp_replica.specs.Kept.{AreKeptPlaces, more_mark}
 use Rattle.mp_replica.specs.declared.fault.LiveFault.{LiveFault}
 use Rattle.mp_replica.specs.declared.fault.LiveFault.TheVariants.{Document as NoDocument, NotKept, OutOfMemory}
-
--- the document is no place
-abbrev pub IsNoPlace : LiveFault → Document → Type 0
-IsNoPlace NotKept d = (place : Path) → d ≢ place_of place
-IsNoPlace OutOfMemory d = ⊤
-IsNoPlace other d = ⊥
-
--- one of the documents is no place
-abbrev pub AreNotPlaces : LiveFault → List Document → Type 0
-AreNotPlaces NotKept ds = (places : List Path) → ds ≢ map place_of places
-AreNotPlaces OutOfMemory ds = ⊤
-AreNotPlaces other ds = ⊥
 
 -- the text is read as these places, whether there are more or not
 abbrev pub AreRead : List ℕ → HeldPlaces → Type 0

@@ -1,8 +1,9 @@
 -- What is known of the stored patches that conflict. Only private clauses cite it.
-use Rattle.std.specs.Prelude.{◌≡◌, ◌↔◌, ◌⊎◌, List, Some, option_map, ⊤}
+use Rattle.std.specs.Prelude.{◌≡◌, ◌↔◌, ◌⊎◌, List, Option, None, Some, option_map, ⊤}
 use Rattle.std.specs.List.{Contains}
 use Rattle.std.specs.List.Sorted.{IsStrictlySortedBy}
-use Rattle.std.specs.Map.{keys_of}
+use Rattle.std.specs.BTreeMap.{is_at}
+use Rattle.std.specs.Map.{keys_of, lookup}
 use Rattle.mp_tree.specs.Document.{Document}
 use Rattle.mp_tree.specs.View.{document}
 use Rattle.mp_tree.specs.declared.doc.Doc.{Doc}
@@ -13,12 +14,22 @@ use Rattle.mp_replica.specs.PatchLog.{AreUnclashed, ClashesWithNone, Shows, Stor
 use Rattle.mp_replica.specs.Private.Pairs.{KeptPairs, KnowsPairs}
 use Rattle.mp_replica.specs.Private.Steps.{HeldJoin}
 use Rattle.mp_replica.specs.declared.message.Identity.{Identity}
+use Rattle.mp_replica.specs.declared.stored_join.StoredJoin.{StoredJoin}
 use Rattle.mp_replica.specs.declared.stored_patches.Standing.{Standing}
 use Rattle.mp_replica.specs.declared.stored_patches.Standing.TheVariants.{Fits, Disputed, Disputes}
 
 -- the patch under the identity clashes with one that is stored
 abbrev pub Conflicts : Stored → Identity → Type 0
 Conflicts stored i = (p : Document) × (stored i ≡ Some p) × (¬ ClashesWithNone stored p)
+
+-- the patch under this identity, if it has one
+abbrev pub pending_in : List (Identity × Doc) → Option Identity → Option Doc
+pending_in patches None = None
+pending_in patches (Some i) = lookup (is_at (identity_cmp i)) patches
+
+-- the join of stored patches, and the one of them that is not joined whole
+abbrev pub join_in : List (Identity × Doc) → StoredJoin → HeldJoin
+join_in patches join = record { joined = join.joined; pending = pending_in patches join.unjoined }
 
 -- the join is of these patches
 abbrev pub IsJoined : HeldJoin → List Document → Type 0

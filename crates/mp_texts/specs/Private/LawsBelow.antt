@@ -36,8 +36,6 @@ pub record AnswerLaws : Type 0 where
   pub form_unfaulty : patch.FormsHaveNoFault
   pub one_form_fault : patch.HasOneFormFault
   pub one_end : patch.HasOneEnd
-  pub unrefused : patch.RunsUnrefused
-  pub one_refusal : patch.HasOneRefusal
   pub one_outcome : merge.HasOneOutcome
   pub outcome_exists : merge.OutcomeExists
   pub reported_is_incompatible : merge.CompatibleHaveNone
@@ -48,7 +46,6 @@ pub record AnswerLaws : Type 0 where
   pub one_report_within : merge.HasOneReportWithin
   pub not_too_large : merge.WithinIsNotTooLarge
   pub one_fitting : merge.HasOneFitting
-  pub limits_change_nothing : patch.LimitsChangeNoAnswer
   pub unstopped : patch.RunsAreNotStopped
   pub one_stop : patch.HasOneStopWithin
 
@@ -56,7 +53,6 @@ pub record AnswerLaws : Type 0 where
 pub record ExistenceLaws : Type 0 where
   pub joins : JoinLaws
   pub run_documents : patch.FormsHaveDocuments
-  pub runs_or_refused : patch.RunsOrIsRefused
   pub runs_or_stops : patch.RunsWithinOrStops
   pub limits_change_nothing : patch.LimitsChangeNoAnswer
   pub writable_forms : patch.FormsAreWritable

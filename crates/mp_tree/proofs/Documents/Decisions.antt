@@ -32,17 +32,12 @@ same_member same = let name = same.0 in let value = same.1 in let rest = same.2 
 mutual
   pub decide_document : (d e : Document) → Dec (d ≡ e)
   decide_document null null = yes refl
-  decide_document null e = no (λ same. cc)
   decide_document (flag b) (flag c) = map_dec (ap flag) (λ same. cc) (Bool-discrete b c)
-  decide_document (flag b) e = no (λ same. cc)
   decide_document (whole z) (whole y) = map_dec (ap whole) (λ same. cc) (ℤ_discrete z y)
-  decide_document (whole z) e = no (λ same. cc)
   decide_document (string s) (string t) = map_dec (ap string) (λ same. cc) (decide_name s t)
-  decide_document (string s) e = no (λ same. cc)
   decide_document (list ds) (list es) = map_dec (ap list) (λ same. cc) (decide_items ds es)
-  decide_document (list ds) e = no (λ same. cc)
   decide_document (object ms) (object es) = map_dec (ap object) (λ same. cc) (decide_members ms es)
-  decide_document (object ms) e = no (λ same. cc)
+  decide_document other e = no (λ same. cc)
 
   decide_items : (ds es : Items) → Dec (ds ≡ es)
   decide_items no_items no_items = yes refl

@@ -1,14 +1,15 @@
 -- When lists of elements and maps are seen alike.
-use Rattle.std.proofs.Common.{◌≡◌, ◌<◌, ◌⊎◌, inl, inr, ℕ, zero, suc, List, [], ◌∷◌, ◌++◌, map, length, get_or, String, Global, string_cmp, string_bytes, refl, sym, ap, ap₂, ◌∙◌, arith, length-append, Some}
+use Rattle.std.proofs.Common.{◌≡◌, ◌<◌, ◌⊎◌, inl, inr, ℕ, zero, suc, List, [], ◌∷◌, ◌++◌, map, length, get_or, String, Global, string_cmp, refl, sym, ap, ap₂, ◌∙◌, arith, length-append, Some}
+use Rattle.std.proofs.Math.ListN.{get_or-map}
 use Rattle.std.proofs.lemmas.List.{length-map}
 use Rattle.std.specs.List.Sorted.{IsStrictlySortedBy}
 use Rattle.std.specs.Map.{keys_of}
-use Rattle.mp_tree.specs.Document.{Document, string, list, object, Items, no_items, item, Members, no_members, find}
-use Rattle.mp_tree.specs.View.{document, members_of, items, items_by, members_by}
-use Rattle.mp_tree.specs.Private.Entries.{members}
-use Rattle.mp_tree.specs.declared.doc.Doc.{Doc}
+use Rattle.mp_tree.specs.Document.{Document, string, list, object, Items, item, Members, no_members, find}
+use Rattle.mp_tree.specs.Elements.{list_of}
+use Rattle.mp_tree.specs.View.{members_of, items_by, members_by}
+use Rattle.mp_tree.proofs.Documents.Elements.{list_of-by}
 use Rattle.mp_tree.proofs.Maps.Building.{seen}
-use Rattle.mp_tree.proofs.Texts.IntoData.{put-below, IsBelow-by}
+use Rattle.mp_tree.proofs.Texts.IntoData.{members-cons-by}
 use Rattle.mp_tree.proofs.Maps.Finite.{pairs_of}
 use Rattle.mp_tree.proofs.Lists.{empty_from_length}
 use Rattle.mp_tree.proofs.Passed.{Passed, Passed-next, Passed-end}
@@ -16,31 +17,16 @@ use Rattle.mp_tree.proofs.Options.{same_some}
 
 -- ---- elements
 
-abbrev elements_of : Items → List Document
-elements_of no_items = []
-elements_of (item d ds) = d ∷ elements_of ds
-
 module _ {V : Type 0} (f : V → Document) where
-  elements_of-by : (ds : List V) → elements_of (items_by f ds) ≡ map f ds
-  elements_of-by [] = refl
-  elements_of-by (d ∷ ds) = ap (λ es. f d ∷ es) (elements_of-by ds)
-
   documents_from_by : (ds es : List V) → items_by f ds ≡ items_by f es → map f ds ≡ map f es
-  documents_from_by ds es same = sym (elements_of-by ds) ∙ ap elements_of same ∙ elements_of-by es
+  documents_from_by ds es same = sym (list_of-by f ds) ∙ ap list_of same ∙ list_of-by f es
 
   pub length_from_items-by : (ds es : List V) → items_by f ds ≡ items_by f es → length ds ≡ length es
   length_from_items-by ds es same = sym (length-map ds f) ∙ ap length (documents_from_by ds es same) ∙ length-map es f
 
   -- elements at each place
-  at_from_map-by : (ds es : List V) (k : ℕ) (d : V) → map f ds ≡ map f es → f (get_or ds k d) ≡ f (get_or es k d)
-  at_from_map-by [] [] k d same = refl
-  at_from_map-by [] (e ∷ es) k d same = absurd (cc)
-  at_from_map-by (x ∷ ds) [] k d same = absurd (cc)
-  at_from_map-by (x ∷ ds) (e ∷ es) zero d same = cc
-  at_from_map-by (x ∷ ds) (e ∷ es) (suc k) d same = let others : map f ds ≡ map f es = cc in at_from_map-by ds es k d others
-
   pub at_from_items-by : (ds es : List V) (k : ℕ) (d : V) → items_by f ds ≡ items_by f es → f (get_or ds k d) ≡ f (get_or es k d)
-  at_from_items-by ds es k d same = at_from_map-by ds es k d (documents_from_by ds es same)
+  at_from_items-by ds es k d same = sym (get_or-map f ds k d) ∙ ap (λ l. get_or l k (f d)) (documents_from_by ds es same) ∙ get_or-map f es k d
 
   pub items_from_each-by : (ds es : List V) → length ds ≡ length es → ((k : ℕ) (d : V) → k < length ds → f (get_or ds k d) ≡ f (get_or es k d)) → items_by f ds ≡ items_by f es
   items_from_each-by [] [] long each = refl
@@ -51,9 +37,7 @@ module _ {V : Type 0} (f : V → Document) where
   pairs_of-by : (es : List (String Global × V)) → IsStrictlySortedBy string_cmp (keys_of es) → pairs_of (members_by f es) ≡ map (seen f) es
   unfolding IsStrictlySortedBy
   pairs_of-by [] ascending = refl
-  pairs_of-by (e ∷ es) ascending =
-      let listed = put-below (string_bytes e.0) (f e.1) (members_by f es) (IsBelow-by f e.0 es ascending.0) in
-      ap pairs_of listed ∙ ap (λ ps. seen f e ∷ ps) (pairs_of-by es ascending.1)
+  pairs_of-by (e ∷ es) ascending = ap pairs_of (members-cons-by f e es ascending) ∙ ap (λ ps. seen f e ∷ ps) (pairs_of-by es ascending.1)
 
   -- ascending entries whose members are the same are seen alike
   pub seen_from_members-by : (es fs : List (String Global × V)) → IsStrictlySortedBy string_cmp (keys_of es) → IsStrictlySortedBy string_cmp (keys_of fs) → members_by f es ≡ members_by f fs
@@ -66,17 +50,6 @@ module _ {V : Type 0} (f : V → Document) where
   pub length_from_members-by : (es fs : List (String Global × V)) → IsStrictlySortedBy string_cmp (keys_of es) → IsStrictlySortedBy string_cmp (keys_of fs) → members_by f es ≡ members_by f fs
       → length es ≡ length fs
   length_from_members-by es fs a b same = sym (length-map es (seen f)) ∙ ap length (seen_from_members-by es fs a b same) ∙ length-map fs (seen f)
-
--- ---- of documents
-
-pub length_from_items : (ds es : List Doc) → items ds ≡ items es → length ds ≡ length es
-length_from_items = length_from_items-by document
-
-pub at_from_items : (ds es : List Doc) (k : ℕ) (d : Doc) → items ds ≡ items es → document (get_or ds k d) ≡ document (get_or es k d)
-at_from_items = at_from_items-by document
-
-pub items_from_each : (ds es : List Doc) → length ds ≡ length es → ((k : ℕ) (d : Doc) → k < length ds → document (get_or ds k d) ≡ document (get_or es k d)) → items ds ≡ items es
-items_from_each = items_from_each-by document
 
 -- ---- members
 
@@ -104,19 +77,6 @@ no_list_is_map ms ds same = cc
 -- the texts that are found at one name
 pub same_text_at : (n : List ℕ) (ms : Members) (s t : List ℕ) → find n ms ≡ Some (string s) → find n ms ≡ Some (string t) → s ≡ t
 same_text_at n ms s t here there = same_text s t (same_some (find n ms) (string s) (string t) here there)
-
--- ---- entries that ascend
-
-pub seen_from_members : (es fs : List (String Global × Doc)) → IsStrictlySortedBy string_cmp (keys_of es) → IsStrictlySortedBy string_cmp (keys_of fs) → members es ≡ members fs
-    → map (seen document) es ≡ map (seen document) fs
-seen_from_members = seen_from_members-by document
-
-pub members_from_seen : (es fs : List (String Global × Doc)) → map (seen document) es ≡ map (seen document) fs → members es ≡ members fs
-members_from_seen = members_from_seen-by document
-
-pub length_from_members : (es fs : List (String Global × Doc)) → IsStrictlySortedBy string_cmp (keys_of es) → IsStrictlySortedBy string_cmp (keys_of fs) → members es ≡ members fs
-    → length es ≡ length fs
-length_from_members = length_from_members-by document
 
 -- ---- two lists that are walked together
 

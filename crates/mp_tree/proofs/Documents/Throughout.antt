@@ -1,6 +1,6 @@
 -- What holds of each number, text and name of a document holds of those of its parts, and of what a change leaves.
 use Rattle.std.proofs.Common.{ℕ, ℤ, List, Bool, true, false, cond, Some, IfSome}
-use Rattle.mp_tree.specs.Document.{Document, null, flag, whole, string, list, object, Items, no_items, item, Members, no_members, member, is_name, find, put, without, Throughout, ThroughoutItems, ThroughoutMembers}
+use Rattle.mp_tree.specs.Document.{Document, whole, string, list, object, Items, no_items, item, Members, no_members, member, is_name, find, put, without, Throughout, ThroughoutItems, ThroughoutMembers}
 use Rattle.mp_tree.proofs.Maps.EachMember.{each_after_put, each_after_without}
 
 module _ (N : ℤ → Type 0) (S : List ℕ → Type 0) where
@@ -23,12 +23,11 @@ module _ (N : ℤ → Type 0) (S : List ℕ → Type 0) where
 module _ (N : ℤ → Type 0) (S : List ℕ → Type 0) (M : ℤ → Type 0) (T : List ℕ → Type 0) (numbers : (z : ℤ) → N z → M z) (texts : (s : List ℕ) → S s → T s) where
   mutual
     pub Throughout-weaker : (d : Document) → Throughout N S d → Throughout M T d
-    Throughout-weaker null all = tt
-    Throughout-weaker (flag b) all = tt
     Throughout-weaker (whole z) all = numbers z all
     Throughout-weaker (string s) all = texts s all
     Throughout-weaker (list ds) all = items_weaker ds all
     Throughout-weaker (object ms) all = members_weaker ms all
+    Throughout-weaker other all = tt
 
     items_weaker : (ds : Items) → ThroughoutItems N S ds → ThroughoutItems M T ds
     items_weaker no_items all = tt

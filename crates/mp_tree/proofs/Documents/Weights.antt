@@ -1,7 +1,7 @@
 -- The weight of a list or a map is the sum of its parts, also after a change.
-use Rattle.std.proofs.Common.{◌≡◌, ◌≢◌, ◌<◌, ◌≤◌, ◌-◌, ◌+◌, MatchOption, ℕ, zero, suc, List, length, Bool, true, false, cond, Option, Some, None, Ordering, Less, Equal, Greater, is_eq, refl, ap, ◌∙◌, arith}
+use Rattle.std.proofs.Common.{◌≡◌, ◌≤◌, ◌-◌, ◌+◌, ℕ, zero, suc, List, length, Bool, true, false, cond, Option, Some, None, Ordering, Less, Equal, Greater, is_eq, refl, ap, ◌∙◌, arith}
 use Rattle.std.specs.Ordering.{match_ordering}
-use Rattle.mp_tree.specs.Document.{Document, null, flag, whole, string, list, object, Items, no_items, item, Members, no_members, member, name_cmp, is_name, find, put, without, IsBelow, IsMap}
+use Rattle.mp_tree.specs.Document.{Document, string, Items, no_items, item, Members, no_members, member, name_cmp, is_name, find, put, without, IsBelow, IsMap}
 use Rattle.mp_tree.specs.Elements.{append, nth}
 use Rattle.mp_tree.specs.Weight.{scalar_weight, name_weight, weight, items_weight, members_weight}
 use Rattle.mp_tree.proofs.Documents.Elements.{set_item}
@@ -54,27 +54,7 @@ members_weight-without k (member m d ms) = picked (is_name k m) refl (members_we
     picked true is later = omega (arith, ap length (same_name k m is))
     picked false is later = omega (arith, later)
 
--- ---- what has no characters, no elements and no members
-
-pub scalar-weight : (d : Document) → ((s : List ℕ) → d ≢ string s) → ((ds : Items) → d ≢ list ds) → ((ms : Members) → d ≢ object ms) → weight d ≡ scalar_weight
-scalar-weight null text elements members = refl
-scalar-weight (flag b) text elements members = refl
-scalar-weight (whole z) text elements members = refl
-scalar-weight (string s) text elements members = absurd (text s refl)
-scalar-weight (list ds) text elements members = absurd (elements ds refl)
-scalar-weight (object ms) text elements members = absurd (members ms refl)
-
 -- each document weighs as much as a scalar
 pub least-weight : (d : Document) → scalar_weight ≤ weight d
-least-weight null = omega arith
-least-weight (flag b) = omega arith
-least-weight (whole z) = omega arith
 least-weight (string s) = omega arith
-least-weight (list ds) = omega arith
-least-weight (object ms) = omega arith
-
--- ---- what is left of a budget, one level up
-
-pub left_inside : (r : Option ℕ) (own budget inside w v : ℕ) → (own ≤ budget) × (inside ≡ budget - own) → v ≡ own + w → MatchOption r (inside < w) (λ left. left + w ≡ inside) → MatchOption r (budget < v) (λ left. left + v ≡ budget)
-left_inside None own budget inside w v taken all over = omega (arith, taken.0, taken.1, all, over)
-left_inside (Some left) own budget inside w v taken all is = omega (arith, taken.0, taken.1, all, is)
+least-weight other = omega arith

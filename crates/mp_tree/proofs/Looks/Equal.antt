@@ -1,25 +1,17 @@
 -- Two documents are equal exactly if their looks are equal at every path.
 use Rattle.std.proofs.Common.{◌≡◌, ℕ, List, [], ◌∷◌, true, false, cond, Option, Some, None, IfSome, refl, sym, ap, subst}
-use Rattle.mp_tree.specs.Document.{Document, null, flag, whole, string, list, object, Members, no_members, member, is_name, find, IsDocument, IsMap}
+use Rattle.mp_tree.specs.Document.{Document, null, object, Members, no_members, member, is_name, find, IsDocument, IsMap}
 use Rattle.mp_tree.specs.Look.{Path, nothing, plain, look, look_of, look_here}
 use Rattle.mp_tree.specs.Laws.{EqualLooks}
 use Rattle.mp_tree.proofs.Maps.Finite.{members_same}
 
 pub is_here : (d : Document) → look_here d ≡ nothing → ⊥
 is_here null e = cc
-is_here (flag b) e = cc
-is_here (whole z) e = cc
-is_here (string s) e = cc
-is_here (list ds) e = cc
-is_here (object ms) e = cc
+is_here other e = cc
 
 pub same_plain : (d e : Document) → plain d ≡ look_here e → d ≡ e
-same_plain d null same = cc
-same_plain d (flag b) same = cc
-same_plain d (whole z) same = cc
-same_plain d (string s) same = cc
-same_plain d (list ds) same = cc
 same_plain d (object ms) same = absurd (cc)
+same_plain d other same = cc
 
 -- a value of a map is a document
 pub IsDocument-find : (q : List ℕ) (ms : Members) → IsMap ms → IfSome (find q ms) IsDocument
@@ -32,18 +24,10 @@ found_document n ms v good at = subst (λ o. IfSome o IsDocument) at (IsDocument
 
 mutual
   same_from_looks : (d e : Document) → IsDocument d → IsDocument e → ((w : Path) → look d w ≡ look e w) → d ≡ e
-  same_from_looks null e good other looks = same_plain null e (looks [])
-  same_from_looks (flag b) e good other looks = same_plain (flag b) e (looks [])
-  same_from_looks (whole z) e good other looks = same_plain (whole z) e (looks [])
-  same_from_looks (string s) e good other looks = same_plain (string s) e (looks [])
-  same_from_looks (list ds) e good other looks = same_plain (list ds) e (looks [])
-  same_from_looks (object ms) null good other looks = let here = looks [] in absurd (cc)
-  same_from_looks (object ms) (flag b) good other looks = let here = looks [] in absurd (cc)
-  same_from_looks (object ms) (whole z) good other looks = let here = looks [] in absurd (cc)
-  same_from_looks (object ms) (string s) good other looks = let here = looks [] in absurd (cc)
-  same_from_looks (object ms) (list ds) good other looks = let here = looks [] in absurd (cc)
   same_from_looks (object ms) (object es) good other looks =
       ap object (members_same ms es good other (λ q. found_same ms q (find q es) good (IsDocument-find q es other) (λ w. looks (q ∷ w))))
+  same_from_looks (object ms) e good other looks = let here = looks [] in absurd (cc)
+  same_from_looks d e good other looks = same_plain d e (looks [])
 
   found_same : (ms : Members) (q : List ℕ) (o : Option Document) → IsMap ms → IfSome o IsDocument → ((w : Path) → look_of (find q ms) w ≡ look_of o w) → find q ms ≡ o
   found_same no_members q o good other looks =

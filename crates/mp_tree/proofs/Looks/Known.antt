@@ -10,11 +10,9 @@ use Rattle.mp_tree.proofs.Membership.{some_or_all}
 
 decide_look : (l m : Look) → Dec (l ≡ m)
 decide_look nothing nothing = yes refl
-decide_look nothing m = no (λ same. cc)
 decide_look an_object an_object = yes refl
-decide_look an_object m = no (λ same. cc)
 decide_look (plain v) (plain u) = map_dec (ap plain) (λ same. cc) (decide_document v u)
-decide_look (plain v) m = no (λ same. cc)
+decide_look other m = no (λ same. cc)
 
 -- looks that do not differ are the same
 pub same_look : (l m : Look) → (l ≢ m → ⊥) → l ≡ m
@@ -22,8 +20,7 @@ same_look l m never = elim (decide_look l m) [ yes same ↦ same | no other ↦ 
 
 pub nothing_or : (l : Look) → (l ≡ nothing) ⊎ (l ≢ nothing)
 nothing_or nothing = inl refl
-nothing_or an_object = inr (λ same. cc)
-nothing_or (plain v) = inr (λ same. cc)
+nothing_or other = inr (λ same. cc)
 
 -- some of the documents has something at the path, or none has
 abbrev pub Speaks : List Document → Path → Type 0

@@ -10,12 +10,10 @@ use Rattle.mp_tree.proofs.Options.{if_both, if_mapped}
 -- what holds of a value holds of what it is mapped to
 mutual
   pub document_of_data : (x : Data) → IfSome (from_data x) IsDocument
-  document_of_data json.null = tt
-  document_of_data (json.boolean b) = tt
   document_of_data (json.number n) = if_mapped whole (λ z. Unit {0}) IsDocument (whole_number n) (λ z is. tt) (elim (whole_number n) as (λ o. IfSome o (λ z. Unit {0})) [ None ↦ tt | Some z ↦ tt ])
-  document_of_data (json.string s) = tt
   document_of_data (json.array ds) = if_mapped list AreDocuments IsDocument (items_from_data ds) (λ es good. good) (documents_of_data ds)
   document_of_data (json.object ms) = if_mapped object IsMap IsDocument (members_from_data ms) (λ es good. good) (map_of_data ms)
+  document_of_data other = tt
 
   documents_of_data : (ds : json.Items) → IfSome (items_from_data ds) AreDocuments
   documents_of_data json.no_items = tt

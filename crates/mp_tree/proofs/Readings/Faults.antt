@@ -1,7 +1,7 @@
 -- What is read gives no error that is the machine's.
 use Rattle.std.proofs.Common.{◌≢◌, Bool, true, false, if◌then◌else◌, nat_le, Option, None, Some, Ok, Err}
 use Rattle.serde_json.specs.Data.{Data}
-use Rattle.mp_tree.specs.Document.{Document, null, flag, whole, string, list, object, depth, depth_limit}
+use Rattle.mp_tree.specs.Document.{Document, null, depth, depth_limit}
 use Rattle.mp_tree.specs.Laws.{FaultsAreOfBytes, FaultsAreOfArrays}
 use Rattle.mp_tree.specs.Text.{from_data, data_in, elements, whole_or_fault, json_or_fault, whole_document, json_document}
 use Rattle.mp_tree.specs.declared.fault.DocsFault.TheVariants as elements_fault
@@ -24,11 +24,7 @@ faults_are_of_bytes bytes = of_reading (data_in bytes)
 
 of_elements : (d : Document) → elements d ≢ Err elements_fault.OutOfMemory
 of_elements null = λ memory. cc
-of_elements (flag b) = λ memory. cc
-of_elements (whole z) = λ memory. cc
-of_elements (string s) = λ memory. cc
-of_elements (list ds) = λ memory. cc
-of_elements (object ms) = λ memory. cc
+of_elements other = λ memory. cc
 
 of_whole : (d : Option Document) → whole_or_fault d ≢ Err elements_fault.OutOfMemory
 of_whole None = λ memory. cc

@@ -17,7 +17,7 @@ use Rattle.serde_json.specs.Data.{Data, Num, unsigned, negative, float}
 use Rattle.serde_json.specs.Read as serde_json
 use Rattle.serde_json.specs.Read.{number_of, of_json, of_items, of_members, max_depth}
 use Rattle.serde_json.proofs.Nesting.{depth-read}
-use Rattle.mp_tree.specs.Document.{Document, null, flag, whole, string, list, object, Items, no_items, item, AreDocuments, IsDocument, IsWhole, IsReadable, depth, items_depth, depth_limit, IsInRange, HasTexts, Throughout, ThroughoutItems, ThroughoutMembers, put}
+use Rattle.mp_tree.specs.Document.{Document, null, whole, string, list, object, Items, no_items, item, AreDocuments, IsDocument, IsWhole, IsReadable, depth, items_depth, depth_limit, Throughout, ThroughoutItems, ThroughoutMembers, put}
 use Rattle.mp_tree.specs.Elements.{list_of}
 use Rattle.mp_tree.specs.Laws.{ReadsReadable, ReadsReadables}
 use Rattle.mp_tree.specs.Text.{from_data, items_from_data, members_from_data, whole_number, data_in, elements, whole_or_fault, json_or_fault, shallow_document, whole_document, json_document}
@@ -25,19 +25,18 @@ use Rattle.mp_tree.specs.declared.fault.ReadFault.TheVariants.{TooDeep}
 use Rattle.mp_tree.proofs.Options.{if_both, if_either, if_mapped, if_then}
 use Rattle.mp_tree.proofs.Readings.Documents.{document_of_data}
 use Rattle.mp_tree.proofs.Texts.Written.{depth-from_data}
-use Rattle.mp_tree.proofs.Documents.Throughout.{Throughout-put, Throughout-weaker}
+use Rattle.mp_tree.proofs.Documents.Sound.{readable}
+use Rattle.mp_tree.proofs.Documents.Throughout.{Throughout-put}
 use Rattle.mp_tree.proofs.Texts.Unescaped.{AreTexts, tokens-texts}
 
 -- ---- the value that tokens are
 
 abbrev mutual
   HasTokenTexts : Json → Type 0
-  HasTokenTexts json_text.null = Unit {0}
-  HasTokenTexts (json_text.boolean b) = Unit {0}
-  HasTokenTexts (json_text.number s) = Unit {0}
   HasTokenTexts (json_text.string s) = IsUtf8 s
   HasTokenTexts (json_text.array js) = ItemsHaveTokenTexts js
   HasTokenTexts (json_text.object ms) = MembersHaveTokenTexts ms
+  HasTokenTexts other = Unit {0}
 
   ItemsHaveTokenTexts : json_text.Items → Type 0
   ItemsHaveTokenTexts json_text.no_items = Unit {0}
@@ -63,30 +62,13 @@ and_more Q h keeps more again None parsed = tt
 and_more Q h keeps more again (Some q) parsed = mapped Q Q (h q.0) (λ b fine. keeps q.0 b parsed.0 fine) (more q.1) (again q.1 parsed.1)
 
 end-texts : (ts : List Token) → AreTexts ts → IfSome (after_end_array ts) AreTexts
-end-texts [] texts = tt
 end-texts (token.end_array ∷ ts) texts = texts.1
-end-texts (token.begin_object ∷ ts) texts = tt
-end-texts (token.end_object ∷ ts) texts = tt
-end-texts (token.begin_array ∷ ts) texts = tt
-end-texts (token.key s ∷ ts) texts = tt
-end-texts (token.string s ∷ ts) texts = tt
-end-texts (token.number s ∷ ts) texts = tt
-end-texts (token.boolean b ∷ ts) texts = tt
-end-texts (token.null ∷ ts) texts = tt
-end-texts (token.bad ∷ ts) texts = tt
+end-texts other texts = tt
 
 key-texts : (ts : List Token) → AreTexts ts → IfSome (read_key ts) (λ p. IfSome p.0 IsUtf8 × AreTexts p.1)
-key-texts [] texts = tt
 key-texts (token.end_object ∷ ts) texts = (tt, texts.1)
 key-texts (token.key s ∷ ts) texts = (texts.0, texts.1)
-key-texts (token.begin_object ∷ ts) texts = tt
-key-texts (token.begin_array ∷ ts) texts = tt
-key-texts (token.end_array ∷ ts) texts = tt
-key-texts (token.string s ∷ ts) texts = tt
-key-texts (token.number s ∷ ts) texts = tt
-key-texts (token.boolean b ∷ ts) texts = tt
-key-texts (token.null ∷ ts) texts = tt
-key-texts (token.bad ∷ ts) texts = tt
+key-texts other texts = tt
 
 module _ (p : Parse Json) (keeps : Keeps HasTokenTexts p) where
   item_turn : (more : Parse json_text.Items) → Keeps ItemsHaveTokenTexts more → (ts : List Token) (o : Option (List Token)) → AreTexts ts → IfSome o AreTexts → Parsed ItemsHaveTokenTexts (items_step p more ts o)
@@ -110,17 +92,13 @@ module _ (p : Parse Json) (keeps : Keeps HasTokenTexts p) where
   members-keep (suc n) ts texts = member_turn (members p n) (members-keep n) (read_key ts) (key-texts ts texts)
 
 one_level : (a : Parse json_text.Items) (o : Parse json_text.Members) → Keeps ItemsHaveTokenTexts a → Keeps MembersHaveTokenTexts o → Keeps HasTokenTexts (value_with a o)
-one_level a o p q [] texts = tt
 one_level a o p q (token.begin_object ∷ ts) texts = mapped MembersHaveTokenTexts HasTokenTexts json_text.object (λ ms fine. fine) (o ts) (q ts texts.1)
-one_level a o p q (token.end_object ∷ ts) texts = tt
 one_level a o p q (token.begin_array ∷ ts) texts = mapped ItemsHaveTokenTexts HasTokenTexts json_text.array (λ js fine. fine) (a ts) (p ts texts.1)
-one_level a o p q (token.end_array ∷ ts) texts = tt
-one_level a o p q (token.key s ∷ ts) texts = tt
 one_level a o p q (token.string s ∷ ts) texts = (texts.0, texts.1)
 one_level a o p q (token.number s ∷ ts) texts = (tt, texts.1)
 one_level a o p q (token.boolean b ∷ ts) texts = (tt, texts.1)
 one_level a o p q (token.null ∷ ts) texts = (tt, texts.1)
-one_level a o p q (token.bad ∷ ts) texts = tt
+one_level a o p q other texts = tt
 
 value-keeps : (d : ℕ) → Keeps HasTokenTexts (value d)
 unfolding value
@@ -130,9 +108,8 @@ value-keeps (suc d) =
     (λ ts. items-keep (value d) (value-keeps d) (length ts) ts) (λ ts. members-keep (value d) (value-keeps d) (length ts) ts)
 
 last-texts : (o : Option (Json × List Token)) → Parsed HasTokenTexts o → IfSome (option_and_then (λ p. json_text.if_last p.0 p.1) o) HasTokenTexts
-last-texts None parsed = tt
 last-texts (Some (j, [])) parsed = parsed.0
-last-texts (Some (j, t ∷ ts)) parsed = tt
+last-texts other parsed = tt
 
 -- ---- the numbers of a reading
 
@@ -168,12 +145,11 @@ number-num s = search (either-num, negative-num, unsigned-num, float-num)
 
 abbrev mutual
   IsData : Data → Type 0
-  IsData json.null = Unit {0}
-  IsData (json.boolean b) = Unit {0}
   IsData (json.number n) = IsNum n
   IsData (json.string s) = IsUtf8 s
   IsData (json.array ds) = AreData ds
   IsData (json.object ms) = MembersAreData ms
+  IsData other = Unit {0}
 
   AreData : json.Items → Type 0
   AreData json.no_items = Unit {0}
@@ -195,12 +171,11 @@ put-data k d (json.member l e ms) name here all =
 
 mutual
   json-data : (j : Json) → HasTokenTexts j → IfSome (of_json j) IsData
-  json-data json_text.null texts = tt
-  json-data (json_text.boolean b) texts = tt
   json-data (json_text.number s) texts = if_mapped json.number IsNum IsData (number_of s) (λ n is. is) (number-num s)
   json-data (json_text.string s) texts = texts
   json-data (json_text.array js) texts = if_mapped json.array AreData IsData (of_items js) (λ ds fine. fine) (items-data js texts)
   json-data (json_text.object ms) texts = if_mapped json.object MembersAreData IsData (of_members ms json.no_members) (λ es fine. fine) (members-data ms json.no_members texts tt)
+  json-data other texts = tt
 
   items-data : (js : json_text.Items) → ItemsHaveTokenTexts js → IfSome (of_items js) AreData
   items-data json_text.no_items texts = tt
@@ -223,12 +198,11 @@ whole_number-range (float x) is = tt
 
 mutual
   throughout_from : (x : Data) → IsData x → IfSome (from_data x) (Throughout IsWhole IsUtf8)
-  throughout_from json.null is = tt
-  throughout_from (json.boolean b) is = tt
   throughout_from (json.number n) is = if_mapped whole IsWhole (Throughout IsWhole IsUtf8) (whole_number n) (λ z range. range) (whole_number-range n is)
   throughout_from (json.string s) is = is
   throughout_from (json.array ds) is = if_mapped list (ThroughoutItems IsWhole IsUtf8) (Throughout IsWhole IsUtf8) (items_from_data ds) (λ es all. all) (items_throughout ds is)
   throughout_from (json.object ms) is = if_mapped object (ThroughoutMembers IsWhole IsUtf8) (Throughout IsWhole IsUtf8) (members_from_data ms) (λ es all. all) (members_throughout ms is)
+  throughout_from other is = tt
 
   items_throughout : (ds : json.Items) → AreData ds → IfSome (items_from_data ds) (ThroughoutItems IsWhole IsUtf8)
   items_throughout json.no_items is = tt
@@ -240,12 +214,6 @@ mutual
   members_throughout (json.member n d ms) is =
       if_both (put n) (Throughout IsWhole IsUtf8) (ThroughoutMembers IsWhole IsUtf8) (ThroughoutMembers IsWhole IsUtf8) (from_data d) (members_from_data ms)
       (λ e es here all. Throughout-put IsWhole IsUtf8 n e es is.0 here all) (throughout_from d is.1) (members_throughout ms is.2)
-
-in-range : (d : Document) → Throughout IsWhole IsUtf8 d → IsInRange d
-in-range d all = Throughout-weaker IsWhole IsUtf8 IsWhole (λ s. Unit {0}) (λ z is. is) (λ s utf8. tt) d all
-
-has-texts : (d : Document) → Throughout IsWhole IsUtf8 d → HasTexts d
-has-texts d all = Throughout-weaker IsWhole IsUtf8 (λ z. Unit {0}) IsUtf8 (λ z is. tt) (λ s utf8. utf8) d all
 
 -- of bytes, what their reading is and how deep it nests
 pub record IsReadFrom (bytes : List ℕ) (x : Data) : Type 0 where
@@ -277,19 +245,16 @@ from_reading bytes x d read is = let from = data_in-is bytes x read in record {
   nests = omega (arith, from.nests, subst (λ (o : Option Document). IfSome o (λ e. depth e ≤ json.depth x)) is (depth-from_data x));
 }
 
-readable : (d : Document) → IsDocument d → Throughout IsWhole IsUtf8 d → depth d ≤ depth_limit → IsReadable d
-readable d good all within = record { is_document = good; has_texts = has-texts d all; in_range = in-range d all; within = within }
-
 all_readable : (ds : Items) → AreDocuments ds → ThroughoutItems IsWhole IsUtf8 ds → items_depth ds ≤ depth_limit → All IsReadable (list_of ds)
 all_readable no_items good all within = All-nil IsReadable
-all_readable (item d ds) good all within = All-cons IsReadable d (list_of ds) (readable d good.0 all.0 (omega arith)) (all_readable ds good.1 all.1 (omega arith))
+all_readable (item d ds) good all within = All-cons IsReadable d (list_of ds) (readable d (good.0, all.0) (omega arith)) (all_readable ds good.1 all.1 (omega arith))
 
 of_shallow : (d e : Document) → IsFrom e → shallow_document e ≡ Ok d → IsReadable d
 of_shallow d e from is = by (nat_le (depth e) depth_limit) refl is
   where
     by : (b : Bool) → nat_le (depth e) depth_limit ≡ b → cond b (Ok e) (Err TooDeep) ≡ Ok d → IsReadable d
     by false deep is = absurd (cc)
-    by true shallow is = let same : e ≡ d = cc in subst IsReadable same (readable e from.is_document from.throughout (leb-true _ _ shallow))
+    by true shallow is = let same : e ≡ d = cc in subst IsReadable same (readable e (from.is_document, from.throughout) (leb-true _ _ shallow))
 
 pub reads_readable : ReadsReadable
 reads_readable bytes d is = by_reading (data_in bytes) refl is
@@ -304,11 +269,7 @@ reads_readable bytes d is = by_reading (data_in bytes) refl is
 
 of_elements : (d : Document) (ds : Items) → IsFrom d → elements d ≡ Ok ds → All IsReadable (list_of ds)
 of_elements (list es) ds from is = let same : es ≡ ds = cc in subst (λ es. All IsReadable (list_of es)) same (all_readable es from.is_document from.throughout (omega (arith, from.nests)))
-of_elements null ds from is = absurd (cc)
-of_elements (flag b) ds from is = absurd (cc)
-of_elements (whole z) ds from is = absurd (cc)
-of_elements (string s) ds from is = absurd (cc)
-of_elements (object ms) ds from is = absurd (cc)
+of_elements other ds from is = absurd (cc)
 
 pub reads_readables : ReadsReadables
 reads_readables bytes ds is = by_reading (data_in bytes) refl is

@@ -1,15 +1,13 @@
 -- What the data that bytes have say of the document that is read.
-use Rattle.std.proofs.Common.{◌≡◌, ◌≤◌, ◌<◌, ℕ, zero, suc, List, [], ◌∷◌, length, get_or, Bool, true, false, Some, None, IfSome, option_and_then, Ok, IsUtf8, refl, ap, ◌∙◌, subst, arith}
+use Rattle.std.proofs.Common.{◌≡◌, ◌≤◌, ℕ, List, Bool, true, false, Some, None, IfSome, option_and_then, Ok, IsUtf8, refl, ap, ◌∙◌, subst}
 use Rattle.std.proofs.lemmas.Bool.{le-leb}
 use Rattle.std.proofs.lemmas.Str.{is_utf8-from_IsUtf8, IsUtf8-from_is_utf8}
 use Rattle.std.specs.Str.{is_utf8}
 use Rattle.serde_json.specs.Data as json
 use Rattle.serde_json.specs.Data.{Data}
 use Rattle.serde_json.specs.Read as serde_json
-use Rattle.mp_tree.specs.Document.{Document, depth, depth_limit, items_depth}
+use Rattle.mp_tree.specs.Document.{Document, depth, depth_limit}
 use Rattle.mp_tree.specs.Text.{data_in, from_data, document_in, json_document, read, shallow_document, whole_document}
-use Rattle.mp_tree.specs.View.{document, items, items_by}
-use Rattle.mp_tree.specs.declared.doc.Doc.{Doc}
 use Rattle.mp_tree.proofs.Texts.Written.{depth-from_data}
 
 pub data_in-some : (b : List ℕ) (x : Data) → IsUtf8 b → serde_json.read b ≡ Some x → data_in b ≡ Some x
@@ -38,11 +36,3 @@ document_in-read bytes d is within =
 
 pub one_document : (bytes : List ℕ) (d e : Document) → document_in bytes ≡ Ok d → document_in bytes ≡ Ok e → d ≡ e
 one_document bytes d e one other = cc
-
-pub item_depth-by : {V : Type 0} (f : V → Document) (ds : List V) (k : ℕ) (d : V) → k < length ds → depth (f (get_or ds k d)) ≤ items_depth (items_by f ds)
-item_depth-by f [] k d h = absurd (omega arith)
-item_depth-by f (e ∷ ds) zero d h = omega arith
-item_depth-by f (e ∷ ds) (suc k) d h = omega (arith, item_depth-by f ds k d (omega arith))
-
-pub item_depth : (ds : List Doc) (k : ℕ) (d : Doc) → k < length ds → depth (document (get_or ds k d)) ≤ items_depth (items ds)
-item_depth = item_depth-by document

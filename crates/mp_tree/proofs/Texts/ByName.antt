@@ -4,7 +4,7 @@ use Rattle.std.specs.Option.{option_or}
 use Rattle.std.specs.Ordering.{match_ordering}
 use Rattle.serde_json.specs.Data as json
 use Rattle.mp_tree.specs.ByName.{by_name, items_by_name, members_by_name}
-use Rattle.mp_tree.specs.Document.{Document, null, flag, whole, string, list, object, Items, no_items, item, Members, no_members, member, put, find, name_cmp, AreDocuments, IsMap}
+use Rattle.mp_tree.specs.Document.{Document, list, object, Items, no_items, item, Members, no_members, member, put, find, name_cmp, AreDocuments, IsMap}
 use Rattle.mp_tree.specs.Laws.{ByNameIsDocument, DocumentIsByName}
 use Rattle.mp_tree.specs.Text.{data_of, members_data}
 use Rattle.mp_tree.proofs.Maps.Finite.{IsMap-put, find-below, find-put, members_same}
@@ -14,12 +14,9 @@ use Rattle.mp_tree.proofs.Maps.Names.{cases_same, is_name-self, same_from_cmp}
 
 mutual
   pub by_name-document : ByNameIsDocument
-  by_name-document null = tt
-  by_name-document (flag b) = tt
-  by_name-document (whole z) = tt
-  by_name-document (string s) = tt
   by_name-document (list ds) = by_name-documents ds
   by_name-document (object ms) = by_name-map ms no_members tt
+  by_name-document other = tt
 
   by_name-documents : (ds : Items) → AreDocuments (items_by_name ds)
   by_name-documents no_items = tt
@@ -37,12 +34,9 @@ or_none (Some d) = refl
 
 mutual
   pub by_name-same : DocumentIsByName
-  by_name-same null good = refl
-  by_name-same (flag b) good = refl
-  by_name-same (whole z) good = refl
-  by_name-same (string s) good = refl
   by_name-same (list ds) good = ap list (items_by_name-same ds good)
   by_name-same (object ms) good = ap object (members_same (members_by_name ms no_members) ms (by_name-map ms no_members tt) good (λ q. find-by_name q ms no_members good ∙ or_none (find q ms)))
+  by_name-same other good = refl
 
   items_by_name-same : (ds : Items) → AreDocuments ds → items_by_name ds ≡ ds
   items_by_name-same no_items good = refl

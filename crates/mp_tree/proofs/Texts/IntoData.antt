@@ -7,24 +7,14 @@ use Rattle.serde_json.specs.Data as json
 use Rattle.serde_json.specs.Events.{items_len, members_len}
 use Rattle.mp_tree.specs.Document.{Document, Members, no_members, member, put, IsBelow}
 use Rattle.mp_tree.specs.Elements.{items_of}
-use Rattle.mp_tree.specs.Values.{value_document}
-use Rattle.mp_tree.specs.View.{document, items, members_by}
-use Rattle.mp_tree.specs.Private.Entries.{members}
-use Rattle.serde_json.specs.declared.value.Value.{Value}
+use Rattle.mp_tree.specs.View.{members_by}
 use Rattle.mp_tree.specs.Text.{data_of, items_data, members_data}
-use Rattle.mp_tree.specs.declared.doc.Doc.{Doc}
 use Rattle.mp_tree.proofs.Maps.Finite.{IsBelow-put}
 
 -- the members that a map's entries are written as
 abbrev pub entries_data_by : {V : Type 0} → (V → Document) → List (String Global × V) → json.Members
 entries_data_by f [] = json.no_members
 entries_data_by f (e ∷ es) = json.member (string_bytes e.0) (data_of (f e.1)) (entries_data_by f es)
-
-abbrev pub entries_data : List (String Global × Doc) → json.Members
-entries_data es = entries_data_by document es
-
-abbrev pub value_entries_data : List (String Global × Value) → json.Members
-value_entries_data es = entries_data_by value_document es
 
 -- a name below the others goes first
 pub put-below : (n : List ℕ) (d : Document) (ms : Members) → IsBelow n ms → put n d ms ≡ member n d ms
@@ -53,16 +43,4 @@ module _ {V : Type 0} (f : V → Document) where
   pub members_data-by : (es : List (String Global × V)) → IsStrictlySortedBy string_cmp (keys_of es) → members_data (members_by f es) ≡ entries_data_by f es
   unfolding IsStrictlySortedBy
   members_data-by [] ascending = refl
-  members_data-by (e ∷ es) ascending =
-      ap members_data (put-below (string_bytes e.0) (f e.1) (members_by f es) (IsBelow-by e.0 es ascending.0)) ∙ ap (json.member (string_bytes e.0) (data_of (f e.1))) (members_data-by es ascending.1)
-
--- ---- the entries of a map of documents
-
-pub items_len-items : (ds : List Doc) → items_len (items_data (items ds)) ≡ length ds
-items_len-items = items_len-by document
-
-pub members_len-entries : (es : List (String Global × Doc)) → members_len (entries_data es) ≡ length es
-members_len-entries = members_len-by document
-
-pub members_data-entries : (es : List (String Global × Doc)) → IsStrictlySortedBy string_cmp (keys_of es) → members_data (members es) ≡ entries_data es
-members_data-entries = members_data-by document
+  members_data-by (e ∷ es) ascending = ap members_data (members-cons-by e es ascending) ∙ ap (json.member (string_bytes e.0) (data_of (f e.1))) (members_data-by es ascending.1)

@@ -64,12 +64,9 @@ IsUtf8-number (negsuc n) h =
 
 mutual
   depth-outline : (x : Data) → tree.depth (outline x) ≡ json.depth x
-  depth-outline json.null = refl
-  depth-outline (json.boolean b) = refl
-  depth-outline (json.number n) = refl
-  depth-outline (json.string s) = refl
   depth-outline (json.array xs) = ap suc (items_depth-outline xs)
   depth-outline (json.object ms) = ap suc (members_depth-outline ms)
+  depth-outline other = refl
 
   items_depth-outline : (xs : json.Items) → tree.items_depth (items_outline xs) ≡ json.items_depth xs
   items_depth-outline json.no_items = refl
@@ -81,12 +78,10 @@ mutual
 
 mutual
   pub has_numbers : (d : Document) → IsInRange d → HasNumbers (outline (data_of d))
-  has_numbers null h = tt
-  has_numbers (flag b) h = tt
   has_numbers (whole z) h = has_number z h
-  has_numbers (string s) h = tt
   has_numbers (list ds) h = items_have_numbers ds h
   has_numbers (object ms) h = members_have_numbers ms h
+  has_numbers other h = tt
 
   items_have_numbers : (ds : Items) → ThroughoutItems IsWhole (λ s. Unit {0}) ds → ItemsHaveNumbers (items_outline (items_data ds))
   items_have_numbers no_items h = tt
@@ -100,12 +95,10 @@ mutual
 
 mutual
   reads_outline : (d : Document) → IsInRange d → of_json (outline (data_of d)) ≡ Some (data_of (by_name d))
-  reads_outline null range = refl
-  reads_outline (flag b) range = refl
   reads_outline (whole z) range = ap (option_map number) (reads_number z range)
-  reads_outline (string s) range = refl
   reads_outline (list ds) range = ap (option_map json.array) (reads_items ds range)
   reads_outline (object ms) range = ap (option_map json.object) (reads_members ms no_members range)
+  reads_outline other range = refl
 
   reads_items : (ds : Items) → ThroughoutItems IsWhole (λ s. Unit {0}) ds → of_items (items_outline (items_data ds)) ≡ Some (items_data (items_by_name ds))
   reads_items no_items range = refl

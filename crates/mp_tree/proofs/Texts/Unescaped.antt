@@ -98,12 +98,6 @@ after_four a b c d xs utf8 small = after_ascii d xs (after_ascii c _ (after_asci
 module _ (n : ℕ) (gives : Gives n) where
   pair_gives : (h : ℕ) (xs : List ℕ) → is_high_surrogate h ≡ true → length xs ≤ n → IsUtf8 xs → IfSome (content (after_high h) xs) IsUtf8
   unfolding content
-  pair_gives h [] is short utf8 = tt
-  pair_gives h (s ∷ []) is short utf8 = tt
-  pair_gives h (s ∷ u ∷ []) is short utf8 = tt
-  pair_gives h (s ∷ u ∷ a ∷ []) is short utf8 = tt
-  pair_gives h (s ∷ u ∷ a ∷ b ∷ []) is short utf8 = tt
-  pair_gives h (s ∷ u ∷ a ∷ b ∷ c ∷ []) is short utf8 = tt
   pair_gives h (s ∷ u ∷ a ∷ b ∷ c ∷ d ∷ xs) is short utf8 = if_either IsUtf8 ((s == 92) && (u == 117)) _ None (λ both.
       let marks = and_parts (s == 92) (u == 117) both in
       let first : s < 128 = omega (arith, eqb-true _ _ marks.0) in
@@ -116,13 +110,10 @@ module _ (n : ℕ) (gives : Gives n) where
     where
       pair_is_scalar : (h l : ℕ) → 0xd800 ≤ h → h < 0xdc00 → 0xdc00 ≤ l → l < 0xe000 → scalar (surrogate_pair h l) ≡ true
       pair_is_scalar h l p q r s = grind arith
+  pair_gives h xs is short utf8 = tt
 
   unit_gives : (xs : List ℕ) → length xs ≤ n → IsUtf8 xs → IfSome (content after_u xs) IsUtf8
   unfolding content
-  unit_gives [] short utf8 = tt
-  unit_gives (a ∷ []) short utf8 = tt
-  unit_gives (a ∷ b ∷ []) short utf8 = tt
-  unit_gives (a ∷ b ∷ c ∷ []) short utf8 = tt
   unit_gives (a ∷ b ∷ c ∷ d ∷ xs) short utf8 = if_then (IsUnit a b c d) IsUtf8 (code_unit a b c d) _ (code_unit-is a b c d) (λ u unit.
       let rest = after_four a b c d xs utf8 unit.digits in
       if_either IsUtf8 (is_high_surrogate u) _ _ (λ high. pair_gives u xs high (omega arith) rest) (λ not_high.
@@ -131,6 +122,7 @@ module _ (n : ℕ) (gives : Gives n) where
     where
       unit_is_scalar : (u : ℕ) → u < 65536 → is_high_surrogate u ≡ false → is_low_surrogate u ≡ false → scalar u ≡ true
       unit_is_scalar u bound not_high not_low = grind arith
+  unit_gives xs short utf8 = tt
 
   escape_gives : (xs : List ℕ) → length xs ≤ n → IsUtf8 xs → IfSome (content after_backslash xs) IsUtf8
   unfolding content
@@ -228,16 +220,12 @@ byte-texts between backslash x xs k utf8 all = (tt, all in_word)
 byte-texts between operator x xs k utf8 all = (operator-text x, all between)
 byte-texts between space x xs k utf8 all = all between
 byte-texts between other x xs k utf8 all = (word-text (x ∷ xs), all in_word)
-byte-texts in_word quote x xs k utf8 all = all in_word
-byte-texts in_word backslash x xs k utf8 all = all in_word
 byte-texts in_word operator x xs k utf8 all = (operator-text x, all between)
 byte-texts in_word space x xs k utf8 all = all between
-byte-texts in_word other x xs k utf8 all = all in_word
+byte-texts in_word c x xs k utf8 all = all in_word
 byte-texts in_string quote x xs k utf8 all = all between
 byte-texts in_string backslash x xs k utf8 all = all in_escape
-byte-texts in_string operator x xs k utf8 all = all in_string
-byte-texts in_string space x xs k utf8 all = all in_string
-byte-texts in_string other x xs k utf8 all = all in_string
+byte-texts in_string c x xs k utf8 all = all in_string
 byte-texts in_escape c x xs k utf8 all = all in_string
 
 -- a byte that is no ASCII begins no string and ends none
@@ -247,8 +235,7 @@ high-class x big = grind arith
 high_byte-texts : (m : Mode) (x : ℕ) (xs : List ℕ) (k : Mode → List Lexeme) → ((next : Mode) → HaveTexts (k next)) → HaveTexts (lex_byte m other x xs k)
 high_byte-texts between x xs k all = (word-text (x ∷ xs), all in_word)
 high_byte-texts in_word x xs k all = all in_word
-high_byte-texts in_string x xs k all = all in_string
-high_byte-texts in_escape x xs k all = all in_string
+high_byte-texts mode x xs k all = all in_string
 
 high-texts : (front rest : List ℕ) → AllHigh front → ((m : Mode) → HaveTexts (lex m rest)) → (m : Mode) → HaveTexts (lex m (front ++ rest))
 unfolding lex
@@ -276,32 +263,21 @@ placed-texts p begin_object b k here rest = allowed-texts (may_begin p) begin_ob
 placed-texts p end_object b k here rest = allowed-texts (may_close p) end_object k after_value tt (rest after_value)
 placed-texts p begin_array b k here rest = allowed-texts (may_begin p) begin_array k fresh tt (rest fresh)
 placed-texts p end_array b k here rest = allowed-texts (may_close p) end_array k after_value tt (rest after_value)
-placed-texts p (key s) b k here rest = (tt, tt)
 placed-texts p (string s) true k here rest = allowed-texts (may_begin p) (key s) k after_key here (rest after_key)
 placed-texts p (string s) false k here rest = allowed-texts (may_begin p) (string s) k after_value here (rest after_value)
 placed-texts p (number s) b k here rest = allowed-texts (may_begin p) (number s) k after_value tt (rest after_value)
 placed-texts p (boolean c) b k here rest = allowed-texts (may_begin p) (boolean c) k after_value tt (rest after_value)
 placed-texts p null b k here rest = allowed-texts (may_begin p) null k after_value tt (rest after_value)
-placed-texts p bad b k here rest = (tt, tt)
+placed-texts p t b k here rest = (tt, tt)
 
 punctuated-texts : (p : Place) (ls : List Lexeme) → HaveTexts ls → AreTexts (punctuate p ls)
 unfolding punctuate
 punctuated-texts fresh [] have = tt
 punctuated-texts after_value [] have = tt
-punctuated-texts after_comma [] have = (tt, tt)
-punctuated-texts after_key [] have = (tt, tt)
-punctuated-texts fresh (token t ∷ ls) have = placed-texts fresh t (begins_colon ls) (λ next. punctuate next ls) have.0 (λ next. punctuated-texts next ls have.1)
-punctuated-texts after_value (token t ∷ ls) have = placed-texts after_value t (begins_colon ls) (λ next. punctuate next ls) have.0 (λ next. punctuated-texts next ls have.1)
-punctuated-texts after_comma (token t ∷ ls) have = placed-texts after_comma t (begins_colon ls) (λ next. punctuate next ls) have.0 (λ next. punctuated-texts next ls have.1)
-punctuated-texts after_key (token t ∷ ls) have = placed-texts after_key t (begins_colon ls) (λ next. punctuate next ls) have.0 (λ next. punctuated-texts next ls have.1)
-punctuated-texts fresh (comma ∷ ls) have = (tt, tt)
+punctuated-texts p (token t ∷ ls) have = placed-texts p t (begins_colon ls) (λ next. punctuate next ls) have.0 (λ next. punctuated-texts next ls have.1)
 punctuated-texts after_value (comma ∷ ls) have = punctuated-texts after_comma ls have.1
-punctuated-texts after_comma (comma ∷ ls) have = (tt, tt)
-punctuated-texts after_key (comma ∷ ls) have = (tt, tt)
-punctuated-texts fresh (colon ∷ ls) have = (tt, tt)
-punctuated-texts after_value (colon ∷ ls) have = (tt, tt)
-punctuated-texts after_comma (colon ∷ ls) have = (tt, tt)
 punctuated-texts after_key (colon ∷ ls) have = punctuated-texts fresh ls have.1
+punctuated-texts p ls have = (tt, tt)
 
 pub tokens-texts : (bytes : List ℕ) → IsUtf8 bytes → AreTexts (tokens bytes)
 tokens-texts bytes utf8 = punctuated-texts fresh (lex between bytes) (lex-texts (length bytes) bytes (omega arith) utf8 between)

@@ -1,10 +1,10 @@
 -- What is written for a document, and what is read of it.
 use Rattle.std.proofs.Common.{◌≡◌, ◌≤◌, ℕ, ℤ, pos, negsuc, suc, max, List, Option, Some, None, option_map, option_and_then, Bool, false, ◌||◌, IfSome, refl, ap, ap₂, arith}
 use Rattle.serde_json.specs.Data as json
-use Rattle.serde_json.specs.Data.{Data, Num, unsigned, negative, float}
+use Rattle.serde_json.specs.Data.{Data}
 use Rattle.serde_json.specs.Find.{of_integer, is_float}
 use Rattle.serde_json.specs.Written.{has_float, items_have_float, members_have_float}
-use Rattle.mp_tree.specs.Document.{Document, null, flag, whole, string, list, object, Items, no_items, item, Members, no_members, member, put, depth, items_depth, members_depth, IsDocument, AreDocuments, IsMap}
+use Rattle.mp_tree.specs.Document.{Document, whole, list, object, Items, no_items, item, Members, no_members, member, put, depth, items_depth, members_depth, IsDocument, AreDocuments, IsMap}
 use Rattle.mp_tree.specs.Text.{whole_number, from_data, items_from_data, members_from_data, data_of, items_data, members_data}
 use Rattle.mp_tree.proofs.Texts.IntoData.{put-below}
 use Rattle.mp_tree.proofs.Documents.Depths.{members_depth-put}
@@ -20,12 +20,10 @@ both_false a b x y = rw (x, y)
 
 mutual
   pub has_float-data_of : (d : Document) → has_float (data_of d) ≡ false
-  has_float-data_of null = refl
-  has_float-data_of (flag b) = refl
   has_float-data_of (whole z) = is_float-of_integer z
-  has_float-data_of (string s) = refl
   has_float-data_of (list ds) = items_have_float-data ds
   has_float-data_of (object ms) = members_have_float-data ms
+  has_float-data_of other = refl
 
   items_have_float-data : (ds : Items) → items_have_float (items_data ds) ≡ false
   items_have_float-data no_items = refl
@@ -39,12 +37,9 @@ mutual
 
 mutual
   pub depth-data_of : (d : Document) → json.depth (data_of d) ≡ depth d
-  depth-data_of null = refl
-  depth-data_of (flag b) = refl
-  depth-data_of (whole z) = refl
-  depth-data_of (string s) = refl
   depth-data_of (list ds) = ap suc (items_depth-data ds)
   depth-data_of (object ms) = ap suc (members_depth-data ms)
+  depth-data_of other = refl
 
   items_depth-data : (ds : Items) → json.items_depth (items_data ds) ≡ items_depth ds
   items_depth-data no_items = refl
@@ -62,12 +57,10 @@ whole_number-of_integer (negsuc n) = refl
 
 mutual
   pub from_data-data_of : (d : Document) → IsDocument d → from_data (data_of d) ≡ Some d
-  from_data-data_of null good = refl
-  from_data-data_of (flag b) good = refl
   from_data-data_of (whole z) good = rw (whole_number-of_integer z)
-  from_data-data_of (string s) good = refl
   from_data-data_of (list ds) good = rw (items_from_data-data ds good)
   from_data-data_of (object ms) good = rw (members_from_data-data ms good)
+  from_data-data_of other good = refl
 
   items_from_data-data : (ds : Items) → AreDocuments ds → items_from_data (items_data ds) ≡ Some ds
   items_from_data-data no_items good = refl
@@ -105,12 +98,10 @@ member_within name m n (Some d) (Some ms) h k = omega (arith, members_depth-put 
 
 mutual
   pub depth-from_data : (x : Data) → IfSome (from_data x) (λ d. depth d ≤ json.depth x)
-  depth-from_data json.null = omega arith
-  depth-from_data (json.boolean b) = omega arith
   depth-from_data (json.number n) = number_within (whole_number n)
-  depth-from_data (json.string s) = omega arith
   depth-from_data (json.array xs) = list_within _ (items_from_data xs) (items_depth-from xs)
   depth-from_data (json.object ms) = object_within _ (members_from_data ms) (members_depth-from ms)
+  depth-from_data other = omega arith
 
   items_depth-from : (xs : json.Items) → IfSome (items_from_data xs) (λ ds. items_depth ds ≤ json.items_depth xs)
   items_depth-from json.no_items = omega arith

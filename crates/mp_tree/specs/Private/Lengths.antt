@@ -1,7 +1,7 @@
 -- How many bytes the text of an array or an object has. Only private clauses cite it.
-use Rattle.std.specs.Prelude.{◌+◌, ℕ, max, length, ⊤}
+use Rattle.std.specs.Prelude.{◌+◌, ℕ, max, length}
 use Rattle.json.specs.Print.{quoted}
-use Rattle.mp_tree.specs.Document.{Document, null, flag, whole, Items, no_items, item, Members, no_members, member}
+use Rattle.mp_tree.specs.Document.{Items, no_items, item, Members, no_members, member}
 use Rattle.mp_tree.specs.Text.{text}
 
 -- each element with what stands after it: a comma or the closing bracket
@@ -17,10 +17,3 @@ members_length (member n d ms) = length (quoted n) + 1 + length (text d) + 1 + m
 -- with the opening bracket, and the closing one where nothing stands before it
 abbrev pub bracketed : ℕ → ℕ
 bracketed parts = 1 + max 1 parts
-
--- null, a truth value or a number
-abbrev pub IsScalar : Document → Type 0
-IsScalar null = ⊤
-IsScalar (flag b) = ⊤
-IsScalar (whole z) = ⊤
-IsScalar other = ⊥

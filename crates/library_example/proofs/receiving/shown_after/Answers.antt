@@ -57,14 +57,14 @@ returns-then-not-is_empty-clause-refused c =
     first_clash n start c.args.messages.items so_far.passed _ m (replica_of l.replica) places.items (so_far.all ∙ ap (λ ms. so_far.passed ++ ms) c.in-Some.ensures.steps.0)
     (this ∙ l.invariant.epoch) so_far.holds some (said.places this start (patches_of n so_far.passed) so_far.holds)
 
-pub returns-in-Some-shown-clause-outcome : goal.returns-in-Some-shown-clause-outcome
-returns-in-Some-shown-clause-outcome c =
+pub returns-in-Some-document-clause-outcome : goal.returns-in-Some-document-clause-outcome
+returns-in-Some-document-clause-outcome c =
     let l = c.loop-message in
     let it = l.message-iterator in
     let r = replica_of l.replica in
     let patches = patches_of c.args.epoch c.args.messages.items in
     let follows = at_the_end l.invariant.received (nil_from_length (into_iter_items it) (sym it.rest.ok.0 ∙ c.in-None.ensures.steps.0)) in
     let is = c.replica-2.ensures in
-    let shown = c.in-Some-shown.ensures in
+    let shown = c.in-Some-document.ensures in
     let outcome = c.shows_outcome.ensures.outcome (document c.args.start) patches r follows (subst (λ h. h.pending ≡ None) is shown.0) in
-    subst (IsOutcome (document c.args.start) patches) (sym (c.in_ok-copy-in-Some-shown.ensures.equal ∙ ap document shown.1 ∙ ap (λ h. document h.shown) is)) outcome.0
+    subst (IsOutcome (document c.args.start) patches) (sym (c.in_ok-copy-in-Some-document.ensures.equal ∙ ap document shown.1 ∙ ap (λ h. document h.shown) is)) outcome.0

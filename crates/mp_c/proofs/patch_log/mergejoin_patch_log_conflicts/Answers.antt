@@ -1,15 +1,10 @@
 use Rattle.std.proofs.Common.{None, ap, option_map, sym, ◌∙◌, refl, subst}
 use Rattle.mp_c.specs.OnLogs.{GivesConflicts, OnlyReads}
-use Rattle.mp_c.specs.Private.Stopping.{pairs_answer}
+use Rattle.mp_c.specs.Private.Reporting.{pairs_answer}
 use Rattle.mp_c.specs.Report.{status_document}
 use Rattle.mp_c.proofs.LogBuffers.{gives_conflicts}
-use Rattle.mp_c.proofs.Started.{not_started, put_back}
+use Rattle.mp_c.proofs.Started.{put_back}
 use Rattle.mp_c.proofs.patch_log.mergejoin_patch_log_conflicts.Goals as goal
-
-pub returns-in_default : goal.returns-in_default
-returns-in_default c =
-    not_started (OnlyReads (GivesConflicts None c.args.limit)) c.args.limit status_document c.args.log.now.value c.take.new.self.value c.report_live.result c.args.out.now c.report_live.new.out (sym c.take.ensures.value ∙ ap (option_map (λ b. b.value)) c.in_default.is)
-    c.take.ensures.rest c.report_live.ensures
 
 pub returns : goal.returns
 returns c =

@@ -1,14 +1,10 @@
-use Rattle.mp_c.proofs.OnPatches.{all_readable, none_as_read, still_taken}
+use Rattle.mp_c.specs.OnHandles.{SettlesPatches}
+use Rattle.mp_c.proofs.OnPatches.{gives_kept, still_taken}
 use Rattle.mp_c.proofs.patches.kept.Goals as goal
 
 pub returns : goal.returns
 returns c =
-    let still = still_taken c.args.patches.now c.settle-settled.new.self c.settle-settled.ensures.taken in (
-      (still, c.settle-settled.ensures.unchanged),
-      c.in_ok-kept.ensures.text,
-      λ texts has. let now = still texts has in (
-        c.in_ok-kept.ensures.kept now.documents now.taken (all_readable c.readings_are_documents.ensures.document texts now.documents now.read),
-        none_as_read texts now.documents _ now.read (c.in_ok-kept.ensures.empty now.documents now.taken),
-      ),
-      c.in_ok-kept.ensures.within,
-    )
+    let before = c.args.patches.now in
+    let after = c.settle-settled.new.self in
+    let settles : SettlesPatches before after = (still_taken before after c.settle-settled.ensures.taken, c.settle-settled.ensures.unchanged) in
+    gives_kept c.args.limit before after c.kept.result c.readings_are_documents.ensures.document settles c.kept.ensures.text c.kept.ensures.within c.kept.ensures.empty c.kept.ensures.kept

@@ -1,16 +1,10 @@
-use Rattle.mp_c.specs.OnHandles.{ShowsJoin}
-use Rattle.mp_c.proofs.OnReplicas.{still_follows, stopped}
+use Rattle.mp_c.specs.OnHandles.{Settles}
+use Rattle.mp_c.proofs.OnReplicas.{shows_join, still_follows}
 use Rattle.mp_c.proofs.replica.joined.Goals as goal
 
 pub returns : goal.returns
 returns c =
-    let still = still_follows c.args.replica.now c.settle-settled.new.self c.settle-settled.ensures.follows in
-    let (settled, is) = c.in_ok-joined_text.ensures.joined in
-    ((still, c.settle-settled.ensures.unchanged), settled, is, λ start texts follows. c.in_ok-joined_text.ensures.join start texts (still start texts follows), c.in_ok-joined_text.ensures.within)
-
-pub returns-in_err-joined_text : goal.returns-in_err-joined_text
-returns-in_err-joined_text c =
     let before = c.args.replica.now in
     let after = c.settle-settled.new.self in
-    let still = still_follows before after c.settle-settled.ensures.follows in
-    stopped (λ answer. ShowsJoin c.args.limit before answer after) c.in_err-joined_text.field-0.0 c.from_residual.result c.from_residual.ensures.1 ((still, c.settle-settled.ensures.unchanged), c.in_err-joined_text.ensures.joined)
+    let settles : Settles before after = (still_follows before after c.settle-settled.ensures.follows, c.settle-settled.ensures.unchanged) in
+    shows_join c.args.limit before after settles c.joined_text.result c.joined_text.ensures.joined c.joined_text.ensures.within c.joined_text.ensures.join

@@ -1,15 +1,20 @@
-use Rattle.std.proofs.Common.{◌≡◌, rules}
-use Rattle.std.specs.Str.{IsUtf8}
-use Rattle.mp_replica.specs.Faults.{IsNoPart}
-use Rattle.mp_c.specs.OnHandles.{Settles, ShowsPart}
-use Rattle.mp_c.proofs.OnReplicas.{still_follows, stopped}
+use Rattle.std.proofs.Common.{ℕ, refl, subst, sym}
+use Rattle.std.specs.Str.{IsValidUpTo}
+use Rattle.mp_c.specs.OnHandles.{Settles, handle_not_utf8}
+use Rattle.mp_c.specs.Private.Reporting.{live_answer}
+use Rattle.mp_c.proofs.OnReplicas.{shows_part, still_follows}
 use Rattle.mp_c.proofs.replica.part.Goals as goal
 
-pub returns-in_err-part_text-in-Ok : goal.returns-in_err-part_text-in-Ok
-returns-in_err-part_text-in-Ok c =
+pub returns-in-Ok : goal.returns-in-Ok
+returns-in-Ok c =
     let before = c.args.replica.now in
     let after = c.settle-settled.new.self in
     let settles : Settles before after = (still_follows before after c.settle-settled.ensures.follows, c.settle-settled.ensures.unchanged) in
-    let utf8 : IsUtf8 c.args.pointer.now = search rules in
-    let none : IsNoPart c.args.limit c.in_err-part_text-in-Ok.field-0.0 after c.args.pointer.now = search rules in
-    stopped (λ answer. ShowsPart c.args.limit c.args.pointer.now before answer after) c.in_err-part_text-in-Ok.field-0.0 c.from_residual.result c.from_residual.ensures.1 (settles, utf8, none)
+    let (same, utf8) = c.in-Ok.ensures.cases in
+    let shows = shows_part c.args.limit before after settles c.args.pointer.now c.in-Ok.pointer.now same utf8 c.get_text.result c.get_text.ensures.part c.get_text.ensures.within in
+    (live_answer c.get_text.result, shows, c.report_live.ensures)
+
+pub returns-in-Err : goal.returns-in-Err
+returns-in-Err c =
+    let valid = subst (λ (n : ℕ). IsValidUpTo c.args.pointer.now n) (sym c.valid_up_to.ensures) c.in-Err.ensures.cases.1 in
+    (handle_not_utf8 c.valid_up_to.result, (refl, valid), c.report_not_utf8.ensures)

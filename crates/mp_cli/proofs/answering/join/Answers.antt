@@ -16,4 +16,4 @@ returns-in_ok-write_value-in-Ok c =
 pub returns-in-Err : goal.returns-in-Err
 returns-in-Err c =
     let patches = map value_document c.args.patches.now in
-    IfOk-weaker c.list_fault.result _ _ (λ a is. no_join c.in-Err.fault patches _ c.in-Err.ensures.joined is) c.list_fault.ensures
+    IfOk-weaker c.list_fault.result _ _ (λ a is. no_join c.first_conflicts.ensures.without_limit c.in-Err.fault patches _ c.in-Err.ensures.joined is) c.list_fault.ensures

@@ -23,4 +23,4 @@ returns c =
     let d = c.in-Some.start in
     let ps = c.as_slice.result.now in
     let split : vs ≡ d ∷ ps = c.in-Some.ensures ∙ ap (λ rest. d ∷ rest) (sym c.as_slice.ensures.value) in
-    IfOk-weaker c.list_fault.result _ _ (λ a is. replay_answer_by value_document vs ps d _ split (no_replay c.in-Err.fault (value_document d) (map value_document ps) _ c.in-Err.ensures.outcome is)) c.list_fault.ensures
+    IfOk-weaker c.list_fault.result _ _ (λ a is. replay_answer_by value_document vs ps d _ split (no_replay c.first_conflicts.ensures.without_limit c.in-Err.fault (value_document d) (map value_document ps) _ c.in-Err.ensures.outcome is)) c.list_fault.ensures

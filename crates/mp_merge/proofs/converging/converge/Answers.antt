@@ -1,6 +1,6 @@
 -- Contracts, words of specs/ and the laws that the body names: nothing else is cited but lists of the standard library, and what
 -- a `?` hands on.
-use Rattle.std.proofs.Common.{◌≡◌, List, map, Some, Ok, Result, MatchResult, inl, inr, refl, sym, ap, ◌∙◌, subst}
+use Rattle.std.proofs.Common.{◌≡◌, List, map, Some, Ok, Result, MatchResult, Vec, Global, inl, inr, refl, sym, ap, ◌∙◌, subst}
 use Rattle.std.proofs.lemmas.Result.{MatchResult-at_ok}
 use Rattle.std.proofs.lemmas.List.Elements.{All-contains_itself, All-map, All-weaker}
 use Rattle.std.specs.List.{All, Contains}
@@ -19,11 +19,12 @@ use Rattle.mp_merge.specs.Convergence.{Converge, LeadsTo, ReachesEnd, ReplicasCo
 use Rattle.mp_merge.specs.Faults.{converge_fault_of_list, converge_fault_of_patch}
 use Rattle.mp_merge.specs.Join.{IsJoin}
 use Rattle.mp_merge.specs.Laws.{HasOneRewriting, OutcomeExists}
-use Rattle.mp_merge.specs.Lists.{AreWithin, HaveSameMembers, IsJoinAllFault, IsReplayFault, PairwiseCompatible}
+use Rattle.mp_merge.specs.Lists.{AreNoDeeper, HaveSameMembers, IsJoinAllFault, IsReplayFault, PairwiseCompatible}
 use Rattle.mp_merge.specs.Outcome.{IsOutcome}
 use Rattle.mp_merge.specs.Replicas.{AreReplicas}
 use Rattle.mp_merge.specs.Rewriting.{IsRewriting}
 use Rattle.mp_merge.specs.declared.fault.ConvergeFault.TheVariants.{OutOfMemory}
+use Rattle.mp_pointer.specs.declared.pointer.Pointer.{Pointer}
 use Rattle.mp_merge.specs.declared.fault.ListFault.{ListFault}
 use Rattle.mp_merge.specs.declared.fault.ListFault.TheVariants.{NoPatches, ConflictOf}
 use Rattle.mp_merge.proofs.converging.converge.Goals as goal
@@ -31,11 +32,11 @@ use Rattle.mp_merge.proofs.converging.converge.Goals as goal
 -- ---- what the calls answer of the patches that a replica received
 
 module _ {start joined end : Document} {received : List Document} (reached : ReachesEnd start joined end received) where
-  replay_is : {r : Result Doc ListFault} {d : Doc} → DocsAreDocuments → r ≡ Ok d
+  replay_is : {r : Result Doc (ListFault (Vec Pointer Global))} {d : Doc} → DocsAreDocuments → r ≡ Ok d
       → MatchResult r (λ e. IsOutcome start received (document e)) (λ fault. IsReplayFault fault received) → document d ≡ end
   replay_is {d = d} docs is says = reached.one_outcome (document d) (docs d).0 (MatchResult-at_ok _ _ d is says)
 
-  join_is : {r : Result Doc ListFault} {d : Doc} → DocsAreDocuments → r ≡ Ok d
+  join_is : {r : Result Doc (ListFault (Vec Pointer Global))} {d : Doc} → DocsAreDocuments → r ≡ Ok d
       → MatchResult r (λ j. IsJoin received (document j)) (λ fault. IsJoinAllFault fault received) → document d ≡ joined
   join_is {d = d} docs is says = reached.one_join (document d) (docs d).0 (MatchResult-at_ok _ _ d is says)
 
@@ -57,7 +58,7 @@ record Ends (start : Document) (here there : List Document) : Type 0 where
   joined : Document
   at_here : ReachesEnd start joined (merge_patch (Some start) joined) here
   at_there : ReachesEnd start joined (merge_patch (Some start) joined) there
-  leads : AreWithin depth_limit here → HasOneRewriting → (j : Document) (operations : List Operation) → j ≡ joined → IsRewriting start j operations
+  leads : AreNoDeeper depth_limit here → HasOneRewriting → (j : Document) (operations : List Operation) → j ≡ joined → IsRewriting start j operations
       → LeadsTo start (merge_patch (Some start) joined) operations
 
 ends : DocsAreDocuments → ReplicasConverge → (start : Doc) (here there : List Doc) → AreReplicas (map document here) (map document there) → Ends (document start) (map document here) (map document there)
@@ -77,28 +78,28 @@ ends docs law start here there are = record {
 -- ---- the calls for any lists
 
 -- if there is a replay, no two patches clash
-compatible : DocsAreDocuments → OutcomeExists → (start : Doc) (ps : List Doc) {r : Result Doc ListFault} {d : Doc} → r ≡ Ok d
+compatible : DocsAreDocuments → OutcomeExists → (start : Doc) (ps : List Doc) {r : Result Doc (ListFault (Vec Pointer Global))} {d : Doc} → r ≡ Ok d
     → MatchResult r (λ e. IsOutcome (document start) (map document ps) (document e)) (λ fault. IsReplayFault fault (map document ps)) → PairwiseCompatible (map document ps)
 compatible docs law start ps {d = d} is says =
     (law (document start) (map document ps) (docs start).0 (all_documents docs ps)).0 (document d, (docs d).0, MatchResult-at_ok _ _ d is says)
 
 module _ (start : Document) (here there : List Document) where
-  here_refused : (fault : ListFault) → IsReplayFault fault here → IsConvergeFault (converge_fault_of_list fault) start here there
+  here_refused : (fault : ListFault (Vec Pointer Global)) → IsReplayFault fault here → IsConvergeFault (converge_fault_of_list fault) start here there
   here_refused NoPatches never = absurd never
   here_refused (ConflictOf first second places) reported = inl reported
   here_refused ListFault.OutOfMemory memory = tt
 
-  there_refused : (fault : ListFault) → PairwiseCompatible here → IsReplayFault fault there → IsConvergeFault (converge_fault_of_list fault) start here there
+  there_refused : (fault : ListFault (Vec Pointer Global)) → PairwiseCompatible here → IsReplayFault fault there → IsConvergeFault (converge_fault_of_list fault) start here there
   there_refused NoPatches fine never = absurd never
   there_refused (ConflictOf first second places) fine reported = inr (fine, reported)
   there_refused ListFault.OutOfMemory fine memory = tt
 
-  join_refused : (fault : ListFault) → PairwiseCompatible here → PairwiseCompatible there → IsJoinAllFault fault here → IsConvergeFault (converge_fault_of_list fault) start here there
+  join_refused : (fault : ListFault (Vec Pointer Global)) → PairwiseCompatible here → PairwiseCompatible there → IsJoinAllFault fault here → IsConvergeFault (converge_fault_of_list fault) start here there
   join_refused NoPatches fine good none = (fine, good, inl none)
   join_refused (ConflictOf first second places) fine good reported = inl reported
   join_refused ListFault.OutOfMemory fine good memory = tt
 
-  other_refused : (fault : ListFault) → PairwiseCompatible here → PairwiseCompatible there → IsJoinAllFault fault there → IsConvergeFault (converge_fault_of_list fault) start here there
+  other_refused : (fault : ListFault (Vec Pointer Global)) → PairwiseCompatible here → PairwiseCompatible there → IsJoinAllFault fault there → IsConvergeFault (converge_fault_of_list fault) start here there
   other_refused NoPatches fine good none = (fine, good, inr none)
   other_refused (ConflictOf first second places) fine good reported = inr (fine, reported)
   other_refused ListFault.OutOfMemory fine good memory = tt

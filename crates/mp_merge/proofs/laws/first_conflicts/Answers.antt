@@ -1,4 +1,4 @@
-use Rattle.mp_merge.proofs.Clashes.FirstOf.{all_if_within, first_conflicts_exist, one_front, one_report_within, reported_within}
+use Rattle.mp_merge.proofs.Clashes.FirstOf.{all_if_within, first_conflicts_exist, one_front, one_report_within, reported_within, reported_without_limit}
 use Rattle.mp_merge.proofs.laws.first_conflicts.Goals as goal
 
 pub returns-clause-exist : goal.returns-clause-exist
@@ -15,3 +15,6 @@ returns-clause-reported c = reported_within
 
 pub returns-clause-one_report : goal.returns-clause-one_report
 returns-clause-one_report c = one_report_within
+
+pub returns-clause-without_limit : goal.returns-clause-without_limit
+returns-clause-without_limit c = reported_without_limit

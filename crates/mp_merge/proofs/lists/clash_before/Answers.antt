@@ -5,9 +5,6 @@ use Rattle.mp_merge.proofs.Clashes.Conflicts.{empty_if_compatible}
 use Rattle.mp_merge.proofs.Joins.Numbered.{at_number, same_at, below_more}
 use Rattle.mp_merge.proofs.lists.clash_before.Goals as goal
 
-pub reported_conflicts-requires : goal.reported_conflicts-requires
-reported_conflicts-requires g c = c.requires.documents c.index-patches-first-then-not-are_compatible.result
-
 pub loop-first-preserved : goal.loop-first-preserved
 loop-first-preserved g c =
     let f = g.T.Node.means in
@@ -28,11 +25,11 @@ returns-then-not-are_compatible g c =
     let p = f d in
     let q = f c.index-patches-second.result in
     let found = c.in_ok-conflicts.ensures in
-    let places = found.0 in
+    let places = found.all in
     let within : k < length ds = omega (arith, c.loop-first-test.true, c.requires.within) in
     let at : slice_get (map f ds) k ≡ Some p = at_number f ds k d within c.index-patches-first-then-not-are_compatible.is in
     let compared = same_at (map f ds) k p (f c.index-patches-first.result) at (at_number f ds k c.index-patches-first.result within c.index-patches-first.is) in
-    let clashes : AreAllClashes p q places = found.1 in
+    let clashes : AreAllClashes p q places = found.clashes in
     let clash : IsClashBelow (map f ds) k c.args.second places = record {
       one = p;
       other = q;
@@ -45,7 +42,7 @@ returns-then-not-are_compatible g c =
       };
       least_first = c.loop-first.invariant;
     } in
-    (places, clash, found.2)
+    (places, clash, found.first)
 
 pub returns : goal.returns
 returns g c q at_second i p less at_i =

@@ -1,12 +1,15 @@
-use Rattle.std.proofs.Common.{map}
-use Rattle.std.proofs.lemmas.Result.{MatchResult-weaker}
-use Rattle.mp_tree.proofs.Facts.{IsDocument-document}
-use Rattle.mp_tree.specs.View.{document}
-use Rattle.mp_merge.proofs.Clashes.OfLists.{no_join_within}
+use Rattle.std.proofs.Common.{map, subst, arith}
+use Rattle.std.proofs.lemmas.List.{length-map, take_all}
+use Rattle.mp_tree.proofs.Facts.{documents_by}
+use Rattle.mp_merge.specs.Join.{IsJoin}
+use Rattle.mp_merge.proofs.Joins.Laws.{join_is_no_deeper}
 use Rattle.mp_merge.proofs.lists.join_all_within.Goals as goal
 
-pub joined_within-requires : goal.joined_within-requires
-joined_within-requires c = record { documents = IsDocument-document }
-
-pub returns-clause-joined : goal.returns-clause-joined
-returns-clause-joined c = MatchResult-weaker c.joined_within.result c.joined_within.ensures.joined (λ join is. is) (no_join_within c.args.limit (map document c.args.patches.now))
+pub returns-clause-depth : goal.returns-clause-depth
+returns-clause-depth g c n within =
+    let f = g.T.Node.means in
+    let good = c.nodes_are_documents.ensures in
+    let ds = c.args.patches.now in
+    let joined = c.loop-second.joined in
+    let whole = subst (λ ps. IsJoin ps (f joined)) (take_all c.loop-second.second (map f ds) (omega (arith, length-map ds f, c.loop-second-test.false))) c.loop-second.invariant in
+    join_is_no_deeper (map f ds) (f joined) n (good joined) (documents_by f good ds) whole within

@@ -1,14 +1,20 @@
-use Rattle.std.proofs.Common.{map, subst}
-use Rattle.std.proofs.lemmas.Result.{MatchResult-weaker}
-use Rattle.mp_tree.proofs.Facts.{IsDocument-document}
-use Rattle.mp_tree.specs.Document.{Document}
-use Rattle.mp_tree.specs.View.{document}
+use Rattle.std.proofs.Common.{map, refl, sym, subst, arith}
 use Rattle.mp_merge.specs.Outcome.{IsOutcome}
-use Rattle.mp_merge.proofs.Clashes.OfLists.{no_replay_within}
+use Rattle.mp_merge.proofs.Outcome.{join_gives_outcome}
 use Rattle.mp_merge.proofs.lists.replay_within.Goals as goal
 
-pub replayed_within-requires : goal.replayed_within-requires
-replayed_within-requires c = record { documents = IsDocument-document }
-
 pub returns-clause-outcome : goal.returns-clause-outcome
-returns-clause-outcome c = MatchResult-weaker c.replayed_within.result c.replayed_within.ensures.outcome (λ end is. subst (λ (d : Document). IsOutcome d (map document c.args.patches.now) (document end)) c.in_ok-copy.ensures.equal is) (no_replay_within c.args.limit (map document c.args.patches.now))
+returns-clause-outcome g c =
+    let f = g.T.Node.means in
+    let good = c.nodes_are_documents.ensures in
+    let d = f c.args.start in
+    let patches = map f c.args.patches.now in
+    let j = f c.in_ok-joined.joined in
+    subst (λ e. IsOutcome d patches e) (sym c.in_ok-merge_owned.ensures.merged) (join_gives_outcome d patches j (good c.args.start) (good c.in_ok-joined.joined) c.in_ok-joined.ensures.joined)
+
+pub returns-clause-depth : goal.returns-clause-depth
+returns-clause-depth g c n short within =
+    omega (arith, c.in_ok-merge_owned.ensures.depth, short, c.in_ok-joined.ensures.depth n within)
+
+pub returns-then-is_empty-clause-none : goal.returns-then-is_empty-clause-none
+returns-then-is_empty-clause-none g c none = refl

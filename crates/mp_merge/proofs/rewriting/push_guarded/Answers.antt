@@ -35,7 +35,7 @@ module _ (lists : Lists) (g : GuardedEdit) (b left : Budget) (is : left ≡ left
   grows : (now : Lists) → now ≡ with_edit lists g → ¬ (left ≡ Over) → (now, left) ≡ admit_edit (lists, b) g
   grows now added open_yet = ap (λ (x : Lists). (x, left)) added ∙ sym (something_left lists (with_edit lists g) left open_yet) ∙ ap (if_left lists (with_edit lists g)) is
 
-both_pushed : (guards more edits others : List Op) (moved place : Tokens) (value : Doc) (op : Op) (v : Document) → moved ≡ place → more ≡ guards ++ Test moved value ∷ [] → others ≡ edits ++ op ∷ [] → document value ≡ v
+both_pushed : (guards more edits others : List (Op Doc)) (moved place : Tokens) (value : Doc) (op : Op Doc) (v : Document) → moved ≡ place → more ≡ guards ++ Test moved value ∷ [] → others ≡ edits ++ op ∷ [] → document value ≡ v
     → (operations_of more, operations_of others) ≡ with_edit (operations_of guards, operations_of edits) (test place v ∷ [], operation_of op)
 both_pushed guards more edits others moved place value op v same one other is =
     ap₂ (λ (xs ys : List Operation). (xs, ys)) (ap operations_of one ∙ map-append operation_of guards (Test moved value ∷ []) ∙ ap₂ (λ w x. operations_of guards ++ test w x ∷ []) same is)

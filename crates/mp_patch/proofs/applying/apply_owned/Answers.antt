@@ -1,35 +1,33 @@
-use Rattle.std.proofs.Common.{List, take, sym, subst}
+use Rattle.std.proofs.Common.{sym, ◌∙◌, subst}
+use Rattle.std.proofs.lemmas.Iterator.{YieldsList-from_slice}
 use Rattle.mp_tree.specs.View.{document}
 use Rattle.mp_tree.proofs.Facts.{IsDocument-document}
-use Rattle.mp_patch.specs.Operation.{Operation}
-use Rattle.mp_patch.specs.Run.{Runs, IsApplyFault}
 use Rattle.mp_patch.specs.View.{operation_of, operations_of}
-use Rattle.mp_patch.specs.declared.fault.ApplyFault.{ApplyFault}
-use Rattle.mp_patch.proofs.Operations.Depth.{Step-depth}
-use Rattle.mp_patch.proofs.Runs.Growth.{Runs-more, fault_there, operation_there, take_next}
+use Rattle.mp_patch.specs.Within.{IsApplyWithinFault}
+use Rattle.mp_patch.specs.Work.{no_limit}
+use Rattle.mp_patch.proofs.Runs.Growth.{AlwaysYields-map}
+use Rattle.mp_patch.proofs.Runs.Within.{fault_unlimited, limits_change_nothing}
 use Rattle.mp_patch.proofs.applying.apply_owned.Goals as goal
 
-pub loop-number-preserved : goal.loop-number-preserved
-loop-number-preserved c =
-    let l = c.loop-number in
+pub run-requires-clause-documents : goal.run-requires-clause-documents
+run-requires-clause-documents c = IsDocument-document
+
+pub without_limit-requires : goal.without_limit-requires
+without_limit-requires c =
     let operations = operations_of c.args.patch.now in
-    let o = operation_of c.op-item.result in
-    let there = operation_there c.args.patch.now c.ops-op-items.result.now l.number c.op-item.result c.ops-op-items.ensures c.loop-number-test.true c.op-item.is in
-    let free = c.in_default.ensures.answer.0 in
-    let step = c.in_default.ensures.answer.1 in
-    let new = document c.step.new.doc in
-    let longer = Runs-more (take l.number operations) (document c.args.doc) (document l.result) new o l.invariant.run free step in
-    record {
-      run = subst (λ (os : List Operation). Runs (document c.args.doc) os new) (sym (take_next operations l.number o there)) longer;
-      bounds = c.in_default.ensures.bounds;
-      shallow = λ shallow. Step-depth (document l.result) o new free step (IsDocument-document l.result) (IsDocument-document c.step.new.doc) (l.invariant.shallow shallow);
-    }
+    let gives = AlwaysYields-map operation_of (YieldsList-from_slice {s = c.iter.result} c.args.patch.now (c.iter.ensures.rest ∙ c.ops.ensures)) in
+    fault_unlimited (document c.args.doc) operations c.in-Err.fault (c.in-Err.ensures.runs operations gives)
+
+pub returns-in-Ok-clause-runs : goal.returns-in-Ok-clause-runs
+returns-in-Ok-clause-runs c =
+    let operations = operations_of c.args.patch.now in
+    let gives = AlwaysYields-map operation_of (YieldsList-from_slice {s = c.iter.result} c.args.patch.now (c.iter.ensures.rest ∙ c.ops.ensures)) in
+    (limits_change_nothing no_limit (document c.args.doc) operations).is_run (document c.in-Ok.result) (c.in-Ok.ensures.runs operations gives)
 
 pub returns-in-Err-clause-runs : goal.returns-in-Err-clause-runs
 returns-in-Err-clause-runs c =
-    let l = c.loop-number in
+    let d = document c.args.doc in
     let operations = operations_of c.args.patch.now in
-    let o = operation_of c.op-item.result in
-    let there = operation_there c.args.patch.now c.ops-op-items.result.now l.number c.op-item.result c.ops-op-items.ensures c.loop-number-test.true c.op-item.is in
-    subst (λ (fault : ApplyFault). IsApplyFault fault (document c.args.doc) operations) (sym c.of_operation.ensures)
-    (fault_there c.in-Err.refusal l.number (document c.args.doc) (document l.result) (document c.step.new.doc) operations o l.invariant.run there c.in-Err.ensures.answer)
+    let gives = AlwaysYields-map operation_of (YieldsList-from_slice {s = c.iter.result} c.args.patch.now (c.iter.ensures.rest ∙ c.ops.ensures)) in
+    (limits_change_nothing no_limit d operations).is_fault c.without_limit.result
+    (subst (λ f. IsApplyWithinFault no_limit f d operations) (sym c.without_limit.ensures) (c.in-Err.ensures.runs operations gives))

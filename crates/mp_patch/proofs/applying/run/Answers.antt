@@ -1,51 +1,55 @@
-use Rattle.std.proofs.Common.{◌<◌, length, map, [], refl, sym, ◌∙◌, subst, arith}
-use Rattle.std.specs.Vec.Iter.{into_iter_items}
-use Rattle.mp_patch.specs.Run.{Runs, IsApplyFault}
-use Rattle.mp_patch.specs.declared.fault.ApplyFault.{ApplyFault}
+use Rattle.std.proofs.Common.{List, arith}
+use Rattle.std.proofs.lemmas.Result.{err_from_is_err_and}
+use Rattle.mp_tree.specs.Document.{Document}
+use Rattle.mp_patch.specs.Operation.{Operation}
 use Rattle.mp_patch.proofs.Operations.Depth.{Step-depth}
-use Rattle.mp_patch.proofs.Runs.Growth.{Runs-more, fault_there, run_further, run_end, run_before, next_there, few_done}
+use Rattle.mp_patch.proofs.Runs.Growth.{next_there, run_before, run_end, run_further}
+use Rattle.mp_patch.proofs.Runs.Within.{RunsUnder, ends_there, follows_weighs, runs_further, runs_to_end}
 use Rattle.mp_patch.proofs.applying.run.Goals as goal
-
-pub loop-op-init : goal.loop-op-init
-loop-op-init g c = record {
-  ran = record { passed = []; all = sym c.into_iter-op-iterator.ensures.into_iter_gives.0; numbered = refl; run = refl };
-  bounds = rw c.unknown-bound.ensures tt;
-  shallow = λ shallow. shallow;
-  can_next = tt;
-  is_finite = tt;
-}
-
--- there are not more operations than a `Vec` holds
-pub overflow_add-done : goal.overflow_add-done
-overflow_add-done g c =
-    let l = c.loop-op in
-    let ops = c.args.ops in
-    let few : l.done < length c.args.ops.items = few_done (λ os e. Runs (g.T.Node.means c.args.doc) os e) g.O.StepOwned.means c.args.ops.items (into_iter_items l.op-iterator) l.done (g.T.Node.means l.result) l.invariant.ran c.in-Some.op (into_iter_items c.next.new.self) c.in-Some.ensures.steps.0 in
-    omega (arith, few, ops.ok.0, ops.ok.1, ops.small)
 
 pub loop-op-preserved : goal.loop-op-preserved
 loop-op-preserved g c =
     let l = c.loop-op in
-    let answer = c.in_default.ensures.answer in
+    let m = g.T.Node.means in
+    let v = g.O.StepOwned.means in
+    let start = m c.args.doc in
+    let now = m l.result in
+    let o = v c.in-Some.op in
+    let new = m c.step_under.new.doc in
+    let next = c.in_ok-scale-2.scale in
+    let answer = c.in_ok-scale-2.ensures.answer in
+    let R : List Operation → Document → Type 0 = λ os e. RunsUnder c.args.limit l.scale start os e in
+    let S : List Operation → Document → Type 0 = λ os e. RunsUnder c.args.limit next start os e in
+    let on = c.in-Some.ensures.goes.on l.invariant.is_finite in
     record {
-      ran = run_further (λ os e. Runs (g.T.Node.means c.args.doc) os e) g.O.StepOwned.means c.args.ops.items (into_iter_items l.op-iterator) l.done (g.T.Node.means l.result) l.invariant.ran c.in-Some.op (into_iter_items c.next.new.self) c.in-Some.ensures.steps.0 (λ os e. Runs (g.T.Node.means c.args.doc) os e) (g.T.Node.means c.step_owned.new.doc) (λ os run. Runs-more os (g.T.Node.means c.args.doc) (g.T.Node.means l.result) (g.T.Node.means c.step_owned.new.doc) (g.O.StepOwned.means c.in-Some.op) run answer.0 answer.1);
-      bounds = c.in_default.ensures.bounds;
-      shallow = λ shallow. Step-depth (g.T.Node.means l.result) (g.O.StepOwned.means c.in-Some.op) (g.T.Node.means c.step_owned.new.doc) answer.0 answer.1 (c.requires.documents l.result) (c.requires.documents c.step_owned.new.doc) (l.invariant.shallow shallow);
-      can_next = tt;
-      is_finite = tt;
+      ran = λ operations gives. run_further g.I.Iterator.next_gives v R operations l.op-iterator c.next.new.self l.done now (l.invariant.ran operations gives) c.in-Some.op c.in-Some.ensures.steps S new
+          (λ os run. runs_further c.args.limit l.scale next start now new os o run answer.0 answer.1 answer.2);
+      weighs = follows_weighs l.scale next now o new answer.2;
+      bounds = c.in_ok-scale-2.ensures.bounds;
+      shallow = λ shallow. Step-depth now o new answer.0 answer.1 (c.requires.documents l.result) (c.requires.documents c.step_under.new.doc) (l.invariant.shallow shallow);
+      few = omega (arith, l.invariant.few, on.2);
+      can_next = on.0;
+      is_finite = on.1;
     }
 
-pub returns-in-Err-clause-runs : goal.returns-in-Err-clause-runs
-returns-in-Err-clause-runs g c =
+pub returns-in_err-scale-2-clause-runs : goal.returns-in_err-scale-2-clause-runs
+returns-in_err-scale-2-clause-runs g c operations gives =
     let l = c.loop-op in
-    let start = g.T.Node.means c.args.doc in
-    let operations = map g.O.StepOwned.means c.args.ops.items in
-    let run = run_before (λ os e. Runs start os e) g.O.StepOwned.means c.args.ops.items (into_iter_items l.op-iterator) l.done (g.T.Node.means l.result) l.invariant.ran c.in-Some.op (into_iter_items c.next.new.self) c.in-Some.ensures.steps.0 in
-    let there = next_there (λ os e. Runs start os e) g.O.StepOwned.means c.args.ops.items (into_iter_items l.op-iterator) l.done (g.T.Node.means l.result) l.invariant.ran c.in-Some.op (into_iter_items c.next.new.self) c.in-Some.ensures.steps.0 in
-    subst (λ (fault : ApplyFault). IsApplyFault fault start operations) (sym c.of_operation.ensures)
-    (fault_there c.in-Err.refusal l.done start (g.T.Node.means l.result) (g.T.Node.means c.step_owned.new.doc) operations (g.O.StepOwned.means c.in-Some.op) run there c.in-Err.ensures.answer)
+    let m = g.T.Node.means in
+    let v = g.O.StepOwned.means in
+    let start = m c.args.doc in
+    let now = m l.result in
+    let R : List Operation → Document → Type 0 = λ os e. RunsUnder c.args.limit l.scale start os e in
+    let ran = l.invariant.ran operations gives in
+    let before = run_before g.I.Iterator.next_gives v R operations l.op-iterator c.next.new.self l.done now ran in
+    let there = next_there g.I.Iterator.next_gives v R operations l.op-iterator c.next.new.self l.done now ran c.in-Some.op c.in-Some.ensures.steps in
+    let p = err_from_is_err_and c.from_residual-in_err-scale-2.result c.from_residual-in_err-scale-2.ensures.1 in
+    rw (p.1, p.2) (ends_there c.args.limit l.scale l.done start now operations (v c.in-Some.op) before there c.in_err-scale-2.field-0.0 c.in_err-scale-2.ensures.answer)
 
 pub returns-clause-runs : goal.returns-clause-runs
-returns-clause-runs g c =
+returns-clause-runs g c operations gives =
     let l = c.loop-op in
-    run_end (λ os e. Runs (g.T.Node.means c.args.doc) os e) g.O.StepOwned.means c.args.ops.items (into_iter_items l.op-iterator) l.done (g.T.Node.means l.result) l.invariant.ran (sym l.op-iterator.rest.ok.0 ∙ c.in-None.ensures.steps.0)
+    let start = g.T.Node.means c.args.doc in
+    let now = g.T.Node.means l.result in
+    let R : List Operation → Document → Type 0 = λ os e. RunsUnder c.args.limit l.scale start os e in
+    runs_to_end c.args.limit l.scale start now operations (run_end g.I.Iterator.next_gives g.O.StepOwned.means R operations l.op-iterator c.next.new.self l.done now (l.invariant.ran operations gives) c.in-None.ensures.steps)

@@ -15,26 +15,26 @@ loop-pair-init c =
           (lists_none c.args.of stored c.args.limit c.args.known.now.keys c.iter-pair-items.ensures.ordered);
     }
 
-pub loop-pair-preserved-in-Continue-1 : goal.loop-pair-preserved-in-Continue-1
-loop-pair-preserved-in-Continue-1 c =
+pub loop-pair-preserved-then-is_among : goal.loop-pair-preserved-then-is_among
+loop-pair-preserved-then-is_among c =
     let stored = stored_in c.args.patches.now.entries in
     let inv = c.loop-pair.invariant in
     let k = c.in-Some.pair.now in
-    let was = c.loop-pair.listing in
-    let now = c.list_pair.new.listing in
+    let was = c.loop-pair.found in
+    let now = c.list_pair.new.found in
     let all = c.args.known.now.keys in
-    let going = subst (Lists c.args.of stored c.args.limit all inv.passed (map seen was.pairs.items) was.left) c.if-listing.false inv.holds in
-    Passed-step inv c.in-Some.ensures.steps (lists_pair c.args.of stored c.args.limit all c.iter-pair-items.ensures.ordered inv.passed c.next.new.self k.0 k.1 (map seen was.pairs.items) was.left
-    (Passed-next inv c.in-Some.ensures.steps) going (c.is_among.ensures.0 c.if-is_among.true) (map seen now.pairs.items) now.left now.more c.in_ok-list_pair.ensures)
+    let going = subst (Lists c.args.of stored c.args.limit all inv.passed (map seen was.pairs.items) c.loop-pair.left) c.if-found.false inv.holds in
+    Passed-step inv c.in-Some.ensures.steps (lists_pair c.args.of stored c.args.limit all c.iter-pair-items.ensures.ordered inv.passed c.next.new.self k.0 k.1 (map seen was.pairs.items) c.loop-pair.left
+    (Passed-next inv c.in-Some.ensures.steps) going (c.is_among.ensures.0 c.if-is_among.true) (map seen now.pairs.items) c.in_ok-left.left now.more c.in_ok-left.ensures)
 
 pub loop-pair-preserved : goal.loop-pair-preserved
 loop-pair-preserved c =
     let stored = stored_in c.args.patches.now.entries in
     let inv = c.loop-pair.invariant in
     let k = c.in-Some.pair.now in
-    let was = c.loop-pair.listing in
+    let was = c.loop-pair.found in
     let all = c.args.known.now.keys in
-    let going = subst (Lists c.args.of stored c.args.limit all inv.passed (map seen was.pairs.items) was.left) c.if-listing.false inv.holds in
-    Passed-step inv c.in-Some.ensures.steps (subst (Lists c.args.of stored c.args.limit all (inv.passed ++ k ∷ []) (map seen was.pairs.items) was.left) (sym c.if-listing.false)
-    (lists_over c.args.of stored c.args.limit all c.iter-pair-items.ensures.ordered inv.passed c.next.new.self k.0 k.1 (map seen was.pairs.items) was.left (Passed-next inv c.in-Some.ensures.steps) going
+    let going = subst (Lists c.args.of stored c.args.limit all inv.passed (map seen was.pairs.items) c.loop-pair.left) c.if-found.false inv.holds in
+    Passed-step inv c.in-Some.ensures.steps (subst (Lists c.args.of stored c.args.limit all (inv.passed ++ k ∷ []) (map seen was.pairs.items) c.loop-pair.left) (sym c.if-found.false)
+    (lists_over c.args.of stored c.args.limit all c.iter-pair-items.ensures.ordered inv.passed c.next.new.self k.0 k.1 (map seen was.pairs.items) c.loop-pair.left (Passed-next inv c.in-Some.ensures.steps) going
     (λ among. true≢false (sym (c.is_among.ensures.1 among) ∙ c.if-is_among.false))))

@@ -3,9 +3,9 @@ use Rattle.std.specs.BTreeSet.{contains}
 use Rattle.mp_tree.proofs.Facts.{Contains-nil}
 use Rattle.mp_tree.proofs.Passed.{Passed-end, Passed-next, Passed-step}
 use Rattle.mp_replica.specs.PatchLog.{DoClash, identity_cmp, stored_in}
-use Rattle.mp_replica.proofs.PairsFound.{none_more_among}
+use Rattle.mp_replica.proofs.PairsFound.{do_clash, none_more_among, tells_clash}
 use Rattle.mp_replica.proofs.pairs.first_pair.Goals as goal
-use Rattle.mp_replica.proofs.pairs.first_pair.Goals.{else-contains-via-then-contains+then-contains-2+else-do_clash, else-contains-via-then-contains+else-contains-2, else-contains-via-else-contains}
+use Rattle.mp_replica.proofs.pairs.first_pair.Goals.{else-contains-via-then-contains+then-contains-2+else-is_some, else-contains-via-then-contains+else-contains-2, else-contains-via-else-contains}
 
 pub loop-pair-init : goal.loop-pair-init
 loop-pair-init c = record {
@@ -14,8 +14,8 @@ loop-pair-init c = record {
   holds = λ i j at. absurd (Contains-nil (i, j) at);
 }
 
-pub returns-then-do_clash-clause-first : goal.returns-then-do_clash-clause-first
-returns-then-do_clash-clause-first c =
+pub returns-then-is_some-clause-first : goal.returns-then-is_some-clause-first
+returns-then-is_some-clause-first c =
     let inv = c.loop-pair.invariant in
     record {
       before = inv.passed;
@@ -23,7 +23,7 @@ returns-then-do_clash-clause-first c =
       parts = Passed-next inv c.in-Some.ensures.steps;
       chosen_first = sym c.contains.ensures ∙ c.if-contains.true;
       chosen_second = sym c.contains-then-contains.ensures ∙ c.if-contains-2.true;
-      clash = c.do_clash.ensures.0 c.if-do_clash.true;
+      clash = (tells_clash c.clashing.result (λ two. do_clash) c.clashing.ensures).0 (sym c.is_some.ensures ∙ c.if-is_some.true);
       none_before = inv.holds;
     }
 
@@ -36,7 +36,7 @@ loop-pair-preserved c =
     let stored = stored_in c.args.patches.now.entries in
     let k = c.in-Some.pair.now in
     let never : ¬ (IsTrue (contains identity_cmp c.args.chosen.now k.0) × IsTrue (contains identity_cmp c.args.chosen.now k.1) × DoClash stored k.0 k.1) = elim c.else-contains.branch [
-      | else-contains-via-then-contains+then-contains-2+else-do_clash w ↦ λ all. true≢false (sym (w.do_clash.ensures.1 all.2) ∙ w.if-do_clash.false)
+      | else-contains-via-then-contains+then-contains-2+else-is_some w ↦ λ all. true≢false (sym ((tells_clash w.clashing.result (λ two. do_clash) w.clashing.ensures).1 all.2) ∙ sym w.is_some.ensures ∙ w.if-is_some.false)
       | else-contains-via-then-contains+else-contains-2 w ↦ λ all. true≢false (sym (w.contains-then-contains.ensures ∙ all.1) ∙ w.if-contains-2.false)
       | else-contains-via-else-contains w ↦ λ all. true≢false (sym (c.contains.ensures ∙ all.0) ∙ w.if-contains.false)
     ] in

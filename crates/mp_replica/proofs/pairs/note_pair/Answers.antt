@@ -4,25 +4,18 @@ use Rattle.mp_replica.proofs.Identities.{identities_total}
 use Rattle.mp_replica.proofs.PairsFound.{has_both, includes_more, ordered_more}
 use Rattle.mp_replica.proofs.pairs.note_pair.Goals as goal
 
-pub returns-in_ok-insert-in-Less-clause-noted : goal.returns-in_ok-insert-in-Less-clause-noted
-returns-in_ok-insert-in-Less-clause-noted c =
-    (has_both c.args.pairs.now c.insert.new.self c.args.one c.args.other c.in_ok-insert-in-Less.ensures.keys (sym c.cmp.ensures ∙ c.in-Less.is)).0
+pub returns-in_ok-insert-in-Less : goal.returns-in_ok-insert-in-Less
+returns-in_ok-insert-in-Less c =
+    let set = c.args.pairs.now in
+    let now = c.insert.new.self in
+    let is = c.in_ok-insert-in-Less.ensures.keys in
+    let less = sym c.cmp.ensures ∙ c.in-Less.is in
+    record { noted = (has_both set now c.args.one c.args.other is less).0; kept = includes_more set now c.args.one c.args.other is; ordered = ordered_more set now c.args.one c.args.other is less }
 
-pub returns-in_ok-insert-in-Less-clause-kept : goal.returns-in_ok-insert-in-Less-clause-kept
-returns-in_ok-insert-in-Less-clause-kept c = includes_more c.args.pairs.now c.insert.new.self c.args.one c.args.other c.in_ok-insert-in-Less.ensures.keys
-
-pub returns-in_ok-insert-in-Less-clause-ordered : goal.returns-in_ok-insert-in-Less-clause-ordered
-returns-in_ok-insert-in-Less-clause-ordered c = ordered_more c.args.pairs.now c.insert.new.self c.args.one c.args.other c.in_ok-insert-in-Less.ensures.keys (sym c.cmp.ensures ∙ c.in-Less.is)
-
-pub returns-in_ok-insert-in-Greater-clause-noted : goal.returns-in_ok-insert-in-Greater-clause-noted
-returns-in_ok-insert-in-Greater-clause-noted c =
-    (has_both c.args.pairs.now c.insert-in-Greater.new.self c.args.other c.args.one c.in_ok-insert-in-Greater.ensures.keys
-    (identities_total.antisymm c.args.other c.args.one ∙ ap ordering_reverse (sym c.cmp.ensures ∙ c.in-Greater.is))).1
-
-pub returns-in_ok-insert-in-Greater-clause-kept : goal.returns-in_ok-insert-in-Greater-clause-kept
-returns-in_ok-insert-in-Greater-clause-kept c = includes_more c.args.pairs.now c.insert-in-Greater.new.self c.args.other c.args.one c.in_ok-insert-in-Greater.ensures.keys
-
-pub returns-in_ok-insert-in-Greater-clause-ordered : goal.returns-in_ok-insert-in-Greater-clause-ordered
-returns-in_ok-insert-in-Greater-clause-ordered c =
-    ordered_more c.args.pairs.now c.insert-in-Greater.new.self c.args.other c.args.one c.in_ok-insert-in-Greater.ensures.keys
-    (identities_total.antisymm c.args.other c.args.one ∙ ap ordering_reverse (sym c.cmp.ensures ∙ c.in-Greater.is))
+pub returns-in_ok-insert-in-Greater : goal.returns-in_ok-insert-in-Greater
+returns-in_ok-insert-in-Greater c =
+    let set = c.args.pairs.now in
+    let now = c.insert-in-Greater.new.self in
+    let is = c.in_ok-insert-in-Greater.ensures.keys in
+    let less = identities_total.antisymm c.args.other c.args.one ∙ ap ordering_reverse (sym c.cmp.ensures ∙ c.in-Greater.is) in
+    record { noted = (has_both set now c.args.other c.args.one is less).1; kept = includes_more set now c.args.other c.args.one is; ordered = ordered_more set now c.args.other c.args.one is less }

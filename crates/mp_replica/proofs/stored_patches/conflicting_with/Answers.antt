@@ -1,11 +1,12 @@
-use Rattle.std.proofs.Common.{◌⊎◌, ◌++◌, ◌∷◌, [], inl, inr, sym, ◌∙◌, subst, true≢false}
+use Rattle.std.proofs.Common.{◌⊎◌, ◌++◌, ◌∷◌, [], inl, inr, refl, sym, ◌∙◌, subst, true≢false}
 use Rattle.std.specs.List.{Contains}
 use Rattle.mp_tree.specs.View.{document}
 use Rattle.mp_tree.proofs.Passed.{Passed-end, Passed-step}
 use Rattle.mp_merge.specs.Clash.{Compatible}
 use Rattle.mp_replica.specs.PatchLog.{stored_in}
 use Rattle.mp_replica.specs.Private.StoredPatches.{AreConflictingWith}
-use Rattle.mp_replica.proofs.Conflicting.{AreFoundIn, all_found, none_found, none_more_found, one_found}
+use Rattle.mp_replica.proofs.Conflicting.{Conflicted, all_found}
+use Rattle.mp_replica.proofs.Gathered.{AreGathered, none_gathered, none_more_gathered, one_gathered}
 use Rattle.mp_replica.proofs.stored_patches.conflicting_with.Goals as goal
 use Rattle.mp_replica.proofs.stored_patches.conflicting_with.Goals.{then-contains-via-then-contains, then-contains-via-else-contains+then-not-compatible}
 
@@ -13,7 +14,7 @@ pub loop-other-init : goal.loop-other-init
 loop-other-init c = record {
   passed = [];
   all = sym (c.into_iter-other-iterator.ensures.into_iter_gives ∙ c.iter-other-items.ensures.rest);
-  holds = subst (AreFoundIn [] (document c.args.patch.now) c.args.known.now) (sym c.new-found.ensures.items) (none_found (document c.args.patch.now) c.args.known.now);
+  holds = rw c.new-found.ensures.items (none_gathered (Conflicted (document c.args.patch.now) c.args.known.now));
 }
 
 pub loop-other-preserved-in-loop-other : goal.loop-other-preserved-in-loop-other
@@ -28,7 +29,7 @@ loop-other-preserved-in-loop-other c =
       | then-contains-via-else-contains+then-not-compatible w ↦ inr (λ agree. true≢false (sym (w.compatible.ensures.1 agree) ∙ w.if-not-compatible.true))
     ] in
     Passed-step inv c.in-Some.ensures.steps
-    (subst (AreFoundIn (inv.passed ++ (i, d) ∷ []) p known) (sym c.in_ok-push.ensures.items) (one_found inv.passed p known c.loop-other.found.items i d why inv.holds))
+    (subst (AreGathered (Conflicted p known) (inv.passed ++ (i, d) ∷ [])) (sym c.in_ok-push.ensures.items) (one_gathered (Conflicted p known) inv.passed (i, d) c.loop-other.found.items inv.holds i (refl, why) (λ j is. is.0)))
 
 pub loop-other-preserved : goal.loop-other-preserved
 loop-other-preserved c =
@@ -37,7 +38,10 @@ loop-other-preserved c =
     let inv = c.loop-other.invariant in
     let out : ¬ Contains known i = λ at. true≢false (sym (c.contains.ensures ∙ (c.in_ok-before.ensures i).1 at) ∙ c.if-contains.false) in
     Passed-step inv c.in-Some.ensures.steps
-    (none_more_found inv.passed (document c.args.patch.now) known c.loop-other.found.items i c.in-Some.stored.now out (c.compatible.ensures.0 c.if-not-compatible.false) inv.holds)
+    (none_more_gathered (Conflicted (document c.args.patch.now) known) inv.passed (i, c.in-Some.stored.now) c.loop-other.found.items inv.holds (λ j is. elim is.1 [
+      | inl here ↦ out here
+      | inr clash ↦ clash (c.compatible.ensures.0 c.if-not-compatible.false)
+    ]))
 
 pub returns : goal.returns
 returns c =

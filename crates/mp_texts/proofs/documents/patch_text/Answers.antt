@@ -1,7 +1,7 @@
 use Rattle.std.proofs.Common.{inr, refl}
 use Rattle.mp_tree.specs.Text.{text as compact}
 use Rattle.mp_tree.specs.Values.{value_document}
-use Rattle.mp_patch.specs.View.{value_operations}
+use Rattle.mp_patch.specs.View.{operations_by}
 use Rattle.mp_texts.specs.Answers.{IsLightPatchText, IsPatchText}
 use Rattle.mp_texts.specs.Faults.{IsPatchTextFault}
 use Rattle.mp_texts.proofs.Readings.{text_written}
@@ -15,14 +15,14 @@ returns c =
     let json_patch = c.args.json_patch.now in
     let d = value_document c.in_ok-doc.doc in
     let form = value_document c.in_ok-form.form in
-    let operations = value_operations c.in_ok-operations.operations.items in
+    let operations = operations_by value_document c.in_ok-operations.operations.items in
     let end = value_document c.in_ok-patched.patched in
     let written = compact end in
     let back = c.text_unless_longer.ensures.reads_back in
     let readable = c.readings_are_documents.ensures.document in
     let forms = c.in_ok-operations.ensures in
-    let steps = c.in_ok-patched.ensures.within in
-    let runs = c.in_ok-patched.ensures.runs in
+    let within = c.in_ok-patched.ensures.runs in
+    let runs = (c.limits_change_nothing.ensures c.args.limit d operations).is_run end within in
     let writable = c.forms_are_writable.ensures form operations (readable json_patch form c.in_ok-form.ensures) forms in
     let good = c.runs_are_readable.ensures d end operations (readable document d c.in_ok-doc.ensures) writable runs in
     let is : IsPatchText document json_patch written = record {
@@ -36,5 +36,5 @@ returns c =
       runs = runs;
       text = text_written end written refl back good.within;
     } in
-    let light : IsLightPatchText c.args.limit document json_patch written = (is, steps) in
+    let light : IsLightPatchText c.args.limit document json_patch written = (is, within) in
     answered c.args.limit c.text_unless_longer.result written (IsLightPatchText c.args.limit document json_patch) (λ fault. IsPatchTextFault c.args.limit fault document json_patch) c.text_unless_longer.ensures.text light (λ long. inr (refl, long)) tt

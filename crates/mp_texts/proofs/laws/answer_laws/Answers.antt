@@ -11,8 +11,6 @@ returns c = record {
   form_unfaulty = c.forms_have_no_fault.ensures;
   one_form_fault = c.one_fault-2.ensures;
   one_end = c.one_end.ensures;
-  unrefused = c.runs_are_not_refused.ensures;
-  one_refusal = c.one_refusal.ensures;
   one_outcome = c.one_outcome.ensures;
   outcome_exists = c.outcome_exists.ensures;
   reported_is_incompatible = c.reported_pair.ensures.none;
@@ -23,7 +21,6 @@ returns c = record {
   one_report_within = c.first_conflicts.ensures.one_report;
   not_too_large = c.rewritings_within.ensures.not_both;
   one_fitting = c.rewritings_within.ensures.one_fitting;
-  limits_change_nothing = c.limits_change_nothing.ensures;
   unstopped = c.one_answer_within.ensures.unstopped;
   one_stop = c.one_answer_within.ensures.one_stop;
 }

@@ -4,7 +4,6 @@ pub returns : goal.returns
 returns c = record {
   joins = c.join_laws.ensures;
   run_documents = c.forms_have_documents.ensures;
-  runs_or_refused = c.runs_or_is_refused.ensures;
   runs_or_stops = c.one_answer_within.ensures.some;
   limits_change_nothing = c.limits_change_nothing.ensures;
   writable_forms = c.forms_are_writable.ensures;

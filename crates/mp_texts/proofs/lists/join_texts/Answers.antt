@@ -3,7 +3,7 @@ use Rattle.mp_tree.specs.Document.{Document, depth_limit}
 use Rattle.mp_tree.specs.Text.{text as compact}
 use Rattle.mp_tree.specs.Values.{value_document}
 use Rattle.mp_merge.specs.Join.{IsJoin}
-use Rattle.mp_merge.specs.Lists.{AreWithin}
+use Rattle.mp_merge.specs.Lists.{AreNoDeeper}
 use Rattle.mp_texts.specs.Answers.{IsJoinText}
 use Rattle.mp_texts.specs.Faults.{IsJoinTextFault}
 use Rattle.mp_texts.specs.Texts.{given}
@@ -22,7 +22,7 @@ returns c =
     let written = compact joined in
     let back = c.text_unless_longer.ensures.reads_back in
     let shallow = all_within c.readings_are_documents.ensures.document texts (map value_document values) read in
-    let within = c.in_ok-joined.ensures.depth depth_limit (subst (λ (ds : List Document). AreWithin depth_limit ds) (sym same) shallow) in
+    let within = c.in_ok-joined.ensures.depth depth_limit (subst (λ (ds : List Document). AreNoDeeper depth_limit ds) (sym same) shallow) in
     let is : IsJoinText texts written = record {
       documents = map value_document values;
       read = read;

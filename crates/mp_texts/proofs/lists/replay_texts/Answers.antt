@@ -2,7 +2,7 @@ use Rattle.std.proofs.Common.{◌≡◌, List, ap, map, refl, subst, sym}
 use Rattle.mp_tree.specs.Document.{Document, depth_limit}
 use Rattle.mp_tree.specs.Text.{text as compact}
 use Rattle.mp_tree.specs.Values.{value_document}
-use Rattle.mp_merge.specs.Lists.{AreWithin}
+use Rattle.mp_merge.specs.Lists.{AreNoDeeper}
 use Rattle.mp_merge.specs.Outcome.{IsOutcome}
 use Rattle.mp_texts.specs.Answers.{IsReplayText}
 use Rattle.mp_texts.specs.Faults.{IsReplayTextFault}
@@ -25,7 +25,7 @@ returns c =
     let readable = c.readings_are_documents.ensures.document in
     let shallow = all_within readable texts (map value_document values) read in
     let start_within = (readable c.args.start.now d c.in_ok-start.ensures).within in
-    let within = c.in_ok-outcome.ensures.depth depth_limit start_within (subst (λ (ds : List Document). AreWithin depth_limit ds) (sym same) shallow) in
+    let within = c.in_ok-outcome.ensures.depth depth_limit start_within (subst (λ (ds : List Document). AreNoDeeper depth_limit ds) (sym same) shallow) in
     let is : IsReplayText c.args.start.now texts written = record {
       from = d;
       start_read = c.in_ok-start.ensures;

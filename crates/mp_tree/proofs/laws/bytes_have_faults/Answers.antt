@@ -1,8 +1,5 @@
 use Rattle.mp_tree.proofs.Readings.Faults.{faults_are_of_bytes, faults_are_of_arrays}
 use Rattle.mp_tree.proofs.laws.bytes_have_faults.Goals as goal
 
-pub returns-clause-document : goal.returns-clause-document
-returns-clause-document c = faults_are_of_bytes
-
-pub returns-clause-elements : goal.returns-clause-elements
-returns-clause-elements c = faults_are_of_arrays
+pub returns : goal.returns
+returns c = record { document = faults_are_of_bytes; elements = faults_are_of_arrays }

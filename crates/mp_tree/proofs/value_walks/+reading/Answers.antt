@@ -6,9 +6,8 @@ use Rattle.mp_tree.specs.Private.Entries.{value_members}
 use Rattle.mp_tree.specs.Private.Readings.{IsReading}
 use Rattle.mp_tree.specs.Text.{items_from_data, members_from_data}
 use Rattle.mp_tree.specs.Values.{value_document, value_items}
-use Rattle.mp_tree.proofs.Documents.Depths.{items_depth_from_each-by, items_depth-append-by, members_depth-by}
+use Rattle.mp_tree.proofs.Documents.Depths.{item_depth-by, items_depth_from_each-by, items_depth-append-by, members_depth-by}
 use Rattle.mp_tree.proofs.Passed.{Passed, Passed-next, Passed-step, Passed-end}
-use Rattle.mp_tree.proofs.Readings.Values.{item_depth-by}
 use Rattle.mp_tree.proofs.Texts.FromData.{from_value}
 use Rattle.mp_tree.proofs.Valued.Wholes.{IsRead, AreShallow, each_more, IsSoFar, IsSoFar-weaker, AreRead-push, items_read, items_unread, members_read, members_unread, read_so_far, reading_of_object}
 use Rattle.mp_tree.proofs.value_walks.+reading.Goals as goal

@@ -2,7 +2,7 @@ use Rattle.std.proofs.Common.{◌≡◌, ◌≤◌, ap, ◌∙◌, subst, arith}
 use Rattle.mp_tree.specs.Document.{depth, list}
 use Rattle.mp_tree.specs.Values.{value_document, value_items}
 use Rattle.mp_tree.proofs.Valued.Meaning.{value-Array}
-use Rattle.mp_tree.proofs.Readings.Values.{item_depth-by}
+use Rattle.mp_tree.proofs.Documents.Depths.{item_depth-by}
 use Rattle.mp_tree.proofs.values.read_values.Goals as goal
 
 pub returns-in-Array-clause-depth : goal.returns-in-Array-clause-depth

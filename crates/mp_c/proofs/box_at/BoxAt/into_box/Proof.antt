@@ -38,7 +38,8 @@ use Rattle.std.specs.contracts.alloc.Global as heap
 use Rattle.std.specs.contracts.impls.GlobalAllocator.TheImpl.{ghosts, dict}
 use Rattle.std.proofs.impls.GlobalAllocator.TheImpl.Met.{passed}
 use Rattle.std.proofs.raw_atomic.Walks.{proved_at, leaves}
-use Rattle.mp_c.proofs.BoxSteps.{one, and_tt, no_drop, allocator_row, allocator_laws, box_at_out, box_at_cases}
+use Rattle.mp_c.proofs.BoxSteps.{one, and_tt, no_drop, allocator_row, allocator_laws, box_at_cases, pointer_out}
+use Rattle.mp_c.specs.Owned.{owned_at}
 use Rattle.std.specs.contracts.boxed.Box.from_raw as callee
 use Rattle.std.proofs.boxed.Box.from_raw.Met.{met}
 use Rattle.mp_c.specs.contracts.box_at.BoxAt as box_at
@@ -62,7 +63,7 @@ into_box_spec {M} 𝓤 𝓛 𝓜 𝓡 wired T L dx glue =
     let Out : RattleType = type_at En.signature.result κs in
     let toks = ‵ (flft κs.0 qs.0) ⊛ ‵ ftrue in let two = ‵ (flft κs.0 qs.0) ⊛ ‵ (flft [] full_share) ⊛ ‵ ftrue in
     qed 𝓛 ((toks ⊛ ‵ (owns (types_at En.signature.params κs) z.0.3 z.0.4)) ∷ (raw (fact 𝓤 (κs.0 ⊑ T.lives)) ⊛ ‵ ftrue) ∷ []) ∵ split ! $ move ! (1 ∷ []) $ fsplit ! $
-    box_at_out R ! d z.0.4.0 (λ ws. move ! (1 ∷ []) $ fsplit ! $ handle_tells E.al ! a z.0.4.1.0 (λ h eh fits. move ! (2 ∷ []) $
+    pointer_out (box_at.the_type R) ! d.at (owned_at R d.at d.value) z.0.4.0 (λ ws. move ! (1 ∷ []) $ fsplit ! $ handle_tells E.al ! a z.0.4.1.0 (λ h eh fits. move ! (2 ∷ []) $
     box_at_cases R ! a d.at d.value
     -- [the handle; nothing; the tokens; the bound]
     (λ e is. let w : Val = one (ptr_val null_ptr) in

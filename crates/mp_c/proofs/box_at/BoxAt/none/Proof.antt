@@ -18,7 +18,9 @@ use denote.Param.{param, bounded}
 use denote.Triple.Entry.{alive}
 use denote.Triple.Walked.{Stays, walk_of}
 use Rattle.std.proofs.raw_atomic.Walks.{proved_at, leaves}
-use Rattle.mp_c.proofs.BoxSteps.{one, box_at_in}
+use Rattle.mp_c.proofs.BoxSteps.{one, pointer_in}
+use Rattle.mp_c.specs.Owned.{owned_at}
+use Rattle.mp_c.specs.contracts.box_at.BoxAt as box_at
 use Rattle.mp_c.specs.contracts.box_at.BoxAt.none.{ended, clauses}
 use Rattle.mp_c.specs.contracts.box_at.BoxAt.none.Key.{name as #self}
 use Rattle.mp_c.proofs.box_at.BoxAt.none.Statement.{statement}
@@ -34,6 +36,6 @@ none_spec 𝓤 𝓛 𝓜 𝓡 wired T L dx glue =
     qed 𝓛 ((raw (alive 𝓛 En.signature κs qs) ⊛ ‵ (owns (types_at En.signature.params κs) z.0.3 z.0.4)) ∷ raw ((c κs z.0.3).requires z.1) ∷ []) ∵ split ! $ keep ! (0 ∷ []) $
     enter ! 𝓣.C 𝓣.Λ fn [] Post $ alloc_all ! (λ l. pass_all ! refl tt $
     sets ! (agg ! (and_then ! (lit ! tt) (no_more !))) refl (tt, (record { fits = lit< tt }, tt)) $
-    feq_i ! Ptr null_ptr null_ptr refl $ box_at_in R ! null_ptr None $
+    feq_i ! Ptr null_ptr null_ptr refl $ pointer_in (box_at.the_type R) ! null_ptr (owned_at R null_ptr None) $
     use0 𝓛 (raw (fact 𝓤 (◌≡◌ {A = Option T.Denot} None None))) (fact_i 𝓤 _ (emp 𝓤) refl) $ nothing ! $
     returns ! (look_at ! 0 refl) $ free_all ! refl $ keep ! (3 ∷ 0 ∷ 2 ∷ 1 ∷ []) $ by ! (leaves 𝓛 En hs c z (one (ptr_val null_ptr)) (record { at = null_ptr; value = None }) tt tt)))

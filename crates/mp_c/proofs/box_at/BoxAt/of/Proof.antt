@@ -38,8 +38,8 @@ use Rattle.std.specs.contracts.alloc.Global as heap
 use Rattle.std.specs.contracts.impls.GlobalAllocator.TheImpl.{ghosts, dict}
 use Rattle.std.proofs.impls.GlobalAllocator.TheImpl.Met.{passed}
 use Rattle.std.proofs.raw_atomic.Walks.{proved_at, leaves}
-use Rattle.mp_c.specs.Owned.{may_free}
-use Rattle.mp_c.proofs.BoxSteps.{one, and_tt, no_drop, allocator_row, allocator_laws, box_at_in}
+use Rattle.mp_c.specs.Owned.{may_free, owned_at}
+use Rattle.mp_c.proofs.BoxSteps.{one, and_tt, no_drop, allocator_row, allocator_laws, pointer_in}
 use Rattle.std.specs.contracts.boxed.Box.into_raw as callee
 use Rattle.std.proofs.boxed.Box.into_raw.Met.{met}
 use Rattle.mp_c.specs.contracts.box_at.BoxAt as box_at
@@ -75,6 +75,6 @@ of_spec {M} 𝓤 𝓛 𝓜 𝓡 wired T L dx glue =
     let good : Good (layout (box_at.the_row R)) (one (ptr_val r)) = (and_tt _ (Ptr-Good r).0, ((Ptr-Good r).1, tt)) in
     lands_as ! (ap only eu) refl (Ptr-Good r) $ sets ! (agg ! (and_then ! (get ! refl) (no_more !))) refl good $
     -- [the tokens; what is owned]
-    split3 ! $ move ! (1 ∷ []) $ drop ! $ join ! $ move ! (1 ∷ []) $ box_at_in R ! r (Some v.value) $
+    split3 ! $ move ! (1 ∷ []) $ drop ! $ join ! $ move ! (1 ∷ []) $ pointer_in (box_at.the_type R) ! r (owned_at R r (Some v.value)) $
     use0 𝓛 (raw (fact 𝓤 (◌≡◌ {A = Option T.Denot} (Some v.value) (Some v.value)))) (fact_i 𝓤 _ (emp 𝓤) refl) $ nothing ! $ nothing ! $ fjoin ! $
     returns ! (look_at ! 0 refl) $ free_all ! refl $ keep ! (3 ∷ 0 ∷ 2 ∷ 1 ∷ []) $ by ! (leaves 𝓛 En hs c z (one (ptr_val r)) (record { at = r; value = Some v.value }) (tt, tt) (tt, tt)))))))))

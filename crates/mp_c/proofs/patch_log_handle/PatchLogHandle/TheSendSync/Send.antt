@@ -1,25 +1,16 @@
 -- By hand, since a pointer may not cross threads by itself: the handle may, since its box is nobody else's and a patch log may cross.
-use Rattle.std.proofs.Common.{Option, Some, None}
-use base.Shift.{Keyless}
-use mir.Raw.{raw}
-use denote.Memory.{lone}
 use denote.Struct.Struct.{exits_of}
 use denote.Struct.Owning.{shape, fields, to}
-use denote.RawPtr.{Ptr}
-use denote.Builtin.{RawPtr}
 use denote.Param.Send.{IsSend, owning_send, struct_send, sendable}
 use Rattle.std.proofs.Crossing as crossing
 use Rattle.std.proofs.MapsCrossing as maps
 use Rattle.std.proofs.MapsCrossingOver as over
-use Rattle.std_alloc.proofs.SendSync.{lies, quiet}
+use Rattle.std_alloc.proofs.SendSync.{quiet}
 use Rattle.mp_tree.proofs.doc.Doc.TheLaws.TheKnot as knot
-use Rattle.mp_c.specs.Owned.{heap, owned_at}
+use Rattle.mp_c.proofs.HandleSend.{keyless, pointer_send}
 use Rattle.mp_c.specs.contracts.patch_log_handle.PatchLogHandle as handle
 use Rattle.mp_replica.specs.contracts.patch_log.PatchLog as held
 use Rattle.mp_replica.specs.contracts.stored_patches.StoredPatches as stored
-
-ps : IsSend RawPtr
-ps = search sendable
 
 stored_send : IsSend stored.the_row
 stored_send = search (over.BTreeSet-send, crossing.send, crossing.frees, maps.crosses, crossing.crosses, knot.crosses, sendable) depth 60 fits 20000
@@ -27,9 +18,5 @@ stored_send = search (over.BTreeSet-send, crossing.send, crossing.frees, maps.cr
 held_send : IsSend held.the_row
 held_send = search (stored_send, maps.crosses, crossing.crosses, knot.crosses, sendable) depth 60 fits 20000
 
-keyless : (p : Ptr) (m : Option held.the_row.Denot) → Keyless (owned_at held.the_row p m)
-keyless p None = tt
-keyless p (Some x) = (lies held.the_row held_send p x, crossing.frees.frees heap (raw (lone held.the_row.mir)) p)
-
 pub send : IsSend handle.the_row
-send = owning_send handle.the_type (ps, tt) (λ d. keyless d.at d.value) (λ k. quiet (to handle.the_type) (exits_of k (fields handle.the_type)) ((struct_send (shape handle.the_type) (ps, tt)).leaving k))
+send = owning_send handle.the_type (pointer_send, tt) (λ d. keyless held.the_row held_send d.at d.value) (λ k. quiet (to handle.the_type) (exits_of k (fields handle.the_type)) ((struct_send (shape handle.the_type) (pointer_send, tt)).leaving k))

@@ -1,4 +1,4 @@
-use Rattle.std.proofs.Common.{None, Some}
+use Rattle.std.proofs.Common.{Some}
 use Rattle.mp_replica.specs.PatchLog.{stored_of}
 use Rattle.mp_replica.proofs.patch_log.PatchLog.conflicts_of_text_within.Goals as goal
 

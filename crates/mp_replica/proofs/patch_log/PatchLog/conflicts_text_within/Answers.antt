@@ -1,4 +1,4 @@
-use Rattle.std.proofs.Common.{None, Some}
+use Rattle.std.proofs.Common.{None}
 use Rattle.mp_replica.specs.PatchLog.{stored_of}
 use Rattle.mp_replica.proofs.patch_log.PatchLog.conflicts_text_within.Goals as goal
 

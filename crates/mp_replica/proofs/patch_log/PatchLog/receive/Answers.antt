@@ -1,42 +1,42 @@
-use Rattle.std.proofs.Common.{◌≡◌, IfSome, option_map, sym, ap, ◌∙◌, subst, arith}
+use Rattle.std.proofs.Common.{Ok, ap, arith, refl, subst}
 use Rattle.mp_tree.specs.View.{document}
-use Rattle.mp_replica.specs.Messages.{sent}
-use Rattle.mp_replica.specs.PatchLog.{Shows, StoresAlso, stored_in}
-use Rattle.mp_tree.proofs.Facts.{IsDocument-document}
-use Rattle.mp_replica.specs.Private.StoredPatches.{StillShows}
-use Rattle.mp_replica.proofs.Shown.{kept_up}
-use Rattle.mp_replica.proofs.Alike.{none_more_received, one_received}
+use Rattle.mp_replica.specs.Messages.{Becomes, sent}
+use Rattle.mp_replica.specs.PatchLog.{StoresAlso, stored_of}
+use Rattle.mp_replica.specs.declared.message.Arrival.TheVariants.{Stored}
+use Rattle.mp_replica.proofs.Alike.{becomes_early, becomes_follows, becomes_late, becomes_repeat, becomes_stored}
 use Rattle.mp_replica.proofs.patch_log.PatchLog.receive.Goals as goal
 
-pub returns-then-message-self-clause-received : goal.returns-then-message-self-clause-received
-returns-then-message-self-clause-received c epoch start messages has =
-    let late = c.if-message-self.true in
-    none_more_received epoch start messages c.args.self.now (sent c.args.message.now) (λ same. absurd (let epochs = ap (λ l. l.epoch) c.self.view_is in omega arith)) has
+pub returns-in-Some : goal.returns-in-Some
+returns-in-Some c =
+    let log = c.args.self.now in
+    let m = sent c.args.message.now in
+    let is : Becomes c.in-Some.arrival m log log = c.in-Some.ensures (document c.args.message.now.patch) in
+    record {
+      stored = λ same none. becomes_stored c.in-Some.arrival m log log is same none;
+      repeat = λ same some. let all = becomes_repeat c.in-Some.arrival m log log is same some in (ap Ok all.0, all.1);
+      late = λ late. let all = becomes_late c.in-Some.arrival m log log is late in (ap Ok all.0, all.1);
+      early = λ early. let all = becomes_early c.in-Some.arrival m log log is early in (ap Ok all.0, all.1);
+      start = refl;
+      epoch = refl;
+      received = λ epoch start messages has. becomes_follows epoch start messages c.in-Some.arrival m log log is has;
+      unchanged = tt;
+    }
 
-pub returns-then-message-self-2-clause-received : goal.returns-then-message-self-2-clause-received
-returns-then-message-self-2-clause-received c epoch start messages has =
-    let early = c.if-message-self-2.true in
-    none_more_received epoch start messages c.args.self.now (sent c.args.message.now) (λ same. absurd (let epochs = ap (λ l. l.epoch) c.self.view_is in omega arith)) has
-
-pub returns-then-has-clause-received : goal.returns-then-has-clause-received
-returns-then-has-clause-received c epoch start messages has =
-    none_more_received epoch start messages c.args.self.now (sent c.args.message.now)
-    (λ same none. c.has.ensures.0 c.if-has.true (ap (λ l. stored_in l.stored c.args.message.now.identity) c.self.view_is ∙ none)) has
-
-pub returns-clause-received : goal.returns-clause-received
-returns-clause-received c epoch start messages has =
-    let more = subst (λ p. StoresAlso (stored_in c.self.inside.stored) c.args.message.now.identity p (stored_in c.insert.new.self)) c.in_ok-patch.ensures.equal c.in_ok-standing.ensures.stored in
-    one_received epoch start messages c.args.self.now _ (sent c.args.message.now) (let epochs = ap (λ l. l.epoch) c.self.view_is in let not_late = c.if-message-self.false in let not_early = c.if-message-self-2.false in omega arith)
-    (ap (λ l. l.epoch) c.self.view_is) (ap (λ l. document l.start) c.self.view_is)
-    (subst (λ es. StoresAlso (stored_in es) c.args.message.now.identity (document c.args.message.now.patch) (stored_in c.insert.new.self)) (ap (λ l. l.stored) c.self.view_is) more) has
-
-pub invariant_of-self : goal.invariant_of-self
-invariant_of-self c =
-    subst (λ es. IfSome (option_map document c.self.inside.shown) (Shows (document c.self.inside.start) (stored_in es))) (sym c.in_err-standing.ensures.unchanged) c.self.invariant
-
-pub invariant_of-self-2 : goal.invariant_of-self-2
-invariant_of-self-2 c =
-    let same : document c.in_ok-patch.patch ≡ document c.args.message.now.patch = c.in_ok-patch.ensures.equal in
-    kept_up c.in_ok-standing.standing (document c.self.inside.start) (document c.args.message.now.patch) c.self.inside.stored c.insert.new.self c.replace-shown.result c.shown_after.result (IsDocument-document c.self.inside.start) c.shown_after.ensures
-    (λ shown good shows. subst (λ p. StillShows c.in_ok-standing.standing (document c.self.inside.start) shown p (stored_in c.insert.new.self)) same (c.in_ok-standing.ensures.shows (document c.self.inside.start) shown (IsDocument-document c.self.inside.start) good shows))
-    (subst (λ o. IfSome (option_map document o) (Shows (document c.self.inside.start) (stored_in c.self.inside.stored))) (sym c.replace-shown.ensures.value) c.self.invariant)
+pub returns : goal.returns
+returns c =
+    let log = c.args.self.now in
+    let now = c.store.new.self in
+    let m = sent c.args.message.now in
+    let new = c.in_default.ensures in
+    let all : StoresAlso (stored_of log) m.identity m.patch (stored_of now) = subst (λ p. StoresAlso (stored_of log) m.identity p (stored_of now)) c.in_ok-patch.ensures.equal c.in_ok-store.ensures.stored in
+    let is : Becomes Stored m log now = (new.0, new.1, c.store.ensures.epoch, c.store.ensures.start, all) in
+    record {
+      stored = λ same none. becomes_stored Stored m log now is same none;
+      repeat = λ same some. absurd (some new.1);
+      late = λ late. let same = new.0 in absurd (omega arith);
+      early = λ early. let same = new.0 in absurd (omega arith);
+      start = c.store.ensures.start;
+      epoch = c.store.ensures.epoch;
+      received = λ epoch start messages has. becomes_follows epoch start messages Stored m log now is has;
+      unchanged = tt;
+    }

@@ -1,10 +1,10 @@
-use Rattle.std.proofs.Common.{length, sym}
+use Rattle.std.proofs.Common.{length, refl, sym}
 use Rattle.mp_pointer.proofs.Facts.{handed_on}
 use Rattle.std.proofs.lemmas.Bool.{eqb-true}
 use Rattle.std.proofs.lemmas.List.{nil_from_length}
 use Rattle.mp_replica.specs.Held.{held_places}
 use Rattle.mp_replica.specs.Kept.{IsHeldBy, IsNoKept, mark}
-use Rattle.mp_replica.proofs.Keeping.{held_conflict, held_join, held_nothing, kept_again, marked_text, no_kept}
+use Rattle.mp_replica.proofs.Keeping.{held_conflict, held_nothing, kept_again, marked_text, no_kept}
 use Rattle.mp_replica.proofs.patches.Patches.from_kept.Goals as goal
 
 pub returns-then-is_empty-clause-taken : goal.returns-then-is_empty-clause-taken
@@ -16,15 +16,11 @@ returns-then-is_empty-clause-taken c before taken kept has =
 pub returns-then-kept-eq33-clause-taken : goal.returns-then-kept-eq33-clause-taken
 returns-then-kept-eq33-clause-taken c before taken kept has =
     let text = c.args.kept.now in
-    let conflict = c.of_conflict.result in
     let marked = marked_text text 0 mark c.if-is_empty.ensures c.if-kept-eq33.true in
-    kept_again c.text_laws.ensures.one_spelling text before conflict taken kept
-    (held_conflict text _ conflict (held_places c.in_ok-places.places) marked c.in_ok-places.ensures c.of_conflict.ensures.joined c.of_conflict.ensures.pending c.of_conflict.ensures.places) has
+    rw c.of.ensures (kept_again c.text_laws.ensures.one_spelling text before _ taken kept (held_conflict text _ (held_places c.in_ok-places.places) marked c.in_ok-places.ensures) has)
 
 pub returns-clause-taken : goal.returns-clause-taken
-returns-clause-taken c before taken kept has =
-    let held = held_join c.args.kept.now c.of_join.result c.in_ok-joined.joined c.in_ok-joined.ensures c.of_join.ensures.joined c.of_join.ensures.pending c.of_join.ensures.places in
-    kept_again c.text_laws.ensures.one_spelling c.args.kept.now before c.of_join.result taken kept held has
+returns-clause-taken c before taken kept has = rw c.of-2.ensures (kept_again c.text_laws.ensures.one_spelling c.args.kept.now before _ taken kept (refl, c.in_ok-joined.ensures) has)
 
 pub returns-in_err-places-clause-held : goal.returns-in_err-places-clause-held
 returns-in_err-places-clause-held c =

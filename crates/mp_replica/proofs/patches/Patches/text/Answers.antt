@@ -8,7 +8,7 @@ use Rattle.mp_replica.specs.Texts.{HasTakenTexts}
 use Rattle.mp_replica.specs.declared.fault.LiveFault.TheVariants.{Conflict, NoPatches}
 use Rattle.mp_replica.proofs.Growing.{none_if_not, none_mapped, some_mapped}
 use Rattle.mp_replica.proofs.TextRuns.{join_text_of_patches, no_join_text}
-use Rattle.mp_replica.proofs.Written.{written, written_within}
+use Rattle.mp_replica.proofs.Written.{written}
 use Rattle.mp_replica.proofs.patches.Patches.text.Goals as goal
 
 pub returns-then-is_some-clause-join : goal.returns-then-is_some-clause-join
@@ -22,9 +22,6 @@ returns-in-Some-clause-joined c =
     c.text_within.result c.text_within.ensures
     (λ bytes is. (free, c.in-Some.ensures.0, subst (λ (o : Option Doc). MatchOption o ⊥ (λ j. bytes ≡ compact (document j))) (sym c.in-Some.ensures.1) is))
     (λ long. (free, c.in-Some.ensures.0, subst (λ (o : Option Doc). MatchOption o ⊥ (λ j. HasLongText c.args.limit (document j))) (sym c.in-Some.ensures.1) long)) tt
-
-pub returns-in-Some-clause-within : goal.returns-in-Some-clause-within
-returns-in-Some-clause-within c = written_within c.args.limit (compact (document c.in-Some.joined.now)) c.text_within.result c.text_within.ensures
 
 pub returns-in-Some-clause-join : goal.returns-in-Some-clause-join
 returns-in-Some-clause-join c =

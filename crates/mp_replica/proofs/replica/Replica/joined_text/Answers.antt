@@ -6,7 +6,7 @@ use Rattle.mp_replica.specs.Faults.{IsNotJoined, HasLongText}
 use Rattle.mp_texts.specs.Answers.{IsJoinText}
 use Rattle.mp_replica.specs.Texts.{FollowsTexts}
 use Rattle.mp_replica.proofs.TextRuns.{join_text_of_replica}
-use Rattle.mp_replica.proofs.Written.{written, written_so, written_within}
+use Rattle.mp_replica.proofs.Written.{written, written_so}
 use Rattle.mp_replica.proofs.replica.Replica.joined_text.Goals as goal
 
 pub returns-in-Some-clause-joined : goal.returns-in-Some-clause-joined
@@ -16,9 +16,6 @@ returns-in-Some-clause-joined c =
     c.text_within.ensures
     (λ bytes is. (c.in-Some.ensures.0, subst (λ (o : Option Doc). MatchOption o ⊥ (λ j. bytes ≡ compact (document j))) (sym c.in-Some.ensures.1) is))
     (λ long. (c.in-Some.ensures.0, subst (λ (o : Option Doc). MatchOption o ⊥ (λ j. HasLongText c.args.limit (document j))) (sym c.in-Some.ensures.1) long)) tt
-
-pub returns-in-Some-clause-within : goal.returns-in-Some-clause-within
-returns-in-Some-clause-within c = written_within c.args.limit (compact (document c.in-Some.joined.now)) c.text_within.result c.text_within.ensures
 
 pub returns-in-Some-clause-join : goal.returns-in-Some-clause-join
 returns-in-Some-clause-join c =

@@ -11,4 +11,4 @@ returns-in-Some-clause-stays c =
     let e = document c.merge_into.new.target in
     let p = document c.in-Some.patch.now in
     let again = merged_again c.merge_laws.ensures c.merge_into.result p d e (IsDocument-document c.self.inside.shown) (IsDocument-document c.in-Some.patch.now) c.merge_into.ensures.merged c.merge_into.ensures.resumes in
-    rw (← c.self.view_is) (subst (λ o. settled e (option_map document o) ≡ settled d (option_map document o)) (ap (option_map (λ q. q.now)) (sym c.in-Some.is) ∙ c.pending.ensures.value) again)
+    rw (← c.self.view_is) (subst (λ o. settled e (option_map document o) ≡ settled d (option_map document o)) (ap (option_map (λ q. q.now)) (sym c.in-Some.is) ∙ c.pending.ensures) again)

@@ -3,7 +3,7 @@ use Rattle.mp_tree.specs.View.{document}
 use Rattle.mp_merge.specs.Clash.{Compatible}
 use Rattle.mp_replica.specs.PatchLog.{ClashesWithNone, StoresAlso, stored_in}
 use Rattle.mp_replica.specs.Private.Pairs.{Notes}
-use Rattle.mp_replica.specs.Private.StoredPatches.{AreConflictingWith, JoinsOthers, KnowsConflicts}
+use Rattle.mp_replica.specs.Private.StoredPatches.{AreConflictingWith, JoinsOthers, KnowsConflicts, join_in}
 use Rattle.mp_replica.proofs.Conflicting.{knows_disputes, knows_noted, others_are_apart}
 use Rattle.mp_replica.proofs.Identities.{stores_also}
 use Rattle.mp_replica.proofs.stored_patches.StoredPatches.insert_anew.Goals as goal
@@ -20,12 +20,12 @@ join_of_others-requires c =
 pub invariant_of-self : goal.invariant_of-self
 invariant_of-self c = knows_noted c.note_clashes.ensures.kept c.note_clashes.ensures.ordered c.self.invariant
 
-pub invariant_of-self-in_err-join : goal.invariant_of-self-in_err-join
-invariant_of-self-in_err-join c = knows_noted c.note_clashes.ensures.kept c.note_clashes.ensures.ordered c.self.invariant
+pub invariant_of-self-in_err-joined : goal.invariant_of-self-in_err-joined
+invariant_of-self-in_err-joined c = knows_noted c.note_clashes.ensures.kept c.note_clashes.ensures.ordered c.self.invariant
 
 pub invariant_of-self-in_err-insert : goal.invariant_of-self-in_err-insert
 invariant_of-self-in_err-insert c =
-    subst (λ es. KnowsConflicts es c.self.inside.conflicting.items c.note_clashes.new.pairs c.self.inside.join) (sym c.in_err-insert.ensures.err) (knows_noted c.note_clashes.ensures.kept c.note_clashes.ensures.ordered c.self.invariant)
+    subst (λ es. KnowsConflicts es c.self.inside.conflicting.items c.note_clashes.new.pairs (join_in es c.self.inside.join)) (sym c.in_err-insert.ensures.err) (knows_noted c.note_clashes.ensures.kept c.note_clashes.ensures.ordered c.self.invariant)
 
 pub invariant_of-self-2 : goal.invariant_of-self-2
 invariant_of-self-2 c =
@@ -35,7 +35,7 @@ invariant_of-self-2 c =
     let absent = subst (λ l. stored_in l c.args.identity ≡ None) (sym c.self.view_is) c.requires.absent in
     let more = stores_also es c.insert.new.self.entries c.args.identity d c.in_ok-insert.ensures.updates.2 c.in_ok-insert.ensures.updates.1 in
     let are = subst (λ l. AreConflictingWith (stored_in es) c.args.identity (document d) l found) c.as_slice-known.ensures.value c.in_ok-conflicting.ensures in
-    let others = subst (λ l. JoinsOthers (stored_in es) l c.in_ok-join.join) c.as_slice.ensures.value c.in_ok-join.ensures in
+    let others = subst (λ l. JoinsOthers (stored_in es) l (record { joined = c.in_ok-joined.joined; pending = None })) c.as_slice.ensures.value c.in_ok-joined.ensures in
     let clash = subst (λ l. ¬ ClashesWithNone (stored_in l) (document d)) (sym c.self.view_is) c.requires.clash in
     let noted = subst (λ l. Notes c.args.identity (stored_in es) (document d) l c.note_clashes.new.pairs) c.as_slice-others.ensures.value c.in_ok-_fits.ensures.noted in
     knows_disputes c.merge_laws.ensures d c.self.invariant absent more c.in_ok-insert.ensures.ordered c.note_clashes.ensures.kept c.note_clashes.ensures.ordered clash are noted others

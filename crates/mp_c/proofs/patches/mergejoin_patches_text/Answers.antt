@@ -1,0 +1,10 @@
+use Rattle.std.proofs.Common.{ap, option_map, sym, ◌∙◌}
+use Rattle.mp_replica.specs.declared.fault.LiveFault.TheVariants.{NoPatches}
+use Rattle.mp_c.specs.OnHandles.{handle_fault}
+use Rattle.mp_c.proofs.OnPatches.{none_joined}
+use Rattle.mp_c.proofs.patches.mergejoin_patches_text.Goals as goal
+
+pub returns-in_default : goal.returns-in_default
+returns-in_default c =
+    let was = sym c.take.ensures.value ∙ ap (option_map (λ b. b.value)) c.in_default.is in
+    (handle_fault NoPatches, none_joined c.holds_join.ensures c.args.limit c.args.patches.now.value c.take.new.self.value was c.take.ensures.rest, c.report_live_fault.ensures)

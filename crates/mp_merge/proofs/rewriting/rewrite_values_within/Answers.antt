@@ -1,8 +1,0 @@
-use Rattle.mp_tree.proofs.Facts.{IsDocument-value}
-use Rattle.mp_merge.proofs.rewriting.rewrite_values_within.Goals as goal
-
-pub rewritten_within-requires : goal.rewritten_within-requires
-rewritten_within-requires c = record { documents = IsDocument-value }
-
-pub returns-clause-within : goal.returns-clause-within
-returns-clause-within c = c.rewritten_within.ensures.within

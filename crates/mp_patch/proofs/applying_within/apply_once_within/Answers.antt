@@ -1,5 +1,0 @@
-use Rattle.mp_tree.proofs.Facts.{IsDocument-document}
-use Rattle.mp_patch.proofs.applying_within.apply_once_within.Goals as goal
-
-pub run_within-requires : goal.run_within-requires
-run_within-requires c = record { documents = IsDocument-document }
