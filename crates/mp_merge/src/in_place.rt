@@ -7,11 +7,9 @@ ghost use Rattle.mp_merge.specs.Application.{set_or_remove, merge_patch, merge_p
 ghost use Rattle.mp_merge.specs.Private.Merging.{ResumesAt, NeedsNoneAt, NeedsNoneIn};
 ghost use Rattle.mp_merge.specs.Resumption.{NeedsNoMemory, Resumes};
 
-use crate::merging::entries_of;
 use mp_tree::{Doc, Node, members_mut};
 use std::alloc::{AllocError, Global};
 use std::collections::BTreeMap;
-use std::mem;
 
 /// Merges the patch into the target where it stands (RFC 7396 section 2): on `Ok` the target is what [`merge`] gives.
 /// The target's parts are neither copied nor made anew; what the patch sets is copied from it.
@@ -65,8 +63,9 @@ fn merge_at(patch: &Doc, target: &mut Doc, alloc: Global) -> Result<(), AllocErr
 fn make_object(target: &mut Doc, alloc: Global)
     ensures { document target.new ≡ object (target_members (Some (document target.old))) }
 {
-    let before = mem::replace(target, Doc::Null);
-    *target = Doc::Members(entries_of(Some(before), alloc));
+    if target.members().is_none() {
+        *target = Doc::Members(BTreeMap::new(alloc));
+    }
 }
 
 #[cycle(merge_at)]

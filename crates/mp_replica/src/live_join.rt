@@ -145,6 +145,7 @@ impl LiveJoin {
 
     // Receives a patch if it fits: what is joined has it then, as far as there was memory, and it is pending until `settle`.
     // Hands back one that does not fit: then nothing is changed.
+    #[inline(always)]
     pub(crate) fn offer(&mut self, alloc: Global, patch: Doc) -> Option<Doc>
         requires settled { self.old.pending ≡ None }
         ensures { MatchOption result (IsOffered self.old patch self.new)
@@ -165,6 +166,7 @@ impl LiveJoin {
     }
 
     // Joins what is pending. False if memory ran out: it is pending still.
+    #[inline(always)]
     pub(crate) fn settle(&mut self, alloc: Global) -> bool
         ensures settled { IsTrue result ↔ (self.new.pending ≡ None) }
         ensures stays { JoinsStay self.old self.new }

@@ -8,6 +8,7 @@ use crate::fault::LiveFault;
 use mp_tree::{Doc, ReadFault, read_doc};
 use std::alloc::Global;
 
+#[inline(always)]
 pub(crate) fn document_of(alloc: Global, text: &[u8]) -> Result<Doc, LiveFault>
     ensures { MatchResult result (λ d. document_in text.now ≡ Ok (document d))
         (λ fault. IsUnread fault text.now) }

@@ -110,6 +110,7 @@ impl Replica {
 
     /// Makes good what is pending: false if memory ran out again. Nothing is lost then, and the call can be made again. If
     /// nothing is pending it takes no memory.
+    #[inline(always)]
     pub fn settle(&mut self, alloc: Global) -> bool
         ensures settled { IsTrue result ↔ (self.new.pending ≡ None) }
         ensures follows { (start : Document) (received : List Document)
@@ -124,6 +125,7 @@ impl Replica {
     }
 
     // Merges what is pending into what is shown, and it is pending still. False if memory ran out.
+    #[inline(always)]
     fn merge_pending(&mut self, alloc: Global) -> bool
         ensures stays { settled (document self.new.shown) (option_map document self.old.pending)
             ≡ settled (document self.old.shown) (option_map document self.old.pending) }

@@ -4,6 +4,7 @@ pub mod Depths
 pub mod Elements
 pub mod Meaning
 pub mod SameParts
+pub mod Shallow
 pub mod Sound
 pub mod Throughout
 pub mod Weights

@@ -40,6 +40,7 @@ impl Doc {
     /// ```text
     /// doc.copy(alloc)?.same(&doc)  // true
     /// ```
+    #[inline(always)]
     pub fn copy(&self, alloc: Global) -> Result<Doc, AllocError>
         ensures equal { IfOk result (λ d. document d ≡ document self.now) }
     {

@@ -5,6 +5,7 @@ ghost use Rattle.serde_json.specs.Read.{max_depth};
 ghost use Rattle.serde_json.specs.View.{view};
 ghost use Rattle.mp_tree.specs.Document.{depth, depth_limit};
 ghost use Rattle.mp_tree.specs.View.{document, items};
+ghost use Rattle.mp_tree.specs.Private.Readings.{StaysShallow};
 ghost use Rattle.mp_tree.specs.Text.{data_in, document_in, documents_in, read};
 
 use crate::converting::{Unread, doc_of};
@@ -33,12 +34,12 @@ pub fn read_doc(alloc: Global, bytes: &[u8]) -> Result<Doc, ReadFault>
         → document_in bytes.now ≡ Err fault) }
     ensures depth { IfOk result (λ d. depth (document d) ≤ depth_limit) }
 {
-    let doc = read_tree(alloc, bytes)?;
-    if doc.fits(DEPTH_LIMIT) {
-        Ok(doc)
-    } else {
-        Err(ReadFault::TooDeep)
+    let mut is_deep = false;
+    let doc = read_tree(alloc, bytes, &mut is_deep)?;
+    if is_deep && !doc.fits(DEPTH_LIMIT) {
+        return Err(ReadFault::TooDeep);
     }
+    Ok(doc)
 }
 
 /// The documents that stand in one JSON array (RFC 8259), as `jq -s .` makes it from several texts.
@@ -57,21 +58,25 @@ pub fn read_docs(alloc: Global, bytes: &[u8]) -> Result<Vec<Doc>, DocsFault>
         → documents_in bytes.now ≡ Err fault) }
     ensures depth { IfOk result (λ docs. All (λ d. depth (document d) ≤ depth_limit) docs.items) }
 {
-    match read_tree(alloc, bytes)? {
+    match read_tree(alloc, bytes, &mut false)? {
         Doc::Items(docs) => Ok(docs),
         _ => Err(DocsFault::NotAnArray),
     }
 }
 
-fn read_tree(alloc: Global, bytes: &[u8]) -> Result<Doc, Unread>
+// `is_deep` becomes true if the document is deeper than one that is read on its own.
+#[inline(always)]
+fn read_tree(alloc: Global, bytes: &[u8], is_deep: &mut bool) -> Result<Doc, Unread>
     ensures ok { IfOk result (λ d. read bytes.now ≡ Some (document d)) }
+    ensures shallow { IfOk result (λ d.
+        StaysShallow is_deep.old is_deep.new (depth (document d)) depth_limit) }
     ensures nests { IfOk result (λ d. depth (document d) ≤ max_depth) }
     ensures not_json { result ≡ Err Unread.NotJson → data_in bytes.now ≡ None }
     ensures not_whole { result ≡ Err Unread.NotWhole
         → (IsSome (data_in bytes.now) × (read bytes.now ≡ None)) }
 {
     let value = read_json(alloc, bytes)?;
-    doc_of(value, alloc)
+    doc_of(value, DEPTH_LIMIT, is_deep, alloc)
 }
 
 // What `serde_json` reads, with numbers of any kind.

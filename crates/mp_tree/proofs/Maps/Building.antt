@@ -87,7 +87,7 @@ pub ascend_from_seen : {V W C : Type 0} (f : V → C) (g : W → C) (es : List (
     → IsStrictlySortedBy string_cmp (keys_of fs) → IsStrictlySortedBy string_cmp (keys_of es)
 ascend_from_seen f g es fs same = ascend_from_bytes (keys_of es) (keys_of fs) (sym (names_of-seen f es) ∙ ap (map (λ p. p.0)) same ∙ names_of-seen g fs)
 
-seen-byte_entries : {V C : Type 0} (f : V → C) (es : List (String Global × V)) → map (seen f) es ≡ map (λ p. (p.0, f p.1)) (byte_entries es)
+pub seen-byte_entries : {V C : Type 0} (f : V → C) (es : List (String Global × V)) → map (seen f) es ≡ map (λ p. (p.0, f p.1)) (byte_entries es)
 seen-byte_entries f [] = refl
 seen-byte_entries f (e ∷ es) = ap (λ ps. seen f e ∷ ps) (seen-byte_entries f es)
 

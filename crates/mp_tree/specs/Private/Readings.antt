@@ -1,5 +1,5 @@
 -- What a walk down a value finds of it. Only private clauses cite it.
-use Rattle.std.specs.Prelude.{◌≡◌, ◌≤◌, ◌<◌, ℕ, zero, Option, None, Some}
+use Rattle.std.specs.Prelude.{◌≡◌, ◌≤◌, ◌<◌, ℕ, zero, Bool, false, Option, None, Some}
 use Rattle.mp_tree.specs.declared.value_walks.Reading.{Reading}
 use Rattle.mp_tree.specs.declared.value_walks.Reading.TheVariants.{Fits, TooDeep, NotWhole}
 
@@ -13,3 +13,7 @@ IsReading NotWhole read meant depth limit = read ≡ None
 abbrev pub reading_around : Reading → ℕ → Reading
 reading_around Fits zero = TooDeep
 reading_around parts limit = parts
+
+-- a mark that something is too deep, before and after: it is never taken away, and where there is none what was read is within the levels
+abbrev pub StaysShallow : Bool → Bool → ℕ → ℕ → Type 0
+StaysShallow before after depth levels = after ≡ false → (before ≡ false) × (depth ≤ levels)
