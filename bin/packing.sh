@@ -20,7 +20,7 @@ install_library() {
   (CDPATH='' cd -- "$tree" && sha256sum --status --strict --check "$1/library.sum") ||
     { echo "package: the library in $1 is not what was built there: its checksums differ" >&2 && exit 125; }
   install -D -m 644 -- "$top/docs/mergejoin.3" "$tree/share/man/man3/mergejoin.3"
-  ln -s libmergejoin.so.1 "$tree/lib/libmergejoin.so"
+  ln -s libmergejoin.so.2 "$tree/lib/libmergejoin.so"
   install -D -m 644 -- "$top/docs/FROM-C.md" "$tree/share/doc/mergejoin/FROM-C.md"
 }
 

@@ -9,14 +9,16 @@ import typing
 HEADER = pathlib.Path(__file__).resolve().parent.parent / "bindings/c/mergejoin.h"
 COMMENT = re.compile(r"^/\*\*?(?!<)(.*?)\*/\n", re.M | re.S)
 STATUS = re.compile(r"^  /\*\*(.*?)\*/\n  (MERGEJOIN_\w+) = (\d+)", re.M | re.S)
-CALL = re.compile(r"(?:static inline\s)?(?:mergejoin_\w+|uint32_t|void|char) [*]?(mergejoin_\w+[^_])\([^;{]*\)(?=;| \{)")
+CALL = re.compile(r"(?:static inline\s)?(?:mergejoin_\w+|uint32_t|void|int|size_t) (mergejoin_\w+[^_])\([^;{]*\)(?=;| \{)")
+# What a call ends with that has a sibling with a buffer of its own, and what that ends with.
+BUFFER, OWN = "uint8_t *out, size_t capacity, size_t limit)", "size_t limit, mergejoin_reply *reply)"
 TYPE = re.compile(r"typedef struct (mergejoin_\w+)")
 # The words that begin an entry of the list of what a call does, with the column of its text.
 ENTRY = re.compile(r"^  (\w+) +(?=\S)")
 
-# The calls by the handle that they are of, and those that are of no text of JSON.
+# The calls by the handle that they are of, and those that are of none.
 HANDLES = {"": "Calls that keep nothing", "replica": "Replicas", "patches": "Patches without a start", "patch_log": "Patch logs"}
-OTHERS, LAST = ("mergejoin_version", "mergejoin_text_of"), "Other calls"
+OTHERS, LAST = ("mergejoin_version", "mergejoin_text_of", "mergejoin_next_place", "mergejoin_grow"), "Other calls"
 
 
 class Call(typing.NamedTuple):
@@ -86,11 +88,11 @@ class Header:
             if CALL.match(inline, found.end()):
                 self.take(found[1], inline[found.end():])
         self.helpers = parts(next(found[1] for found in COMMENT.finditer(inline) if "The same calls" in found[1]))
-        self.owned = [Call(found[1], prototype(found[0]), []) for found in CALL.finditer(inline) if found[1].endswith("_new")]
+        self.owned = [owned(call) for call in self.calls if call.prototype.endswith(BUFFER)]
 
     def take(self, comment, below):
         """Takes a comment with what is below it: a call, a type, or nothing of either."""
-        if (call := CALL.match(below)) and not call[1].endswith("_new"):
+        if call := CALL.match(below):
             self.calls.append(Call(call[1], prototype(call[0]), parts(comment)))
         elif below.startswith("enum"):
             self.of_statuses = parts(comment)
@@ -107,6 +109,12 @@ class Header:
             handle = next((handle for handle in HANDLES if handle and call.name.startswith(f"mergejoin_{handle}_")), "")
             found[LAST if call.name in OTHERS else HANDLES[handle]].append(call)
         return found
+
+
+def owned(call):
+    """Gives the same call with a buffer of its own, which the header makes of a table."""
+    name = f"{call.name}_new"
+    return Call(name, call.prototype.replace(BUFFER, OWN).replace(f"mergejoin_reply {call.name}(", f"char *{name}("), [])
 
 
 def prototype(text):

@@ -14,9 +14,9 @@ from failing import Heap
 
 TESTS = pathlib.Path(__file__).resolve().parent
 # What takes long, or looks at what only `rt ci` leaves: `bin/test` leaves it out, and `bin/test all` runs it.
-SLOW = ("allocation", "bindings/dask", "bindings/postgresql", "bindings/sqlite/test_memory.py", "bindings/sqlite/test_replica.py", "cost",
-        "live", "packages/test_package.py", "pages/test_site.py", "program/test_growth.py", "replicas", "scripts/test_unproved.py",
-        "tools/test_must_fail.py")
+SLOW = ("allocation", "bindings/dask", "bindings/postgresql", "bindings/python/test_cost.py", "bindings/sqlite/test_memory.py",
+        "bindings/sqlite/test_replica.py", "cost", "live", "packages/test_package.py", "pages/test_site.py", "program/test_growth.py",
+        "replicas", "scripts/test_unproved.py", "tools/test_must_fail.py")
 
 # What `rt ci` leaves in crates/, and the tests that run it.
 LEFT = {"cost/test_counts.py": "workloads/out/workloads", "live": "replica_runs/out/replica_runs",

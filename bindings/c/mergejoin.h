@@ -2,7 +2,8 @@
  * mergejoin: JSON Merge Patches (RFC 7396), JSON Pointers (RFC 6901) and JSON Patches (RFC 6902) over texts.
  *
  * Six functions keep nothing: join, replay, merge, rewrite, patch and get. Each borrows texts from its caller, writes the text of
- * its answer into a buffer of the caller's, and returns a mergejoin_reply by value.
+ * its answer into a buffer of the caller's, and returns a mergejoin_reply by value. If there is no result, that text is a line that
+ * says why, and after it the places that the line is about, as a JSON array for the program.
  *
  * Three handles stay in memory. A mergejoin_replica has a start and the patches that it received, and shows their document. A
  * mergejoin_patches has patches without a start, for a reduce or an aggregate. A mergejoin_patch_log has a start and each patch
@@ -75,63 +76,68 @@
 
 /** The version of this header. That of the library that is linked is what mergejoin_version() returns. */
 #define MERGEJOIN_VERSION_MAJOR 0
-#define MERGEJOIN_VERSION_MINOR 3
+#define MERGEJOIN_VERSION_MINOR 4
 #define MERGEJOIN_VERSION_PATCH 0
 #define MERGEJOIN_VERSION (MERGEJOIN_VERSION_MAJOR * 1000000 + MERGEJOIN_VERSION_MINOR * 1000 + MERGEJOIN_VERSION_PATCH)
-#define MERGEJOIN_VERSION_STRING "0.3.0"
+#define MERGEJOIN_VERSION_STRING "0.4.0"
 
 #ifdef __cplusplus
 extern "C" {
 #endif
 
-/** What the text in the buffer is: the result, or the reason why there is no result. If several errors hold, a call reports
- * the first in the order in which its own comment lists them. */
+/** What the text in the buffer is: the result; or a line that says why there is none, without a newline, and right after it the places
+ * that the line is about. These are the last `places` bytes of the text, a compact JSON array of JSON Pointers, which
+ * mergejoin_next_place takes apart; or there is no array, and `places` is 0. In the line too a place is a JSON string. So control
+ * characters are escaped, and it may go to a terminal or a log. Each language gives the same line. If several errors hold, a call
+ * reports the first in the order in which its own comment lists them. */
 enum mergejoin_status {
   /** The result. It is empty if a call has none but to have succeeded. */
   MERGEJOIN_RESULT = 0,
-  /** A JSON array of the first places at which patches conflict, as JSON Pointers, in order; `total` is how many there are in
-   * all. The array has all of them if they weigh at most the limit together and it has at most so many bytes; else as many as
-   * do. If the limit is less than the 2 bytes of an array there is no text, nor is there one on a handle if memory ran out for
-   * it. A mergejoin_patches holds the first places of its conflict that weigh at most 65,536 together, or those of a kept form.
-   * Then the limit bounds the bytes of the array alone, `total` is how many places are held, and MERGEJOIN_MORE says if there
-   * are more. A place weighs 128, 8 for each token, and the bytes of its spelling. Of join and replay these are the places of
-   * the patches `first` < `second`. Of a decision they are those of the patches with the identities `first` and `second` of
-   * those that are chosen; of each other call of a handle the numbers are 0. */
+  /** Two patches conflict, as `conflict: patches 0 and 2 at "/a", "/b"` says. The array has these places, in order; `total` is how
+   * many there are in all. It has all of them if they weigh at most the limit together and it has at most so many bytes; else as
+   * many as do. Then the line ends with `and 3 more`, or, if none do, with `at 5 places`. So the text has at most twice the limit,
+   * and some hundred bytes. On a handle there is no text if memory ran out for it. A mergejoin_patches holds the first places of
+   * its conflict that weigh at most 65,536 together, or those of a kept form. Then the limit bounds the bytes of the array alone,
+   * `total` is how many places are held, and MERGEJOIN_MORE says if there are more, as does `and more` at the end of the line. A
+   * place weighs 128, 8 for each token, and the bytes of its spelling. Of join and replay these are the places of the patches
+   * `first` < `second`. Of a decision they are those of the patches with the identities `first` and `second` of those that are
+   * chosen; of each other call of a handle the numbers are 0, and the line begins with `conflict: two patches`. */
   MERGEJOIN_CONFLICT = 1,
-  /** "no patches": there are none to join. */
+  /** `no patches`: there are none to join. */
   MERGEJOIN_NO_PATCHES = 2,
-  /** The operation of number `first` is refused: "into itself", "remove of root", "missing", "no place", "too deep" or
-   * "test failed". Of a decision "no number is left for a start". */
+  /** `operation 4: test failed`: the operation of number `first` is refused. The causes are `into itself`, `remove of root`,
+   * `missing`, `no place`, `too deep` and `test failed`. Of a decision `no number is left for a start`. */
   MERGEJOIN_REFUSED = 3,
-  /** "missing": the document has no part there; of a decision, under the identity of number `first` no patch is stored. */
+  /** `missing`: the document has no part there; of a decision, under the identity of number `first` no patch is stored. */
   MERGEJOIN_MISSING = 4,
-  /** The document, or the start, is not one: "not JSON", "number not whole" (a document has whole numbers from -2^63 to
-   * 2^64 - 1) or "too deep" (a document has at most 126 levels). After the last two follow " at " and the JSON Pointer of the first
-   * such number, or of the first array or object that is too deep; `total` is then how many bytes the words have before that.
-   * The pointer has the names of the text as they are, with control characters and NUL: escape it before it reaches a terminal or
-   * a log. Of a kept form also "not kept patches", and no place. */
+  /** The document, or the start, is not one, as `document: number not whole at "/price"` says. The causes are `not JSON`, without a
+   * place; `number not whole` (a document has whole numbers from -2^63 to 2^64 - 1) at the first such number; and `too deep` (a
+   * document has at most 126 levels) at the first array or object that is. `total` is 1 with a place. Of a kept form there is no
+   * place, and the line may be `not kept patches`. */
   MERGEJOIN_DOCUMENT = 5,
-  /** The patch of number `first` is not a document, by the same words, with the same place; the number of a single patch is 0. */
+  /** The patch of number `first` is not a document, for the same causes, as `patch 2: number not whole at "/price"` says. The
+   * number of a single patch is 0. */
   MERGEJOIN_PATCH = 6,
-  /** The document is not a JSON Patch: "not an array"; or, of the operation of number `first`, "not an object", "no op",
-   * "unknown op", "no path", "no from", "bad pointer" or "no value". */
+  /** The document is not a JSON Patch: `not an array`; or, as `operation 4: no path`, of the operation of number `first`:
+   * `not an object`, `no op`, `unknown op`, `no path`, `no from`, `bad pointer` or `no value`. */
   MERGEJOIN_FORM = 7,
-  /** The text is not a pointer: "not UTF-8", "no slash" or "bad tilde", at the offset `first` in bytes. */
+  /** The text is not a pointer: `pointer: no slash`, `pointer: bad tilde at 3` or `pointer: not UTF-8 at 3`, at the offset `first`
+   * in bytes. */
   MERGEJOIN_POINTER = 8,
   /** Memory ran out: no text, the buffer is unchanged, and a handle has received or taken nothing more. Any call may return
    * this. */
   MERGEJOIN_NO_MEMORY = 9,
-  /** "pending": the handle has received or taken the patch, and memory ran out before it could be shown. The patch is not lost, and
+  /** `pending`: the handle has received or taken the patch, and memory ran out before it could be shown. The patch is not lost, and
    * need not be given again: each later call that reads the handle, or gives it a patch, goes on with it first. */
   MERGEJOIN_PENDING = 10,
-  /** The result, or something on the way to it, is larger than the limit: no text, and the buffer is unchanged. Of a JSON Patch
-   * `first` is the number of the operation whose result weighs more, or by which the work is more than 16 times the limit: the
-   * weight of each value that a copy copies, and 1 for each element of an array that shifts. Of a rewriting it is how many of
-   * its operations fit; and it is 0 if the text of the result is longer. A weight is about what a document takes in memory, in
-   * bytes: 40 for null, true, false or a number; 80 and its bytes for a string; 80 and its elements for an array; 1,000 for an
-   * object, and for each name 128, its bytes and its value. An operation weighs its places and its value. */
+  /** `too large`: the result, or something on the way to it, is larger than the limit. Of a JSON Patch `first` is the number of the
+   * operation whose result weighs more, or by which the work is more than 16 times the limit: the weight of each value that a copy
+   * copies, and 1 for each element of an array that shifts. Of a rewriting it is how many of its operations fit; and it is 0 if
+   * the text of the result is longer. A weight is about what a document takes in memory, in bytes: 40 for null, true, false or a
+   * number; 80 and its bytes for a string; 80 and its elements for an array; 1,000 for an object, and for each name 128, its bytes
+   * and its value. An operation weighs its places and its value. */
   MERGEJOIN_TOO_LARGE = 11,
-  /** "not started": the replica or the patch log is {0}. A call looks for this first. */
+  /** `not started`: the replica or the patch log is {0}. A call looks for this first. */
   MERGEJOIN_NOT_STARTED = 12
 };
 
@@ -147,8 +153,8 @@ typedef struct mergejoin_reply {
   size_t length; /**< of the whole text in bytes, even if the buffer has only its beginning */
   size_t first;
   size_t second;
-  size_t total; /**< of a conflict: how many places there are; of words that a place follows: how many bytes they have */
-  size_t spare; /**< 0 in this version */
+  size_t total; /**< how many places there are in all */
+  size_t places; /**< how many bytes at the end of the text are the array of places, or 0 */
   uint32_t status; /**< an enum mergejoin_status */
   uint32_t flags; /**< MERGEJOIN_MORE or 0 */
 } mergejoin_reply;
@@ -178,11 +184,19 @@ typedef struct mergejoin_identity {
   uint64_t number;
 } mergejoin_identity;
 
+/** A buffer that grows until the text of a call fits, for mergejoin_grow: {0}, or with `likely` and `resized`. */
+typedef struct mergejoin_buffer {
+  uint8_t *bytes; /**< null at first; afterwards the caller frees them */
+  size_t capacity;
+  size_t likely; /**< how many bytes the text is likely to have */
+  void *(*resized)(void *bytes, size_t capacity); /**< takes the memory as realloc does; null is realloc */
+} mergejoin_buffer;
+
 /*
  * Each call ends with the buffer, its capacity and a limit in bytes: of the text of a result; of the places of a conflict and
  * of the pairs of a patch log, also by their weight; and of mergejoin_patch and mergejoin_rewrite also of what they make on the
- * way, by its weight. SIZE_MAX is no limit. The words of an error are not limited: they have a few bytes, and a place. On a
- * handle the limit bounds the reply alone: a handle takes what its patches take.
+ * way, by its weight. SIZE_MAX is no limit. Another line of an error is not limited: it has some bytes, and a place. On a handle
+ * the limit bounds the reply alone: a handle takes what its patches take.
  *
  * Below, each call lists its statuses in the order in which it looks for them.
  */
@@ -292,7 +306,7 @@ mergejoin_reply mergejoin_replica_get(mergejoin_replica *replica, const uint8_t 
 void mergejoin_replica_free(mergejoin_replica *replica);
 
 /**
- * Takes a merge patch. {0} has taken none. If two of those taken conflict, now or since an earlier call, the text is the first places
+ * Takes a merge patch. {0} has taken none. If two of those taken conflict, now or since an earlier call, the text has the first places
  * of the conflict that was seen first; the patch is taken too.
  *
  * MERGEJOIN_PATCH, MERGEJOIN_NO_MEMORY (not taken), MERGEJOIN_CONFLICT (taken), MERGEJOIN_PENDING (taken).
@@ -440,106 +454,55 @@ static inline mergejoin_text mergejoin_text_of(const void *bytes, size_t length)
   return text;
 }
 
-/*
- * The replacement of null. Each function that takes texts or a buffer is inline, and calls the export of its name by another name. In
- * the place of null it passes the address of its last parameter, of which no byte is read or written. If the compiler emits the
- * inline function, it gives it that other name, so that the two are never confused.
- */
-#pragma GCC diagnostic push
-#pragma GCC diagnostic ignored "-Wredundant-decls" /* the name that the compiler gives it needs a declaration */
-#define MERGEJOIN_GIVEN_(type, pointer, length) ((length) ? (pointer) : MERGEJOIN_AS_(type, MERGEJOIN_AS_(void *, &limit))), (length)
-#define MERGEJOIN_TEXT_(bytes, length) MERGEJOIN_GIVEN_(const uint8_t *, bytes, length)
-#define MERGEJOIN_TEXTS_(patches, count) MERGEJOIN_GIVEN_(const mergejoin_text *, patches, count)
-#define MERGEJOIN_OUT_ MERGEJOIN_GIVEN_(uint8_t *, out, capacity), limit
-#define MERGEJOIN_WITHOUT_NULL_(name, parameters, arguments)     \
-  extern __typeof__(name) name##_ __asm__(#name);                \
-  static inline mergejoin_reply name parameters __asm__(#name "_"); \
-  static inline mergejoin_reply name parameters { return name##_ arguments; }
+/* How many bytes spell the next one of a JSON string, which is `*byte` then; or 0 at its end, or at what the library writes in none. */
+static inline size_t mergejoin_spelling_(const char *next, size_t left, char *byte) {
+  static const char digits[] = "0123456789abcdef", escapes[] = "\"\\bfnrt", escaped[] = "\"\\\b\f\n\r\t";
+  const char *escape = escapes, *high = digits, *low = digits;
+  if (!left || *next == '"' || MERGEJOIN_AS_(unsigned char, *next) < ' ') return 0;
+  *byte = *next;
+  if (*next != '\\') return 1;
+  if (left < 2) return 0;
+  while (*escape && *escape != next[1]) escape += 1;
+  *byte = escaped[escape - escapes];
+  if (*escape) return 2;
+  if (left < 6 || memcmp(next, "\\u00", 4) != 0) return 0;
+  while (*high && *high != next[4]) high += 1;
+  while (*low && *low != next[5]) low += 1;
+  *byte = MERGEJOIN_AS_(char, 16 * (high - digits) + (low - digits));
+  return *high && *low ? 6 : 0;
+}
 
-MERGEJOIN_WITHOUT_NULL_(mergejoin_join,
-                        (const mergejoin_text *patches, size_t count, uint8_t *out, size_t capacity, size_t limit),
-                        (MERGEJOIN_TEXTS_(patches, count), MERGEJOIN_OUT_))
-
-/* The calls of a document and patches, of two texts, of a handle and a text, and of a handle. */
-#define MERGEJOIN_ON_PATCHES_(name)                                                                                     \
-  MERGEJOIN_WITHOUT_NULL_(name,                                                                                         \
-                          (const uint8_t *bytes, size_t length, const mergejoin_text *patches, size_t count,            \
-                           uint8_t *out, size_t capacity, size_t limit),                                                \
-                          (MERGEJOIN_TEXT_(bytes, length), MERGEJOIN_TEXTS_(patches, count), MERGEJOIN_OUT_))
-#define MERGEJOIN_ON_TEXTS_(name)                                                                                       \
-  MERGEJOIN_WITHOUT_NULL_(name,                                                                                         \
-                          (const uint8_t *bytes, size_t length, const uint8_t *other, size_t other_length,              \
-                           uint8_t *out, size_t capacity, size_t limit),                                                \
-                          (MERGEJOIN_TEXT_(bytes, length), MERGEJOIN_TEXT_(other, other_length), MERGEJOIN_OUT_))
-#define MERGEJOIN_OF_TEXT_(name, handle)                                                                                \
-  MERGEJOIN_WITHOUT_NULL_(name,                                                                                         \
-                          (handle *it, const uint8_t *bytes, size_t length, uint8_t *out, size_t capacity, size_t limit), \
-                          (it, MERGEJOIN_TEXT_(bytes, length), MERGEJOIN_OUT_))
-#define MERGEJOIN_OF_NONE_(name, handle) \
-  MERGEJOIN_WITHOUT_NULL_(name, (handle *it, uint8_t *out, size_t capacity, size_t limit), (it, MERGEJOIN_OUT_))
-
-MERGEJOIN_ON_PATCHES_(mergejoin_replay)
-MERGEJOIN_ON_PATCHES_(mergejoin_merge)
-MERGEJOIN_ON_TEXTS_(mergejoin_rewrite)
-MERGEJOIN_ON_TEXTS_(mergejoin_patch)
-MERGEJOIN_ON_TEXTS_(mergejoin_get)
-MERGEJOIN_OF_TEXT_(mergejoin_replica_start, mergejoin_replica)
-MERGEJOIN_OF_TEXT_(mergejoin_replica_receive, mergejoin_replica)
-MERGEJOIN_OF_NONE_(mergejoin_replica_document, mergejoin_replica)
-MERGEJOIN_OF_NONE_(mergejoin_replica_joined, mergejoin_replica)
-MERGEJOIN_OF_TEXT_(mergejoin_replica_get, mergejoin_replica)
-MERGEJOIN_OF_TEXT_(mergejoin_patches_add, mergejoin_patches)
-MERGEJOIN_WITHOUT_NULL_(mergejoin_patches_combine,
-                        (mergejoin_patches *patches, mergejoin_patches *other, uint8_t *out, size_t capacity, size_t limit),
-                        (patches, other, MERGEJOIN_OUT_))
-MERGEJOIN_OF_NONE_(mergejoin_patches_text, mergejoin_patches)
-MERGEJOIN_OF_NONE_(mergejoin_patches_kept, mergejoin_patches)
-MERGEJOIN_OF_TEXT_(mergejoin_patches_from_kept, mergejoin_patches)
-
-MERGEJOIN_WITHOUT_NULL_(mergejoin_patch_log_start,
-                        (mergejoin_patch_log *log, uint64_t epoch, const uint8_t *start, size_t length, uint8_t *out,
-                         size_t capacity, size_t limit),
-                        (log, epoch, MERGEJOIN_TEXT_(start, length), MERGEJOIN_OUT_))
-MERGEJOIN_WITHOUT_NULL_(mergejoin_patch_log_receive,
-                        (mergejoin_patch_log *log, uint64_t epoch, uint64_t sender, uint64_t number, const uint8_t *patch,
-                         size_t length, uint8_t *out, size_t capacity, size_t limit),
-                        (log, epoch, sender, number, MERGEJOIN_TEXT_(patch, length), MERGEJOIN_OUT_))
-MERGEJOIN_OF_NONE_(mergejoin_patch_log_document, mergejoin_patch_log)
-MERGEJOIN_OF_NONE_(mergejoin_patch_log_conflicts, mergejoin_patch_log)
-MERGEJOIN_WITHOUT_NULL_(mergejoin_patch_log_conflicts_of,
-                        (mergejoin_patch_log *log, uint64_t sender, uint64_t number, uint8_t *out, size_t capacity,
-                         size_t limit),
-                        (log, sender, number, MERGEJOIN_OUT_))
-MERGEJOIN_OF_NONE_(mergejoin_patch_log_count, mergejoin_patch_log)
-MERGEJOIN_WITHOUT_NULL_(mergejoin_patch_log_decide,
-                        (mergejoin_patch_log *log, const mergejoin_identity *chosen, size_t count, uint8_t *out,
-                         size_t capacity, size_t limit),
-                        (log, MERGEJOIN_GIVEN_(const mergejoin_identity *, chosen, count), MERGEJOIN_OUT_))
-
-#pragma GCC diagnostic pop
-#undef MERGEJOIN_OF_NONE_
-#undef MERGEJOIN_OF_TEXT_
-#undef MERGEJOIN_ON_TEXTS_
-#undef MERGEJOIN_ON_PATCHES_
-#undef MERGEJOIN_WITHOUT_NULL_
-#undef MERGEJOIN_OUT_
-#undef MERGEJOIN_TEXTS_
-#undef MERGEJOIN_TEXT_
-#undef MERGEJOIN_GIVEN_
-
-/*
- * The same calls with a buffer of their own: each has the name of its call and `_new`, and a reply in the place of the buffer. It
- * returns the text with a terminating 0 after its reply->length bytes; the caller passes it to free. If memory runs out, it
- * returns NULL, and the status is MERGEJOIN_NO_MEMORY.
+/**
+ * Gives the next place of the array at the end of a whole text, and how many bytes it has, or SIZE_MAX if there is no further one.
+ * Its first min(length, capacity) bytes are written to `place`, without the quotes and the escapes of JSON, and no terminating 0.
+ * `*at` is 0 before the first call; each call sets it to where the place ends in the text, behind its quote. A text that is no such
+ * array, or only the beginning of one, has no place from there on.
  *
- * The first buffer is as long as the text will be in most cases, or short if there is no memory for that. What is not needed is
- * given back. If the text is longer, a longer buffer is made, and the call is made again. So a text that is much longer than what
- * is read costs twice: the places of a conflict, a JSON Patch with copies, or a rewriting that is longer than the document and
- * sixteen times the patch. A text of a handle that is longer than 64 KB is written twice. A patch is never taken twice.
+ *   size_t at = 0, length;
+ *   while ((length = mergejoin_next_place(text, &reply, &at, place, sizeof place)) != SIZE_MAX)
+ *     use(place, length < sizeof place ? length : sizeof place);
  */
+static inline size_t mergejoin_next_place(const char *text, const mergejoin_reply *reply, size_t *at, char *place, size_t capacity) {
+  const size_t end = reply->length, begin = *at ? *at : end - reply->places;
+  size_t here = begin + 2, length = 0, spelling;
+  char byte;
+  if (reply->places > end || begin > end || end - begin < 2) return SIZE_MAX;
+  if (text[begin] != (*at ? ',' : '[') || text[begin + 1] != '"') return SIZE_MAX;
+  for (; (spelling = mergejoin_spelling_(text + here, end - here, &byte)) > 0; here += spelling, length += 1)
+    if (length < capacity) place[length] = byte;
+  if (here == end || text[here] != '"') return SIZE_MAX;
+  *at = here + 1;
+  return length;
+}
 
-/* First capacities: of a text that is most often empty or a few words, of a part, and of a document that a handle has. */
-enum mergejoin_capacity_ { MERGEJOIN_WORDS_ = 256, MERGEJOIN_PART_ = 4096, MERGEJOIN_DOCUMENT_ = 65536 };
+/* Gives a buffer another capacity. If there is no memory for it, the buffer is as it was. */
+static inline int mergejoin_resize_(mergejoin_buffer *buffer, size_t capacity) {
+  void *bytes = (buffer->resized ? buffer->resized : realloc)(buffer->bytes, capacity);
+  if (!bytes) return 0;
+  buffer->bytes = MERGEJOIN_AS_(uint8_t *, bytes);
+  buffer->capacity = capacity;
+  return 1;
+}
 
 /* Memory ran out: there is nothing more to say. */
 static inline void mergejoin_no_memory_(mergejoin_reply *reply) {
@@ -547,196 +510,144 @@ static inline void mergejoin_no_memory_(mergejoin_reply *reply) {
   reply->status = MERGEJOIN_NO_MEMORY;
 }
 
-/* A buffer in the place of another. */
-static inline uint8_t *mergejoin_buffer_(uint8_t *other, size_t capacity, mergejoin_reply *reply) {
-  free(other);
-  mergejoin_no_memory_(reply);
-  return MERGEJOIN_AS_(uint8_t *, malloc(capacity));
+/**
+ * Makes a buffer longer, and returns whether a call is to be made with it: for the first time, or again, since its text did not fit:
+ *
+ *   mergejoin_buffer buffer = {0};
+ *   while (mergejoin_grow(&buffer, &reply))
+ *     reply = mergejoin_join(patches, count, buffer.bytes, buffer.capacity, limit);
+ *
+ * Then the buffer has the whole text and a terminating 0, and what is not needed is given back. If there was no memory for the buffer,
+ * the status is MERGEJOIN_NO_MEMORY; or of a conflict MERGEJOIN_CONFLICT still, with no text. The caller frees the buffer's bytes, also
+ * after MERGEJOIN_NO_MEMORY. A call that takes patches is not to be made again if they conflict: mergejoin_patches_text has the same text.
+ */
+static inline int mergejoin_grow(mergejoin_buffer *buffer, mergejoin_reply *reply) {
+  if (!buffer->bytes) {
+    mergejoin_no_memory_(reply);
+    return mergejoin_resize_(buffer, buffer->likely + 64) || mergejoin_resize_(buffer, 64);
+  }
+  if (reply->length >= buffer->capacity) {
+    if (mergejoin_resize_(buffer, reply->length + 1)) return 1;
+    if (reply->status != MERGEJOIN_CONFLICT) mergejoin_no_memory_(reply);
+    reply->length = reply->places = 0;
+  }
+  buffer->bytes[reply->length] = 0;
+  if (buffer->capacity - reply->length > reply->length / 8 + 512) mergejoin_resize_(buffer, reply->length + 1);
+  return 0;
 }
 
-/* The capacity for a text that is likely to have up to `length` bytes: with the words of an error, and the 0 at the end. */
-static inline size_t mergejoin_capacity_(size_t length, size_t limit) { return (length < limit ? length : limit) + 64; }
+/* A buffer for a text that is likely to have up to `length` bytes. */
+static inline mergejoin_buffer mergejoin_likely_(size_t length, size_t limit) {
+  mergejoin_buffer buffer = {MERGEJOIN_NULL_, 0, length < limit ? length : limit, MERGEJOIN_NULL_};
+  return buffer;
+}
+
+/* The text of a buffer, or nothing if memory ran out. */
+static inline char *mergejoin_made_(const mergejoin_buffer *buffer, const mergejoin_reply *reply) {
+  if (reply->status != MERGEJOIN_NO_MEMORY) return MERGEJOIN_AS_(char *, MERGEJOIN_AS_(void *, buffer->bytes));
+  free(buffer->bytes);
+  return MERGEJOIN_NULL_;
+}
 
 static inline size_t mergejoin_lengths_(size_t length, const mergejoin_text *patches, size_t count) {
   for (size_t number = 0; number < count; number += 1) length += patches[number].length;
   return length;
 }
 
-/* The text of a reply, with its 0, in as many bytes as it needs; or nothing if memory ran out. */
-static inline char *mergejoin_text_in_(uint8_t *out, size_t capacity, const mergejoin_reply *reply) {
-  void *less = MERGEJOIN_NULL_;
-  if (!out || reply->status == MERGEJOIN_NO_MEMORY) {
-    free(out);
-    return MERGEJOIN_NULL_;
+/*
+ * The same calls with a buffer of their own: each has the name of its call and `_new`, and a reply in the place of the buffer. It
+ * returns the text with a terminating 0 after its reply->length bytes; the caller passes it to free. If memory runs out, it
+ * returns NULL, and the status is MERGEJOIN_NO_MEMORY; if it runs out for the text of a conflict alone, the text is empty.
+ *
+ * The first buffer is as long as the text will be in most cases, or short if there is no memory for that. What is not needed is
+ * given back. If the text is longer, a longer buffer is made, and the call is made again. So a text that is much longer than what
+ * is read costs twice: the places of a conflict, a JSON Patch with copies, or a rewriting that is longer than the document and
+ * sixteen times the patch. A text of a handle that is longer than 64 KB is written twice. A patch is never taken twice.
+ */
+
+/*
+ * Each call, and the same with a buffer of its own, is a line of the table below: its name; whether it takes patches; how long its text
+ * is likely to be; its parameters before the buffer; and what is passed of them. A call is inline, and calls the export of its name by
+ * another name. In the place of null it passes the address of its last parameter, of which no byte is read or written. If the
+ * compiler emits the inline function, it gives it that other name, so that the two are never confused. If patches that were
+ * taken conflict, and the text was cut, it is that of what has them.
+ */
+#pragma GCC diagnostic push
+#pragma GCC diagnostic ignored "-Wredundant-decls" /* the name that the compiler gives it needs a declaration */
+#define MERGEJOIN_CALL_(name, or_taken, likely, given, passed)                                                              \
+  extern __typeof__(name) name##_ __asm__(#name);                                                                           \
+  static inline mergejoin_reply name(MERGEJOIN_LIST_ given, uint8_t *out, size_t capacity, size_t limit) __asm__(#name "_"); \
+  static inline mergejoin_reply name(MERGEJOIN_LIST_ given, uint8_t *out, size_t capacity, size_t limit) {                  \
+    return name##_(MERGEJOIN_LIST_ passed, MERGEJOIN_GIVEN_(uint8_t *, out, capacity), limit);                              \
+  }                                                                                                                         \
+  static inline char *name##_new(MERGEJOIN_LIST_ given, size_t limit, mergejoin_reply *reply) {                             \
+    mergejoin_buffer buffer = mergejoin_likely_(likely, limit);                                                             \
+    while (mergejoin_grow(&buffer, reply))                                                                                  \
+      *reply = or_taken name##_(MERGEJOIN_LIST_ passed, buffer.bytes, buffer.capacity, limit);                              \
+    return mergejoin_made_(&buffer, reply);                                                                                 \
   }
-  out[reply->length] = 0;
-  if (capacity - reply->length > reply->length / 8 + 512) less = realloc(out, reply->length + 1);
-  return MERGEJOIN_AS_(char *, less ? less : MERGEJOIN_AS_(void *, out));
-}
+#define MERGEJOIN_TAKEN_ reply->status == MERGEJOIN_CONFLICT ? mergejoin_patches_text_(it, buffer.bytes, buffer.capacity, limit) :
+#define MERGEJOIN_LIST_(...) __VA_ARGS__
+#define MERGEJOIN_GIVEN_(type, pointer, length) ((length) ? (pointer) : MERGEJOIN_AS_(type, MERGEJOIN_AS_(void *, &limit))), (length)
+#define MERGEJOIN_TEXT_(bytes, length) MERGEJOIN_GIVEN_(const uint8_t *, bytes, length)
+#define MERGEJOIN_TEXTS_(patches, count) MERGEJOIN_GIVEN_(const mergejoin_text *, patches, count)
+/* Of a document and patches, of two texts, of a handle and a text, and of a handle. */
+#define MERGEJOIN_ON_PATCHES_(name)                                                                     \
+  MERGEJOIN_CALL_(name, , mergejoin_lengths_(length, patches, count),                                   \
+                  (const uint8_t *bytes, size_t length, const mergejoin_text *patches, size_t count),   \
+                  (MERGEJOIN_TEXT_(bytes, length), MERGEJOIN_TEXTS_(patches, count)))
+#define MERGEJOIN_ON_TEXTS_(name, likely)                                                                   \
+  MERGEJOIN_CALL_(name, , likely, (const uint8_t *bytes, size_t length, const uint8_t *other, size_t more), \
+                  (MERGEJOIN_TEXT_(bytes, length), MERGEJOIN_TEXT_(other, more)))
+#define MERGEJOIN_OF_TEXT_(name, or_taken, handle, likely) \
+  MERGEJOIN_CALL_(name, or_taken, likely, (handle *it, const uint8_t *bytes, size_t length), (it, MERGEJOIN_TEXT_(bytes, length)))
+#define MERGEJOIN_OF_NONE_(name, handle, likely) MERGEJOIN_CALL_(name, , likely, (handle *it), (it))
 
-/* The text of a call that may be made again, with a buffer for `guess` bytes first. */
-#define MERGEJOIN_NEW_(guess, call)                           \
-  size_t capacity = mergejoin_capacity_(guess, limit);        \
-  uint8_t *out = mergejoin_buffer_(MERGEJOIN_NULL_, capacity, reply);    \
-  if (!out) { /* the text may be shorter */                   \
-    capacity = mergejoin_capacity_(0, limit);                 \
-    out = mergejoin_buffer_(out, capacity, reply);            \
-  }                                                           \
-  while (out) {                                               \
-    *reply = call;                                            \
-    if (reply->length < capacity) break;                      \
-    capacity = reply->length + 1;                             \
-    out = mergejoin_buffer_(out, capacity, reply);            \
-  }                                                           \
-  return mergejoin_text_in_(out, capacity, reply)
+/* How long texts are likely to be: one that is most often empty or a line, a part, and a document that a handle has. A line and an array
+ * have the places of a patch twice. */
+enum { MERGEJOIN_LINE_ = 256, MERGEJOIN_PART_ = 4096, MERGEJOIN_DOCUMENT_ = 65536 };
 
-static inline char *mergejoin_join_new(const mergejoin_text *patches, size_t count, size_t limit, mergejoin_reply *reply) {
-  MERGEJOIN_NEW_(mergejoin_lengths_(0, patches, count), mergejoin_join(patches, count, out, capacity, limit));
-}
+MERGEJOIN_CALL_(mergejoin_join, , mergejoin_lengths_(0, patches, count), (const mergejoin_text *patches, size_t count),
+                (MERGEJOIN_TEXTS_(patches, count)))
+MERGEJOIN_ON_PATCHES_(mergejoin_replay)
+MERGEJOIN_ON_PATCHES_(mergejoin_merge)
+MERGEJOIN_ON_TEXTS_(mergejoin_rewrite, length + 16 * more)
+MERGEJOIN_ON_TEXTS_(mergejoin_patch, length + more)
+MERGEJOIN_ON_TEXTS_(mergejoin_get, length)
+MERGEJOIN_OF_TEXT_(mergejoin_replica_start, , mergejoin_replica, MERGEJOIN_LINE_)
+MERGEJOIN_OF_TEXT_(mergejoin_replica_receive, , mergejoin_replica, 2 * length + MERGEJOIN_LINE_)
+MERGEJOIN_OF_NONE_(mergejoin_replica_document, mergejoin_replica, MERGEJOIN_DOCUMENT_)
+MERGEJOIN_OF_NONE_(mergejoin_replica_joined, mergejoin_replica, MERGEJOIN_DOCUMENT_)
+MERGEJOIN_OF_TEXT_(mergejoin_replica_get, , mergejoin_replica, MERGEJOIN_PART_)
+MERGEJOIN_OF_NONE_(mergejoin_patches_text, mergejoin_patches, MERGEJOIN_DOCUMENT_)
+MERGEJOIN_OF_NONE_(mergejoin_patches_kept, mergejoin_patches, MERGEJOIN_DOCUMENT_)
+MERGEJOIN_OF_TEXT_(mergejoin_patches_add, MERGEJOIN_TAKEN_, mergejoin_patches, 2 * length + MERGEJOIN_LINE_)
+MERGEJOIN_CALL_(mergejoin_patches_combine, MERGEJOIN_TAKEN_, MERGEJOIN_LINE_, (mergejoin_patches *it, mergejoin_patches *other), (it, other))
+MERGEJOIN_OF_TEXT_(mergejoin_patches_from_kept, MERGEJOIN_TAKEN_, mergejoin_patches, MERGEJOIN_LINE_)
+MERGEJOIN_CALL_(mergejoin_patch_log_start, , MERGEJOIN_LINE_, (mergejoin_patch_log *it, uint64_t epoch, const uint8_t *start, size_t length),
+                (it, epoch, MERGEJOIN_TEXT_(start, length)))
+MERGEJOIN_CALL_(mergejoin_patch_log_receive, , MERGEJOIN_LINE_,
+                (mergejoin_patch_log *it, uint64_t epoch, uint64_t sender, uint64_t number, const uint8_t *patch, size_t length),
+                (it, epoch, sender, number, MERGEJOIN_TEXT_(patch, length)))
+MERGEJOIN_OF_NONE_(mergejoin_patch_log_document, mergejoin_patch_log, MERGEJOIN_DOCUMENT_)
+MERGEJOIN_OF_NONE_(mergejoin_patch_log_conflicts, mergejoin_patch_log, MERGEJOIN_PART_)
+MERGEJOIN_CALL_(mergejoin_patch_log_conflicts_of, , MERGEJOIN_PART_, (mergejoin_patch_log *it, uint64_t sender, uint64_t number),
+                (it, sender, number))
+MERGEJOIN_OF_NONE_(mergejoin_patch_log_count, mergejoin_patch_log, MERGEJOIN_LINE_)
+MERGEJOIN_CALL_(mergejoin_patch_log_decide, , MERGEJOIN_LINE_, (mergejoin_patch_log *it, const mergejoin_identity *chosen, size_t count),
+                (it, MERGEJOIN_GIVEN_(const mergejoin_identity *, chosen, count)))
 
-static inline char *mergejoin_replay_new(const uint8_t *start, size_t start_length, const mergejoin_text *patches, size_t count,
-                                         size_t limit, mergejoin_reply *reply) {
-  MERGEJOIN_NEW_(mergejoin_lengths_(start_length, patches, count),
-                 mergejoin_replay(start, start_length, patches, count, out, capacity, limit));
-}
-
-static inline char *mergejoin_merge_new(const uint8_t *document, size_t document_length, const mergejoin_text *patches,
-                                        size_t count, size_t limit, mergejoin_reply *reply) {
-  MERGEJOIN_NEW_(mergejoin_lengths_(document_length, patches, count),
-                 mergejoin_merge(document, document_length, patches, count, out, capacity, limit));
-}
-
-static inline char *mergejoin_rewrite_new(const uint8_t *document, size_t document_length, const uint8_t *patch,
-                                          size_t patch_length, size_t limit, mergejoin_reply *reply) {
-  MERGEJOIN_NEW_(document_length + 16 * patch_length,
-                 mergejoin_rewrite(document, document_length, patch, patch_length, out, capacity, limit));
-}
-
-static inline char *mergejoin_patch_new(const uint8_t *document, size_t document_length, const uint8_t *json_patch,
-                                        size_t json_patch_length, size_t limit, mergejoin_reply *reply) {
-  MERGEJOIN_NEW_(document_length + json_patch_length,
-                 mergejoin_patch(document, document_length, json_patch, json_patch_length, out, capacity, limit));
-}
-
-static inline char *mergejoin_get_new(const uint8_t *document, size_t document_length, const uint8_t *pointer,
-                                      size_t pointer_length, size_t limit, mergejoin_reply *reply) {
-  MERGEJOIN_NEW_(document_length, mergejoin_get(document, document_length, pointer, pointer_length, out, capacity, limit));
-}
-
-static inline char *mergejoin_replica_start_new(mergejoin_replica *replica, const uint8_t *start, size_t length, size_t limit,
-                                                mergejoin_reply *reply) {
-  MERGEJOIN_NEW_(MERGEJOIN_WORDS_, mergejoin_replica_start(replica, start, length, out, capacity, limit));
-}
-
-static inline char *mergejoin_replica_receive_new(mergejoin_replica *replica, const uint8_t *patch, size_t length, size_t limit,
-                                                  mergejoin_reply *reply) {
-  MERGEJOIN_NEW_(MERGEJOIN_WORDS_, mergejoin_replica_receive(replica, patch, length, out, capacity, limit));
-}
-
-static inline char *mergejoin_replica_document_new(mergejoin_replica *replica, size_t limit, mergejoin_reply *reply) {
-  MERGEJOIN_NEW_(MERGEJOIN_DOCUMENT_, mergejoin_replica_document(replica, out, capacity, limit));
-}
-
-static inline char *mergejoin_replica_joined_new(mergejoin_replica *replica, size_t limit, mergejoin_reply *reply) {
-  MERGEJOIN_NEW_(MERGEJOIN_DOCUMENT_, mergejoin_replica_joined(replica, out, capacity, limit));
-}
-
-static inline char *mergejoin_replica_get_new(mergejoin_replica *replica, const uint8_t *pointer, size_t length, size_t limit,
-                                              mergejoin_reply *reply) {
-  MERGEJOIN_NEW_(MERGEJOIN_PART_, mergejoin_replica_get(replica, pointer, length, out, capacity, limit));
-}
-
-static inline char *mergejoin_patches_text_new(mergejoin_patches *patches, size_t limit, mergejoin_reply *reply) {
-  MERGEJOIN_NEW_(MERGEJOIN_DOCUMENT_, mergejoin_patches_text(patches, out, capacity, limit));
-}
-
-static inline char *mergejoin_patches_kept_new(mergejoin_patches *patches, size_t limit, mergejoin_reply *reply) {
-  MERGEJOIN_NEW_(MERGEJOIN_DOCUMENT_, mergejoin_patches_kept(patches, out, capacity, limit));
-}
-
-/* The text of a call that has taken patches. If it was cut, it is the places of a conflict, which are read again; if there is no
- * memory for them, there is no text. */
-static inline char *mergejoin_taken_(mergejoin_patches *patches, uint8_t *out, size_t capacity, size_t limit,
-                                     mergejoin_reply *reply) {
-  if (out && reply->length >= capacity) {
-    size_t longer = reply->length + 1;
-    uint8_t *places = MERGEJOIN_AS_(uint8_t *, malloc(longer));
-    reply->length = 0;
-    if (places) {
-      *reply = mergejoin_patches_text(patches, places, longer, limit);
-      free(out);
-      return mergejoin_text_in_(places, longer, reply);
-    }
-  }
-  return mergejoin_text_in_(out, capacity, reply);
-}
-
-/* Why a text is not a patch may end with a long place. Then nothing was taken, and the call is made again. */
-static inline char *mergejoin_patches_add_new(mergejoin_patches *patches, const uint8_t *patch, size_t length, size_t limit,
-                                              mergejoin_reply *reply) {
-  size_t capacity = mergejoin_capacity_(MERGEJOIN_WORDS_, SIZE_MAX);
-  uint8_t *out = mergejoin_buffer_(MERGEJOIN_NULL_, capacity, reply);
-  while (out) {
-    *reply = mergejoin_patches_add(patches, patch, length, out, capacity, limit);
-    if (reply->status != MERGEJOIN_PATCH || reply->length < capacity) break;
-    capacity = reply->length + 1;
-    out = mergejoin_buffer_(out, capacity, reply);
-  }
-  return mergejoin_taken_(patches, out, capacity, limit, reply);
-}
-
-static inline char *mergejoin_patches_combine_new(mergejoin_patches *patches, mergejoin_patches *other, size_t limit,
-                                                  mergejoin_reply *reply) {
-  size_t capacity = mergejoin_capacity_(MERGEJOIN_WORDS_, SIZE_MAX);
-  uint8_t *out = mergejoin_buffer_(MERGEJOIN_NULL_, capacity, reply);
-  if (out) *reply = mergejoin_patches_combine(patches, other, out, capacity, limit);
-  return mergejoin_taken_(patches, out, capacity, limit, reply);
-}
-
-/* The places of a kept conflict are in the text that is read, so they fit. */
-static inline char *mergejoin_patches_from_kept_new(mergejoin_patches *patches, const uint8_t *kept, size_t length, size_t limit,
-                                                    mergejoin_reply *reply) {
-  size_t capacity = mergejoin_capacity_(length, SIZE_MAX);
-  uint8_t *out = mergejoin_buffer_(MERGEJOIN_NULL_, capacity, reply);
-  if (out) *reply = mergejoin_patches_from_kept(patches, kept, length, out, capacity, limit);
-  return mergejoin_taken_(patches, out, capacity, limit, reply);
-}
-
-static inline char *mergejoin_patch_log_start_new(mergejoin_patch_log *log, uint64_t epoch, const uint8_t *start, size_t length,
-                                                  size_t limit, mergejoin_reply *reply) {
-  MERGEJOIN_NEW_(MERGEJOIN_WORDS_, mergejoin_patch_log_start(log, epoch, start, length, out, capacity, limit));
-}
-
-/* What became of a message fits, so none is received twice. */
-static inline char *mergejoin_patch_log_receive_new(mergejoin_patch_log *log, uint64_t epoch, uint64_t sender, uint64_t number,
-                                                    const uint8_t *patch, size_t length, size_t limit, mergejoin_reply *reply) {
-  MERGEJOIN_NEW_(MERGEJOIN_WORDS_,
-                 mergejoin_patch_log_receive(log, epoch, sender, number, patch, length, out, capacity, limit));
-}
-
-static inline char *mergejoin_patch_log_document_new(mergejoin_patch_log *log, size_t limit, mergejoin_reply *reply) {
-  MERGEJOIN_NEW_(MERGEJOIN_DOCUMENT_, mergejoin_patch_log_document(log, out, capacity, limit));
-}
-
-static inline char *mergejoin_patch_log_conflicts_new(mergejoin_patch_log *log, size_t limit, mergejoin_reply *reply) {
-  MERGEJOIN_NEW_(MERGEJOIN_PART_, mergejoin_patch_log_conflicts(log, out, capacity, limit));
-}
-
-static inline char *mergejoin_patch_log_conflicts_of_new(mergejoin_patch_log *log, uint64_t sender, uint64_t number, size_t limit,
-                                                         mergejoin_reply *reply) {
-  MERGEJOIN_NEW_(MERGEJOIN_PART_, mergejoin_patch_log_conflicts_of(log, sender, number, out, capacity, limit));
-}
-
-static inline char *mergejoin_patch_log_count_new(mergejoin_patch_log *log, size_t limit, mergejoin_reply *reply) {
-  MERGEJOIN_NEW_(MERGEJOIN_WORDS_, mergejoin_patch_log_count(log, out, capacity, limit));
-}
-
-static inline char *mergejoin_patch_log_decide_new(mergejoin_patch_log *log, const mergejoin_identity *chosen, size_t count,
-                                                   size_t limit, mergejoin_reply *reply) {
-  MERGEJOIN_NEW_(MERGEJOIN_WORDS_, mergejoin_patch_log_decide(log, chosen, count, out, capacity, limit));
-}
-
-#undef MERGEJOIN_NEW_
+#pragma GCC diagnostic pop
+#undef MERGEJOIN_OF_NONE_
+#undef MERGEJOIN_OF_TEXT_
+#undef MERGEJOIN_ON_TEXTS_
+#undef MERGEJOIN_ON_PATCHES_
+#undef MERGEJOIN_TEXTS_
+#undef MERGEJOIN_TEXT_
+#undef MERGEJOIN_GIVEN_
+#undef MERGEJOIN_LIST_
+#undef MERGEJOIN_TAKEN_
+#undef MERGEJOIN_CALL_
 #undef MERGEJOIN_NULL_
 #undef MERGEJOIN_AS_
 

@@ -34,14 +34,14 @@ static Group *group_of(sqlite3_context *context) { return sqlite3_aggregate_cont
 /* Joins a text with those before. That two conflict is no error yet. Returns false if an error is reported. */
 static bool join_text(sqlite3_context *context, Group *group, mergejoin_text text) {
   mergejoin_reply reply = mergejoin_patches_add(&group->joined, text.bytes, text.length, NULL, 0, 0);
-  char *words;
+  char *line;
 
   group->is_conflict = reply.status == MERGEJOIN_CONFLICT;
   if (reply.status == MERGEJOIN_RESULT || group->is_conflict) return true;
-  /* What is not a patch was not taken: this gives the words. */
-  words = reply.status == MERGEJOIN_PATCH ? mergejoin_patches_add_new(&group->joined, text.bytes, text.length, 0, &reply) : NULL;
-  refuse(context, words, &reply, true);
-  free(words);
+  /* What is not a patch was not taken: this gives the line. */
+  line = reply.status == MERGEJOIN_PATCH ? mergejoin_patches_add_new(&group->joined, text.bytes, text.length, 0, &reply) : NULL;
+  refuse(context, line, &reply);
+  free(line);
   return false;
 }
 
@@ -94,27 +94,24 @@ static void give_join(sqlite3_context *context, Group *group, bool is_null_of_co
     give(context, text, reply.length, free);
     return;
   }
-  if (!text || reply.status != MERGEJOIN_NO_PATCHES) refuse(context, text, &reply, true);
+  if (!text || reply.status != MERGEJOIN_NO_PATCHES) refuse(context, text, &reply);
   free(text);
 }
 
-/* Writes the least pair that conflicts, with all its places. */
-static void write_conflict(sqlite3_context *context, const char *places, const mergejoin_reply *reply) {
-  sqlite3_str *written;
-  char *text;
-  size_t count;
+/* Gives the least pair that conflicts, with all its places. */
+static void give_pair(sqlite3_context *context, const char *text, const mergejoin_reply *reply) {
+  size_t at = 0, count = 0;
+  char *written;
 
-  first_places(places, reply->length, SIZE_MAX, SIZE_MAX, &count);
+  while (mergejoin_next_place(text, reply, &at, NULL, 0) != SIZE_MAX) count += 1;
   if (count < reply->total) {
     sqlite3_result_error_toobig(context);
     return;
   }
-  written = sqlite3_str_new(NULL);
-  sqlite3_str_appendf(written, "{\"first\":%llu,\"second\":%llu,\"places\":%s}", (sqlite3_uint64)reply->first,
-                      (sqlite3_uint64)reply->second, places);
-  text = sqlite3_str_finish(written);
-  if (text)
-    give(context, text, strlen(text), sqlite3_free);
+  written = sqlite3_mprintf("{\"first\":%llu,\"second\":%llu,\"places\":%s}", (sqlite3_uint64)reply->first,
+                            (sqlite3_uint64)reply->second, text + reply->length - reply->places);
+  if (written)
+    give(context, written, strlen(written), sqlite3_free);
   else
     sqlite3_result_error_nomem(context);
 }
@@ -134,9 +131,9 @@ static void give_conflict(sqlite3_context *context, const Group *group) {
   text = mergejoin_join_new(list, group->texts.count, longest(context), &reply);
   sqlite3_free(list);
   if (text && reply.status == MERGEJOIN_CONFLICT)
-    write_conflict(context, text, &reply);
+    give_pair(context, text, &reply);
   else
-    refuse(context, text, &reply, false);
+    refuse(context, text, &reply);
   free(text);
 }
 

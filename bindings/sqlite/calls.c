@@ -7,9 +7,8 @@ SQLITE_EXTENSION_INIT3
 
 /* The subtype of JSON, by which SQLite's own functions take a text as a value and not as a string. */
 #define JSON_SUBTYPE 'J'
-/* A message has so many places of a conflict at most, and so many bytes of them before the last. */
-#define MOST_PLACES 100
-#define MOST_BYTES 65536
+/* A message has so many bytes of a line at most. */
+#define LONGEST_LINE 1000
 
 /* Borrows the text of a value that is not NULL, until the function returns: bytes of a blob as they are, and of a number what SQLite
  * writes it as. Returns false if memory ran out. */
@@ -38,135 +37,35 @@ void give(sqlite3_context *context, char *text, size_t length, void (*freed)(voi
   sqlite3_result_subtype(context, JSON_SUBTYPE);
 }
 
-/* Returns how many bytes the first elements of a JSON array of strings have, with the bracket before them: at most so many elements,
- * of which none begins after so many bytes. *count is how many those are. */
-size_t first_places(const char *places, size_t length, size_t most, size_t bytes, size_t *count) {
-  size_t end = length > 0 ? 1 : 0, at = end;
-  bool is_within = false;
-
-  for (*count = 0; at < length && *count < most && (is_within || at < bytes); at += 1) {
-    if (places[at] == '\\') {
-      at += 1;
-    } else if (places[at] == '"') {
-      is_within = !is_within;
-      if (is_within) continue;
-      *count += 1;
-      end = at + 1;
-    }
-  }
-  return end;
-}
-
-/* Writes where two patches conflict: the JSON array of places, or its beginning and how many there are, or that alone. */
-static void write_places(sqlite3_str *message, const char *places, const mergejoin_reply *reply) {
-  size_t count, end = first_places(places, reply->length, MOST_PLACES, MOST_BYTES, &count);
-  sqlite3_uint64 shown = count, total = reply->total;
-  const bool is_more = (reply->flags & MERGEJOIN_MORE) != 0;
-  const char *than = is_more ? "more than " : "";
-
-  if (shown == 0) {
-    sqlite3_str_appendf(message, ": %s%llu place%s", than, total, total == 1 ? "" : "s");
-    return;
-  }
-  sqlite3_str_appendf(message, ": %.*s]", (int)end, places);
-  if (shown < total || is_more) sqlite3_str_appendf(message, ", the first %llu of %s%llu places", shown, than, total);
-}
-
-/* Writes bytes of UTF-8 as a JSON string. */
-static void write_string(sqlite3_str *message, const char *bytes, size_t length) {
-  static const char escaped[] = "\"\\\b\t\n\f\r", spelled[] = "\"\\btnfr";
-
-  sqlite3_str_appendchar(message, 1, '"');
-  for (size_t at = 0; at < length; at += 1) {
-    const char *found = bytes[at] ? strchr(escaped, bytes[at]) : NULL;
-    if (found)
-      sqlite3_str_appendf(message, "\\%c", spelled[found - escaped]);
-    else if ((unsigned char)bytes[at] < ' ')
-      sqlite3_str_appendf(message, "\\u%04x", bytes[at]);
-    else
-      sqlite3_str_appendchar(message, 1, bytes[at]);
-  }
-  sqlite3_str_appendchar(message, 1, '"');
-}
-
-/* Writes why a text is not a document: which text, the words, and after them the place if there is one. */
-static void write_why(sqlite3_str *message, const char *which, const char *text, const mergejoin_reply *reply) {
-  size_t words = reply->total, at = words + strlen(" at ");
-
-  sqlite3_str_appendf(message, "%s: %.*s", which, (int)(words ? words : reply->length), text);
-  if (words == 0) return;
-  sqlite3_str_appendall(message, " at ");
-  write_string(message, text + at, reply->length - at);
-}
-
-/* Writes which two patches conflict, and where. Patches of a group have no numbers. */
-static int write_conflict(sqlite3_str *message, const char *text, const mergejoin_reply *reply, bool is_of_group) {
-  if (is_of_group)
-    sqlite3_str_appendall(message, "conflict: two patches of the group");
-  else
-    sqlite3_str_appendf(message, "conflict: patches %llu and %llu", (sqlite3_uint64)reply->first, (sqlite3_uint64)reply->second);
-  write_places(message, text, reply);
-  return SQLITE_CONSTRAINT_FUNCTION;
-}
-
-/* Writes the message of a reply, and returns the code of the error. */
-static int write_message(sqlite3_str *message, const char *text, const mergejoin_reply *reply, bool is_of_group) {
-  sqlite3_uint64 first = reply->first;
-
-  switch (reply->status) {
+/* Returns the code of an error. */
+static int code_of(uint32_t status) {
+  switch (status) {
     case MERGEJOIN_CONFLICT:
-      return write_conflict(message, text, reply, is_of_group);
+      return SQLITE_CONSTRAINT_FUNCTION;
     case MERGEJOIN_REFUSED:
-      sqlite3_str_appendf(message, "operation %llu: %s", first, text);
       return SQLITE_CONSTRAINT_CHECK;
-    case MERGEJOIN_DOCUMENT:
-      write_why(message, "document", text, reply);
-      break;
-    case MERGEJOIN_PATCH:
-      if (!is_of_group) sqlite3_str_appendf(message, "patch %llu", first);
-      write_why(message, is_of_group ? "patch of the group" : "", text, reply);
-      break;
-    case MERGEJOIN_FORM:
-      if (strcmp(text, "not an array") != 0) sqlite3_str_appendf(message, "operation %llu: ", first);
-      sqlite3_str_appendall(message, text);
-      break;
-    case MERGEJOIN_POINTER:
-      sqlite3_str_appendf(message, "pointer: %s", text);
-      if (strcmp(text, "no slash") != 0) sqlite3_str_appendf(message, " at %llu", first);
-      break;
-    case MERGEJOIN_NO_PATCHES:
-      sqlite3_str_appendall(message, text);
-      break;
+    case MERGEJOIN_TOO_LARGE:
+      return SQLITE_TOOBIG;
     default:
-      sqlite3_str_appendf(message, "mergejoin returns status %u", (unsigned)reply->status);
-      return SQLITE_INTERNAL;
+      return SQLITE_ERROR;
   }
-  return SQLITE_ERROR;
 }
 
-/* Reports what the library refuses: the message begins as the program's line. Patches of a group have no numbers. */
-void refuse(sqlite3_context *context, const char *text, const mergejoin_reply *reply, bool is_of_group) {
-  sqlite3_str *message;
-  char *written;
-  int code, length;
+/* Reports what the library refuses by its line, or as much of that as a message may have. */
+void refuse(sqlite3_context *context, const char *text, const mergejoin_reply *reply) {
+  size_t length = reply->length - reply->places;
+  bool is_cut = length > LONGEST_LINE;
+  char *line;
 
-  if (!text || reply->status == MERGEJOIN_NO_MEMORY || reply->status == MERGEJOIN_PENDING) {
-    sqlite3_result_error_nomem(context);
-    return;
-  }
-  if (reply->status == MERGEJOIN_TOO_LARGE) {
-    sqlite3_result_error_toobig(context);
-    return;
-  }
-  message = sqlite3_str_new(NULL);
-  code = write_message(message, text, reply, is_of_group);
-  length = sqlite3_str_length(message);
-  written = sqlite3_str_finish(message);
-  if (written) {
-    sqlite3_result_error(context, written, length);
-    sqlite3_result_error_code(context, code);
+  if (is_cut)
+    for (length = LONGEST_LINE; (text[length] & 0xC0) == 0x80;) length -= 1; /* within a character */
+  /* (without a line memory ran out for it) */
+  line = text && length && reply->status != MERGEJOIN_PENDING ? sqlite3_mprintf("%.*s%s", (int)length, text, is_cut ? ".." : "") : NULL;
+  if (line) {
+    sqlite3_result_error(context, line, -1);
+    sqlite3_result_error_code(context, code_of(reply->status));
   } else {
     sqlite3_result_error_nomem(context);
   }
-  sqlite3_free(written);
+  sqlite3_free(line);
 }

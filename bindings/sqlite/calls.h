@@ -17,14 +17,13 @@
 #define FUNCTION_FLAGS (SQLITE_UTF8 | SQLITE_DETERMINISTIC | SQLITE_RESULT_SUBTYPE)
 /* What a function is that takes about as much time and memory as its arguments are long: a schema that is not trusted may call it. */
 #define LINEAR SQLITE_INNOCUOUS
-/* The limit of places that a message shows: it has the first hundred, of 64 kB at most. */
-#define SHOWN_PLACES 262144
+/* The limit of places that a message shows, of which it has the first ones. */
+#define SHOWN_PLACES 32768
 
 bool borrow(sqlite3_value *value, mergejoin_text *text);
 size_t longest(sqlite3_context *context);
 void give(sqlite3_context *context, char *text, size_t length, void (*freed)(void *));
-void refuse(sqlite3_context *context, const char *text, const mergejoin_reply *reply, bool is_of_group);
-size_t first_places(const char *places, size_t length, size_t most, size_t bytes, size_t *count);
+void refuse(sqlite3_context *context, const char *text, const mergejoin_reply *reply);
 
 int add_functions(sqlite3 *db);
 int add_aggregates(sqlite3 *db);

@@ -9,64 +9,50 @@ SQLITE_EXTENSION_INIT3
  * a byte of their text. */
 #define WEIGHT 650
 
-/* A function that makes a call with texts. */
+/* A function that makes a call with texts: of a document and patches, or of two texts; or else it is mergejoin_join. */
 typedef struct Function {
   const char *name;
   int count; /* of its arguments, or -1 for any number */
   int least; /* of these */
   int flags; /* LINEAR, or none: copies may double a document, and edits be the square of what is read */
-  char *(*call)(const mergejoin_text *texts, size_t count, size_t limit, mergejoin_reply *reply);
+  char *(*on_patches)(const uint8_t *, size_t, const mergejoin_text *, size_t, size_t limit, mergejoin_reply *);
+  char *(*on_texts)(const uint8_t *, size_t, const uint8_t *, size_t, size_t limit, mergejoin_reply *);
 } Function;
 
-/* Returns the limit of a join or a replay: a result is no longer than what is read, and of places a message shows the first ones. */
-static size_t limit_of(const mergejoin_text *texts, size_t count, size_t limit) {
-  size_t most = 2 * mergejoin_lengths_(0, texts, count) + SHOWN_PLACES;
-  return most < limit ? most : limit;
-}
-
-static char *join(const mergejoin_text *texts, size_t count, size_t limit, mergejoin_reply *reply) {
-  return mergejoin_join_new(texts, count, limit_of(texts, count, limit), reply);
-}
-
-static char *replay(const mergejoin_text *texts, size_t count, size_t limit, mergejoin_reply *reply) {
-  return mergejoin_replay_new(texts->bytes, texts->length, texts + 1, count - 1, limit_of(texts, count, limit), reply);
-}
-
-static char *merge(const mergejoin_text *texts, size_t count, size_t limit, mergejoin_reply *reply) {
-  return mergejoin_merge_new(texts->bytes, texts->length, texts + 1, count - 1, limit, reply);
-}
-
-static char *rewrite(const mergejoin_text *texts, size_t count, size_t limit, mergejoin_reply *reply) {
-  limit += WEIGHT * mergejoin_lengths_(0, texts, count);
-  return mergejoin_rewrite_new(texts[0].bytes, texts[0].length, texts[1].bytes, texts[1].length, limit, reply);
-}
-
-static char *patch(const mergejoin_text *texts, size_t count, size_t limit, mergejoin_reply *reply) {
-  limit += WEIGHT * mergejoin_lengths_(0, texts, count);
-  return mergejoin_patch_new(texts[0].bytes, texts[0].length, texts[1].bytes, texts[1].length, limit, reply);
-}
-
-static char *get(const mergejoin_text *texts, size_t count, size_t limit, mergejoin_reply *reply) {
-  (void)count;
-  return mergejoin_get_new(texts[0].bytes, texts[0].length, texts[1].bytes, texts[1].length, limit, reply);
-}
-
 static const Function functions[] = {
-    {"mergejoin_join", -1, 0, LINEAR, join},   {"mergejoin_replay", -1, 1, LINEAR, replay},
-    {"mergejoin_merge", -1, 1, LINEAR, merge}, {"mergejoin_rewrite", 2, 2, 0, rewrite},
-    {"mergejoin_patch", 2, 2, 0, patch},       {"mergejoin_get", 2, 2, LINEAR, get},
+    {"mergejoin_join", -1, 0, LINEAR, NULL, NULL},
+    {"mergejoin_replay", -1, 1, LINEAR, mergejoin_replay_new, NULL},
+    {"mergejoin_merge", -1, 1, LINEAR, mergejoin_merge_new, NULL},
+    {"mergejoin_rewrite", 2, 2, 0, NULL, mergejoin_rewrite_new},
+    {"mergejoin_patch", 2, 2, 0, NULL, mergejoin_patch_new},
+    {"mergejoin_get", 2, 2, LINEAR, NULL, mergejoin_get_new},
 };
+
+/* Returns the limit of a call. A result of a linear one is no longer than what is read, and of places a message shows the first ones. */
+static size_t limit_of(const Function *function, const mergejoin_text *texts, size_t count, size_t longest) {
+  size_t length = mergejoin_lengths_(0, texts, count), most = 2 * length + SHOWN_PLACES;
+
+  if (function->flags != LINEAR) return longest + WEIGHT * length;
+  return most < longest ? most : longest;
+}
 
 /* Makes the call with texts, and gives what it returns. What is missing is NULL. */
 static void make_call(sqlite3_context *context, const Function *function, const mergejoin_text *texts, size_t count) {
+  size_t limit = limit_of(function, texts, count, longest(context));
   mergejoin_reply reply;
-  char *text = function->call(texts, count, longest(context), &reply);
+  char *text;
 
+  if (function->on_patches)
+    text = function->on_patches(texts->bytes, texts->length, texts + 1, count - 1, limit, &reply);
+  else if (function->on_texts)
+    text = function->on_texts(texts[0].bytes, texts[0].length, texts[1].bytes, texts[1].length, limit, &reply);
+  else
+    text = mergejoin_join_new(texts, count, limit, &reply);
   if (text && reply.status == MERGEJOIN_RESULT) {
     give(context, text, reply.length, free);
     return;
   }
-  if (!text || reply.status != MERGEJOIN_MISSING) refuse(context, text, &reply, false);
+  if (!text || reply.status != MERGEJOIN_MISSING) refuse(context, text, &reply);
   free(text);
 }
 

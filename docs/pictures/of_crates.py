@@ -14,8 +14,8 @@ TOP = pathlib.Path(__file__).resolve().parent.parent.parent
 # Each crate: its row, from the top, and its sides.
 PLACES = {
     "test_vectors": (0, 142, 520), "allocation_failures": (1, 170, 450), "library_example": (1, 470, 618), "replica_runs": (1, 628, 752),
-    "mp_c": (1, 762, 1120), "mergejoin": (2, 10, 128), "workloads": (2, 192, 420), "mp_replica": (2, 432, 1120), "mp_cli": (3, 10, 304),
-    "mp_texts": (3, 316, 1120), "mp_merge": (4, 10, 1120), "mp_patch": (5, 10, 1120), "mp_pointer": (6, 10, 1120), "mp_tree": (7, 10, 1120),
+    "mp_c": (1, 762, 1120), "mergejoin": (2, 10, 128), "workloads": (2, 192, 420), "mp_replica": (3, 432, 1120), "mp_cli": (3, 10, 304),
+    "mp_texts": (4, 10, 1120), "mp_merge": (5, 10, 1120), "mp_patch": (6, 10, 1120), "mp_pointer": (7, 10, 1120), "mp_tree": (8, 10, 1120),
 }
 # The bindings, which are in the first row, above the crate that each uses.
 BINDINGS, BELOW = ("C", "Rust", "Python", "PostgreSQL", "SQLite"), "mp_c"

@@ -158,8 +158,9 @@ def main():
             shutil.copytree(path, stage / path.name)
         elif path.suffix == ".md" or path.name == "conf.py":
             shutil.copyfile(path, stage / path.name)
-    # (what the calls become without null is of the compiler alone)
-    plain = re.sub(r"^#pragma GCC diagnostic push.*?^#pragma GCC diagnostic pop$", "", HEADER.read_text("utf-8"), flags=re.M | re.S)
+    # (the table of the calls is of the compiler alone: the page has what it makes)
+    made = "".join(f"static inline {call.prototype};\n" for call in Header().owned)
+    plain = re.sub(r"^#pragma GCC diagnostic push.*?^#pragma GCC diagnostic pop$", made, HEADER.read_text("utf-8"), flags=re.M | re.S)
     # (doxygen links the names of statuses that are marked)
     marked = re.sub(r"/\*\*.*?\*/", lambda comment: re.sub(r"(?<=[ (])(MERGEJOIN_[A-Z_]+[A-Z])\b", r"#\1", comment[0]), plain, flags=re.S)
     (stage / "mergejoin.h").write_text(marked, "utf-8")

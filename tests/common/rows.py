@@ -1,5 +1,7 @@
-"""Rows for what calls the library: an export, the status, the numbers and the text of its reply, and the texts that it is
-given. They are the test vectors (`vectors.py`), each line of the program as a reply, and those below.
+"""Rows for what calls the library: an export, the status and the numbers of its reply, what that says, and the texts that it is
+given. They are the test vectors (`vectors.py`), each line of the program as a reply, and those below. What a reply says is here the
+result, the words of a cause, with the place after them if there is one, or the array of the places of a conflict: `line_of` and
+`whole_of` give its line and its whole text.
 """
 
 import json
@@ -12,8 +14,7 @@ EXPORTS = ["join", "replay", "merge", "rewrite", "patch", "get"]
 DEEP = b"[" * 127 + b"]" * 127
 TOO_DEEP = "too deep at " + "/0" * 126
 
-# Each export on what the program can't be given, since it reads one text: the status, the numbers, the text, the texts. After the
-# words for a text that is no document there is the place of the value for which it is none, if there is one.
+# Each export on what the program can't be given, since it reads one text: the status, the numbers, what is said, the texts.
 ROWS = [
     ("join", 2, 0, 0, "no patches", []),
     ("join", 6, 0, 0, "not JSON", [b""]),
@@ -72,13 +73,26 @@ def text_of(document):
     return json.dumps(document, ensure_ascii=False, separators=(",", ":"))
 
 
-def total_of(status, text):
-    """Gives the number `total` of a reply of this status and text: how many places there are, of a conflict; how many bytes the words
-    have, of a text that is no document, if a place follows them; and else 0."""
+def places_of(status, text):
+    """Gives the places that a reply of this status has at its end: of a conflict, or of a text that is no document."""
     if status == 1:
-        return len(json.loads(text))
-    words, at, _ = text.partition(" at ")
-    return len(words) if status in (5, 6) and at else 0
+        return json.loads(text)
+    _, at, place = text.partition(" at ")
+    return [place] if status in (5, 6) and at else []
+
+
+def total_of(status, text):
+    """Gives the number `total` of such a reply."""
+    return len(places_of(status, text))
+
+
+def at_places(places, total, is_more):
+    """Gives where a conflict is, as a line has it, of as many places as are shown, and how many there are in all."""
+    rest = total - len(places)
+    if not places:
+        return "" if is_more else f" at {total} place{'s' * (total != 1)}"
+    listed = ", ".join(json.dumps(place, ensure_ascii=False) for place in places)
+    return f" at {listed}{' and more' if is_more else f' and {rest} more' if rest else ''}"
 
 
 def elements_of(text):
@@ -107,18 +121,34 @@ def reply_of(line, status):
     return {"missing": 4, "no patches": 2}[line], 0, 0, line
 
 
-def line_of(status, first, second, text):
-    """Gives the text of a result, or the line of the program that has what a reply says."""
+def line_of(status, first, second, text, total=None, is_more=False, which=None):
+    """Gives the text of a result, or the line of a reply, which is that of the program. `which` are the patches of a conflict, if these are
+    not numbered."""
+    places = places_of(status, text)
     if status == 1:
-        places = ", ".join(json.dumps(place, ensure_ascii=False) for place in json.loads(text))
-        return f"conflict: patches {first} and {second} at {places}"
-    if status in (5, 6) and " at " in text:
-        words, _, place = text.partition(" at ")
-        text = f"{words} at {json.dumps(place, ensure_ascii=False)}"
+        which = which or f"patches {first} and {second}"
+        return f"conflict: {which}{at_places(places, len(places) if total is None else total, is_more)}"
+    if places:
+        text = f"{text.partition(' at ')[0]} at {json.dumps(places[0], ensure_ascii=False)}"
     at = "" if text == "no slash" else f" at {first}"
-    of_operation = text if text == "not an array" else f"operation {first}: {text}"
+    if text in ("not an array", "no number is left for a start", "not kept patches"):
+        return text
+    of_operation = f"operation {first}: {text}"
     return {3: of_operation, 5: f"document: {text}", 6: f"patch {first}: {text}", 7: of_operation,
-            8: f"pointer: {text}{at}"}.get(status, text)
+            8: f"pointer: {text}{at}", 11: "too large"}.get(status, text)
+
+
+def clipped(line):
+    """Gives a line as the message of a database has it: at most 1,000 bytes of it, and no part of a character."""
+    data = line.encode()
+    return line if len(data) <= 1000 else f"{data[:1000].decode(errors='ignore')}.."
+
+
+def whole_of(status, first, second, text, *how, **more):
+    """Gives the whole text of a reply, and how many bytes of it the array of places has."""
+    is_with_places = status == 1 or places_of(status, text)
+    array = text_of(places_of(status, text)) if is_with_places else ""
+    return line_of(status, first, second, text, *how, **more) + array, len(array.encode())
 
 
 def vector_rows():

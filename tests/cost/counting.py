@@ -18,7 +18,7 @@ import table
 from calls import TOP
 from rows import EXPORTS
 
-LIBRARY = TOP / "out/lib/libmergejoin.so.1"
+LIBRARY = TOP / "out/lib/libmergejoin.so.2"
 WORKLOADS = TOP / "crates/workloads/out/workloads"
 RUNS = TOP / "crates/replica_runs/out/replica_runs"
 # The jobs of the benchmark, each with one of its inputs and this seed.

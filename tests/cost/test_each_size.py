@@ -72,7 +72,12 @@ def wanted(status, document):
 
 def by_library(driver, export, values):
     texts = [text_of(value).encode() for value in values] + ([b""] if export == "get" else [])
-    return run([driver], input_of(export, texts))[:2]
+    status, text = run([driver], input_of(export, texts))[:2]
+    if status == 0:
+        return status, text
+    line, bracket, array = text.partition("[")  # (which is in no place)
+    said = reply_of(line, status)[3]
+    return status, said if bracket + array in ("", said) else text
 
 
 def by_program(program, export, values):

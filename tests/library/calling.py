@@ -13,7 +13,7 @@ class Text(ctypes.Structure):
 
 
 class Reply(ctypes.Structure):
-    _fields_ = [(name, ctypes.c_size_t) for name in ("length", "first", "second", "total", "spare")] + [
+    _fields_ = [(name, ctypes.c_size_t) for name in ("length", "first", "second", "total", "places")] + [
         (name, ctypes.c_uint32) for name in ("status", "flags")]
 
 
@@ -23,6 +23,7 @@ class Said(typing.NamedTuple):
     second: int
     total: int
     text: bytes
+    places: int  # how many bytes at the end of the text
 
 
 class Six:
@@ -40,8 +41,8 @@ class Six:
         function = getattr(self.library, f"mergejoin_{name}")
         function.restype = Reply
         reply = function(*words, self.buffer, ctypes.c_size_t(len(self.buffer)), ctypes.c_size_t(limit))
-        assert reply.length <= len(self.buffer) and reply.spare == reply.flags == 0
-        return Said(reply.status, reply.first, reply.second, reply.total, self.buffer[:reply.length])
+        assert reply.places <= reply.length <= len(self.buffer) and reply.flags == 0
+        return Said(reply.status, reply.first, reply.second, reply.total, self.buffer[:reply.length], reply.places)
 
     def of_texts(self, name, texts):
         """Gives the same of texts in one list, as those of tests/common/rows.py."""
@@ -49,6 +50,6 @@ class Six:
         return self.reply(name, *given)
 
     def __call__(self, name, *given):
-        """Gives the status, the total and the text."""
+        """Gives the status, the total and the text, or of a conflict the array of its places."""
         said = self.reply(name, *given)
-        return said.status, said.total, said.text
+        return said.status, said.total, said.text[-said.places:] if said.status == driving.CONFLICT else said.text

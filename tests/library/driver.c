@@ -1,4 +1,4 @@
-// Makes calls as a script says, and prints of each its name, the status, the numbers, the flags and the length of the reply, how many requests
+// Makes calls as a script says, and prints of each its name, the status, the numbers, the flags, the length and the places of the reply, how many requests
 // to the heap were refused meanwhile, how many bytes of stack it took, how many the block has that a helper made, and the text.
 // Standard input has a command a line:
 //
@@ -89,8 +89,8 @@ static void make(void *made) {
   if (!strcmp(it->name, "log_free")) mergejoin_patch_log_free(log);
 }
 
-// Whether what has no meaning is 0.
-static int is_plain(const mergejoin_reply *reply) { return !reply->spare && !(reply->flags & ~MERGEJOIN_MORE); }
+// Whether what has no meaning is 0, and the places are a part of the text.
+static int is_plain(const mergejoin_reply *reply) { return reply->places <= reply->length && !(reply->flags & ~MERGEJOIN_MORE); }
 
 // Whether that is so, and the buffer has dots after the text.
 static int is_intact(const mergejoin_reply *reply) {
@@ -106,8 +106,8 @@ static void print(const call *it, size_t stack) {
   size_t shown = reply->length < capacity || it->made ? reply->length : capacity;
   int is_well = it->made ? !it->made[shown] && is_plain(reply) : is_intact(reply);
   if (is_new && it->is_made && !it->made != (reply->status == MERGEJOIN_NO_MEMORY)) is_well = 0;
-  printf("%s %u %zu %zu %zu %u %zu %zu %zu %zu %s ", it->name, reply->status, reply->first, reply->second, reply->total, reply->flags,
-         reply->length, is_asked ? requests : refusals, stack, malloc_usable_size(it->made), is_well ? "intact" : "spoilt");
+  printf("%s %u %zu %zu %zu %u %zu %zu %zu %zu %zu %s ", it->name, reply->status, reply->first, reply->second, reply->total, reply->flags,
+         reply->length, reply->places, is_asked ? requests : refusals, stack, malloc_usable_size(it->made), is_well ? "intact" : "spoilt");
   fwrite(it->made ? it->made : (const char *)buffer, 1, is_new && !it->made ? 0 : shown, stdout);
   putchar('\n');
 }

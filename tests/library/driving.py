@@ -9,10 +9,11 @@ import subprocess
 import typing
 
 from calls import TOP
+from rows import whole_of
 
 HERE = pathlib.Path(__file__).resolve().parent
 HEADER, LIBRARIES = TOP / "out/include/mergejoin.h", TOP / "out/lib"
-STATIC, SHARED = LIBRARIES / "libmergejoin.a", LIBRARIES / "libmergejoin.so.1"
+STATIC, SHARED = LIBRARIES / "libmergejoin.a", LIBRARIES / "libmergejoin.so.2"
 WARNINGS = ["-Wall", "-Wextra", "-Wpedantic", "-Wconversion", "-Wshadow", "-Werror"]
 WRAPPED = ["-Wl,--wrap=malloc,--wrap=realloc,--wrap=free", "-pthread"]
 MEMCHECK = ["valgrind", "-q", "--error-exitcode=9", "--leak-check=full", "--show-leak-kinds=all", "--errors-for-leak-kinds=all"]
@@ -29,6 +30,7 @@ class Reply(typing.NamedTuple):
     total: int
     flags: int
     length: int
+    places: int
     refusals: int
     stack: int
     block: int
@@ -38,6 +40,10 @@ class Reply(typing.NamedTuple):
     def said(self):
         """The status, the numbers, after them the flags if they are not 0, and the text."""
         return [self.status, self.first, self.second, self.total, *([self.flags] if self.flags else []), self.text]
+
+    def whole(self):
+        """The same, the length of the text, and how many bytes of it are places."""
+        return self.said(), self.length, self.places
 
 
 class Heap(typing.NamedTuple):
@@ -98,7 +104,7 @@ def replies(words, lines):
         if line.startswith("heap "):
             heaps.append(Heap(*map(int, line.split()[1:])))
             continue
-        name, *numbers, intact, text = re.fullmatch(r"(\w+)" + r" (\d+)" * 9 + r" (\w+) (.*)", line).groups()
+        name, *numbers, intact, text = re.fullmatch(r"(\w+)" + r" (\d+)" * 10 + r" (\w+) (.*)", line).groups()
         found.append(Reply(name, *map(int, numbers), intact, text))
     assert all(it.intact == "intact" for it in found), next(it for it in found if it.intact != "intact")
     return found, heaps
@@ -123,23 +129,43 @@ def last(words, scripts):
     return [found[-1] for found in each(words, scripts)]
 
 
+# The calls whose conflicts are those of patches with numbers.
+NUMBERED = ("join_of", "replay_of", "log_decide")
+
+
+def whole(line, wanted):
+    """Gives what Reply.whole gives of a call that says what is wanted: the status, the numbers, the flags if they are not 0, and what is said,
+    as rows.py has it."""
+    *numbers, text = wanted
+    status, first, second, total, *flags = numbers
+    is_numbered = line.startswith(NUMBERED)
+    text, places = whole_of(status, first, second, text, total, bool(flags), None if is_numbered else "two patches")
+    return [*numbers, text], len(text.encode()), places
+
+
 def compare(words, rows):
     """Each row is replied to as it says: the lines before, the call, and what its reply says."""
     rows = list(rows)
     found = last(words, ([*before, line] for before, line, *_ in rows))
     for (_, line, *wanted), reply in zip(rows, found):
-        assert reply.said() == wanted and reply.length == len(wanted[-1].encode()), (line, reply)
+        assert reply.whole() == whole(line, wanted), (line, reply)
     return found
+
+
+def size_of(row):
+    """How many bytes the text of a row has."""
+    _, line, *wanted = row
+    return whole(line, wanted)[1]
 
 
 def compare_in_buffers(words, rows, sizes=lambda length: range(length + 3)):
     """So it is in buffers of these sizes, of which each has the beginning of the text, as far as it goes."""
-    tried = [(capacity, row) for row in rows for capacity in sizes(len(row[-1].encode()))]
+    tried = [(capacity, row) for row in rows for capacity in sizes(size_of(row))]
     found = last(words, ([*before, f"capacity {capacity}", line] for capacity, (before, line, *_) in tried))
     for (capacity, (_, line, *wanted)), reply in zip(tried, found):
-        text = wanted.pop().encode()
-        cut = text[:capacity].decode(errors="surrogateescape")
-        assert reply.said() == [*wanted, cut] and reply.length == len(text), (line, capacity, reply)
+        (*numbers, text), *sizes_of_it = whole(line, wanted)
+        cut = text.encode()[:capacity].decode(errors="surrogateescape")
+        assert reply.whole() == ([*numbers, cut], *sizes_of_it), (line, capacity, reply)
     print(f"{len(found)} calls in buffers")
 
 
@@ -168,7 +194,7 @@ def weight_of(place):
 
 def within(limit, wanted, weight=lambda place: 0):
     """Gives what is said within a limit, of what is said without one: of a conflict as many of the first places as weigh at most
-    the limit together and make no longer an array, and no text if that of none is longer."""
+    the limit together and make no longer an array, or none."""
     status, *numbers, text = wanted
     if status == RESULT and limit < len(text.encode()):
         return [TOO_LARGE, 0, 0, 0, ""]
@@ -176,7 +202,7 @@ def within(limit, wanted, weight=lambda place: 0):
         places = json.loads(text)
         firsts = (places[:count] for count in range(len(places) + 1))
         arrays = (written(first) for first in firsts if sum(map(weight, first)) <= limit)
-        text = max(("", *(it for it in arrays if len(it.encode()) <= limit)), key=len)
+        text = max(("[]", *(it for it in arrays if len(it.encode()) <= limit)), key=len)
     return [status, *numbers, text]
 
 

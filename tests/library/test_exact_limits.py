@@ -74,10 +74,10 @@ MEASURED = [
 
 # A document, a JSON Patch, a limit, and what is said: what is refused comes before what is too large, at one operation.
 FIRST_ERRORS = [
-    ("{}", '[{"op":"add","path":"/a/b","value":"long"}]', 0, [REFUSED, 0, 0, 0, "no place"]),
-    ("[]", '[{"op":"add","path":"/-","value":1},{"op":"remove","path":"/5"}]', 119, [TOO_LARGE, 0, 0, 0, ""]),
-    ("[]", '[{"op":"add","path":"/-","value":1},{"op":"remove","path":"/5"}]', 120, [REFUSED, 1, 0, 0, "missing"]),
-    ("[1]", '[{"op":"test","path":"/0","value":2}]', 0, [REFUSED, 0, 0, 0, "test failed"]),
+    ("{}", '[{"op":"add","path":"/a/b","value":"long"}]', 0, [REFUSED, 0, 0, 0, "operation 0: no place"]),
+    ("[]", '[{"op":"add","path":"/-","value":1},{"op":"remove","path":"/5"}]', 119, [TOO_LARGE, 0, 0, 0, "too large"]),
+    ("[]", '[{"op":"add","path":"/-","value":1},{"op":"remove","path":"/5"}]', 120, [REFUSED, 1, 0, 0, "operation 1: missing"]),
+    ("[1]", '[{"op":"test","path":"/0","value":2}]', 0, [REFUSED, 0, 0, 0, "operation 0: test failed"]),
     ("[1]", "[]", 3, [RESULT, 0, 0, 0, "[1]"]),
 ]
 
@@ -106,12 +106,12 @@ def within(driver, export, *texts, limits):
 @pytest.mark.parametrize("doc,edits,limit,op", patches(), ids=lambda it: str(it)[:40])
 def test_a_patch_has_its_result_within_the_limit_and_none_below(driver, doc, edits, limit, op):
     wanted, exact, below = within(driver, "patch", doc, edits, limits=(limit, limit - 1))
-    assert (wanted[0], exact, below) == (RESULT, wanted, [TOO_LARGE, op, 0, 0, ""])
+    assert (wanted[0], exact, below) == (RESULT, wanted, [TOO_LARGE, op, 0, 0, "too large"])
 
 
 def test_a_document_that_is_copied_into_itself_is_too_large_soon(driver):
     found = said(driver, [("patch", (doc, f"[{','.join([COPY_INTO] * 60)}]"), 1_000_000) for doc, *_ in COPIED])
-    assert found == [[TOO_LARGE, op, 0, 0, ""] for *_, op in COPIED]
+    assert found == [[TOO_LARGE, op, 0, 0, "too large"] for *_, op in COPIED]
 
 
 @pytest.mark.parametrize("doc,edits,limit,wanted", FIRST_ERRORS)
@@ -122,18 +122,18 @@ def test_the_first_error_is_said(driver, doc, edits, limit, wanted):
 @pytest.mark.parametrize("doc,patch,limit,fitting", REWRITTEN)
 def test_so_many_operations_of_a_rewriting_fit(driver, doc, patch, limit, fitting):
     wanted, found = within(driver, "rewrite", doc, patch, limits=(limit,))
-    assert wanted[0] == RESULT and found == (wanted if fitting is None else [TOO_LARGE, fitting, 0, 0, ""])
+    assert wanted[0] == RESULT and found == (wanted if fitting is None else [TOO_LARGE, fitting, 0, 0, "too large"])
 
 
 @pytest.mark.parametrize("text,length", MEASURED)
 def test_a_text_is_measured(driver, text, length):
     wanted, *found = within(driver, "get", text, "", limits=(length, length + 1, length - 1, 0))
     assert wanted[0] == RESULT and len(wanted[-1].encode()) == length and json.loads(wanted[-1]) == json.loads(text)
-    assert found == [wanted, wanted, [TOO_LARGE, 0, 0, 0, ""], [TOO_LARGE, 0, 0, 0, ""]]
+    assert found == [wanted, wanted, [TOO_LARGE, 0, 0, 0, "too large"], [TOO_LARGE, 0, 0, 0, "too large"]]
 
 
 def test_an_escaped_text_is_within_the_limit(driver):
-    longer = [TOO_LARGE, 0, 0, 0, ""]
+    longer = [TOO_LARGE, 0, 0, 0, "too large"]
     edits = f'[{{"op":"replace","path":"","value":{ESCAPED}}}]'
     wanted, *found = within(driver, "patch", "0", edits, limits=(602, 601, 180, 179))
     assert wanted[-1] == ESCAPED and found == [wanted, longer, longer, longer]

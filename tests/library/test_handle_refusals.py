@@ -12,7 +12,8 @@ ONE, NEXT = {"a": {"b": 1, "c": {"d": "text"}}, "k": None}, {"a": {"e": [1, {"f"
 OTHER, APART = {"a": {"b": 2, "c": 5}}, {"z": {"y": {"x": "w"}}}
 BESIDE = {"y": [{"x": "w"}], "k": None}
 # Two that conflict at so many places that the helper's first buffer is too short for them.
-WIDE, WIDER = ({f"a long name of a member {number:02}": value for number in range(30)} for value in (1, 2))
+LONG = "a long name " * 5
+WIDE, WIDER = ({LONG: {f"a member {number:02}": value for number in range(20)}} for value in (1, 2))
 MOST, SOME = 400, 40  # more requests than a call makes, and how many are tried in one run of the driver
 OF_REPLICA = [call("document"), call("joined"), call("get", 0, b"/a")]
 OF_PATCHES = [call("text"), call("kept"), call("text", 1), call("kept", 1)]
@@ -128,12 +129,12 @@ def unrefused(words, *scripts):
 
 def is_answer(reply, wanted):
     """It is what is wanted; or a conflict without memory for the text of its places."""
-    return reply == wanted or (wanted.status == CONFLICT and reply == wanted._replace(length=0, text=""))
+    return reply == wanted or (wanted.status == CONFLICT and reply == wanted._replace(length=0, places=0, text=""))
 
 
 def is_without_places(reply, wanted):
     """It is a conflict without memory for its places."""
-    return wanted.status == reply.status == CONFLICT and (reply.total, reply.flags) == (0, MORE) and wanted.total and reply.text in ("", "[]")
+    return wanted.status == reply.status == CONFLICT and (reply.total, reply.flags) == (0, MORE) and wanted.total and reply.text in ("", "conflict: two patches[]")
 
 
 def placeless(driver, way, lines):
@@ -160,7 +161,7 @@ def test_after_an_allocation_failure_a_handle_has_what_the_status_says(driver, t
             continue
         seen.add(reply.status)
         if reply.status == NO_MEMORY:
-            assert reply[2:7] == (0, 0, 0, 0, 0) and reply.text == "" and state == untouched, (number, how, reply, state)
+            assert reply[2:8] == (0, 0, 0, 0, 0, 0) and reply.text == "" and state == untouched, (number, how, reply, state)
         elif reply.status == PENDING:
             assert title in TAKES and reply.text == "pending" and state == changed, (number, how, reply, state)
         else:
@@ -204,6 +205,7 @@ def test_an_allocation_failure_reads_nothing_that_is_not_its_own(driver, valgrin
 
 def test_some_conflict_is_wide_and_each_call_that_takes_is_tried():
     """The stages are what they are meant to be."""
-    assert len(driving.written([f"/{name}" for name in WIDE])) > 400
+    first_buffer = 2 * len(driving.written(WIDE)) + 256 + 64
+    assert 2 * len(driving.written([f"/{LONG}/{name}" for name in WIDE[LONG]])) > first_buffer
     assert {STAGES[title][1].split()[0] for title in TAKES} == set(THEN)
     assert (RESULT, CONFLICT) == (0, 1)

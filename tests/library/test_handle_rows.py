@@ -9,7 +9,7 @@ import pytest
 
 import driving
 from driving import CONFLICT, DOCUMENT, MISSING, MORE, NO_PATCHES, NOT_STARTED, PATCH, POINTER, REFUSED, RESULT, TOO_LARGE, call, compare
-from driving import compare_in_buffers, each, last, pairs_within, weight_of, within
+from driving import compare_in_buffers, each, last, pairs_within, weight_of, whole, within
 
 START, ONE, TWO = {"k": 0, "m": {"x": [1]}}, {"a": {"b": 1}}, {"a": {"b": 2, "c": 3}, "d": None}
 STARTED = [call("start", 0, START)]
@@ -20,8 +20,9 @@ CONFLICTING = [*ADDED, call("add", 0, TWO)]
 SHOWN, JOINED = '{"a":{"b":1},"k":0,"m":{"x":[1]}}', '{"a":{"b":1}}'
 PLACES = '["/a/b"]'
 # Two that conflict at so many places that the helpers' first buffer is too short for them, and the places.
-WIDE, WIDER = ({f"a long name of a member {number:02}": value for number in range(20)} for value in (1, 2))
-WIDE_PLACES = driving.written([f"/{name}" for name in WIDE])
+LONG = "a long name " * 5
+WIDE, WIDER = ({LONG: {f"a member {number:02}": value for number in range(20)}} for value in (1, 2))
+WIDE_PLACES = driving.written([f"/{LONG}/{name}" for name in WIDE[LONG]])
 DEEP = b"[" * 127 + b"]" * 127
 # What is no document, the words for it, and where it has the value for which it is none.
 UNREAD = [(b"", "not JSON", None), (b"[", "not JSON", None), (b"1,2", "not JSON", None), (b"[\xff]", "not JSON", None),
@@ -47,7 +48,7 @@ def rows():
     yield [*RECEIVED, call("free")], call("document"), NOT_STARTED, 0, 0, 0, "not started"
     yield [], call("start", 0, START), RESULT, 0, 0, 0, ""
     for text, words, place in UNREAD:
-        total, said = (0, words) if place is None else (len(words), f"{words} at {place}")
+        total, said = (0, words) if place is None else (1, f"{words} at {place}")
         yield [], call("start", 0, text), DOCUMENT, 0, 0, total, said
         yield [call("start", 0, text)], call("document"), NOT_STARTED, 0, 0, 0, "not started"
         yield [*RECEIVED, call("start", 0, text)], call("document"), RESULT, 0, 0, 0, SHOWN
@@ -189,7 +190,7 @@ def stores():
         yield [], line, NOT_STARTED, 0, 0, 0, "not started"
         yield [*STORED, call("log_free")], line, NOT_STARTED, 0, 0, 0, "not started"
     for text, words, place in UNREAD:
-        total, said = (0, words) if place is None else (len(words), f"{words} at {place}")
+        total, said = (0, words) if place is None else (1, f"{words} at {place}")
         yield STORED, call("log_start", 0, text, numbers=[7]), DOCUMENT, 0, 0, total, said
         yield [*STORED, call("log_start", 0, text, numbers=[7])], call("log_document"), RESULT, 0, 0, 0, APART
         for numbers in ((1, 1), (3, 1), (6, 1, 1), (8, 1, 1)):  # of what would be a repeat, stored, late and early
@@ -289,7 +290,7 @@ def test_each_status_of_each_call_is_in_a_row():
 def test_a_message_is_stored_whatever_the_limit_of_its_reply(driver):
     """Only the word is left out, and the message that comes again is a repeat."""
     script = [*LOGGED, "limit 5", message(ONE, 1, 1), "limit 6", message(ONE, 1, 1)]
-    assert [it.said() for it in each([driver], [script])[0][1:]] == [[TOO_LARGE, 0, 0, 0, ""], [RESULT, 0, 0, 0, "repeat"]]
+    assert [it.said() for it in each([driver], [script])[0][1:]] == [[TOO_LARGE, 0, 0, 0, "too large"], [RESULT, 0, 0, 0, "repeat"]]
 
 
 # The calls that find the places of a conflict within the limit. Patches hold those that they have found.
@@ -308,7 +309,7 @@ def compare_within_limits(words, tried):
     """Each limit and row: the reply is what is said within the limit."""
     found = last(words, ([*before, f"limit {limit}", line] for limit, (before, line, *_) in tried))
     for (limit, (_, line, *wanted)), reply in zip(tried, found):
-        assert reply.said() == wanted_within(limit, line, wanted) and reply.length == len(reply.text.encode()), (line, limit, reply)
+        assert reply.whole() == whole(line, wanted_within(limit, line, wanted)), (line, limit, reply)
     return found
 
 

@@ -178,6 +178,13 @@ def log_run(six, some):
             yield call(f"log_{what}"), getattr(model, what)()
 
 
+def with_line(line, status, total, text, first=0, second=0):
+    """Gives what is wanted with the whole text of a conflict, of which the models have the places alone."""
+    if status == CONFLICT:
+        text = driving.whole(line, [status, first, second, total, text.decode()])[0][-1].encode()
+    return status, total, text, first, second
+
+
 @pytest.mark.parametrize("way", ["buffer", "new"])
 @pytest.mark.parametrize("run", [replica_run, patches_run, log_run])
 def test_a_run_replies_what_the_texts_do(driver, run, way):
@@ -187,6 +194,6 @@ def test_a_run_replies_what_the_texts_do(driver, run, way):
         found, = each([driver, way], [[line for line, _ in made]])
         for number, (reply, (line, wanted)) in enumerate(zip(found, made)):
             said = reply.status, reply.total, reply.text.encode(), reply.first, reply.second
-            assert said[:len(wanted)] == wanted, (seed, number, line, reply, wanted)
+            assert said[:len(wanted)] == with_line(line, *wanted)[:len(wanted)], (seed, number, line, reply, wanted)
             seen.add((reply.name, reply.status))
     assert len(seen) >= 6 and {status for _, status in seen} >= {RESULT, CONFLICT, MISSING if run == log_run else NO_PATCHES}

@@ -111,7 +111,7 @@ SHORT = [("get", b"/b"), ("merge", 7), ("replay", 7), ("patch", [{"op": "replace
 def test_a_short_result_keeps_little(driver, export, more):
     (reply,), _ = replies([driver, "new"], [call_of(export, [{"a": "0" * (1 << 20), "b": 5}, more])])
     assert reply.status == (CONFLICT if export == "join" else RESULT)
-    assert reply.length <= 16 and 0 < reply.block <= MOST_KEPT
+    assert reply.length <= 40 and 0 < reply.block <= MOST_KEPT
 
 
 # Many patches, of which a handle holds much for each of their bytes.
@@ -178,7 +178,7 @@ def test_cmake_finds_the_library_wherever_it_is(needs, directory, installed):
     for kind in ("mergejoin", "static"):
         run([directory / f"found/build/replica-{kind}"])
     needed = run(["readelf", "-d", directory / "found/build/replica-mergejoin"])
-    assert "[libmergejoin.so.1]" in needed
+    assert "[libmergejoin.so.2]" in needed
 
 
 FIRST, SECOND, THIRD = map(int, NUMBERS)

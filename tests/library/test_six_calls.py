@@ -10,8 +10,9 @@ import pytest
 import driving
 from calling import SIZE_MAX, Six
 from deepest import ARRAYS, DEEPEST, OBJECTS, PLACE, WIDE, apart, stack_of_the_header
-from driving import MEMCHECK, NO_MEMORY, REFUSED, RESULT, TOO_LARGE, call_of, compare, compare_in_buffers, last, weight_of, within
-from rows import ROWS, many, text_of, total_of, vector_rows
+from driving import CONFLICT, MEMCHECK, NO_MEMORY, REFUSED, RESULT, TOO_LARGE, call_of, compare, compare_in_buffers, last, size_of, weight_of
+from driving import whole, within
+from rows import ROWS, many, text_of, total_of, vector_rows, whole_of
 
 
 def growing_rows():
@@ -125,17 +126,17 @@ def test_each_row_in_a_buffer_of_its_own(driver):
 
 def test_each_row_within_limits(driver):
     """A limit bounds the text of a result: as long as the text it changes nothing unless a result on the way weighs more, and one
-    byte less is too large. It bounds the places of a conflict, and no words of an error. The helpers reply the same."""
-    sizes = [(len(row[-1].encode()), row) for row in LINES]
-    tried = [(size, limit, row) for size, row in sizes for limit in (0, max(size - 1, 0), size, 1000)]
+    byte less is too large. It bounds the places of a conflict, and no other line of an error. The helpers reply the same."""
+    sizes = [(size_of(row) + len(" 100 places"), len(row[-1].encode()), row) for row in LINES]
+    tried = [(size, limit, row) for size, said, row in sizes for limit in (0, max(said - 1, 0), said, 1000)]
     scripts = [[f"capacity {size}", f"limit {limit}", line] for size, limit, (_, line, *_) in tried]
     found, made = (last([driver, way], scripts) for way in ("buffer", "new"))
     for (_, limit, (_, line, *wanted)), reply, other in zip(tried, found, made):
         # Of a rewriting and of a JSON Patch results on the way are bounded too: there any number may be too large.
         is_on_the_way = line.startswith(("rewrite_of", "patch_of")) and wanted[0] in (RESULT, REFUSED)
         too_large = [TOO_LARGE, reply.first, 0, 0, ""] if is_on_the_way else None
-        assert reply.said() in (within(limit, wanted, weight_of), too_large), (line, limit, reply)
-        assert reply.length == len(reply.text.encode()) and other.said() == reply.said(), (line, limit, reply, other)
+        allowed = [whole(line, it) for it in (within(limit, wanted, weight_of), too_large) if it]
+        assert reply.whole() in allowed and other.whole() == reply.whole(), (line, limit, reply, other)
 
 
 def runs_of(found):
@@ -155,26 +156,34 @@ FAR = 1_000_000
 @pytest.mark.parametrize("way", ["buffer", "new"])
 def test_each_request_is_refused_in_turn(driver, way):
     """Alone, and with all after it; with no limit, with one that is not reached, and with half of the text: the call is out of memory, with
-    the buffer as it was, or it answers; and it gives back all."""
-    sizes = [(len(row[-1].encode()), row) for row in LINES]
+    the buffer as it was, or it answers, of a conflict by the helper perhaps without a text; and it gives back all."""
+    sizes = [(size_of(row), row) for row in LINES]
     tried = [(how, size, limit, row) for how in (0, 1) for size, row in sizes for limit in (SIZE_MAX, FAR, size // 2)]
     found, heaps = driving.replies([driver, way], [
         line for how, size, limit, row in tried for line in (f"capacity {size}", f"limit {limit}", f"each {how}", row[1], "heap")])
     runs, refusal = list(runs_of(found)), [NO_MEMORY, 0, 0, 0, ""]
     for (how, _, limit, (_, line, *wanted)), run, heap in zip(tried, runs, heaps, strict=True):
-        answer = run[-1].said()
-        assert (answer == wanted or limit < FAR) and all(it.said() in (answer, refusal) for it in run), (line, how, limit)
-        assert all(it.length == len(it.text.encode()) for it in run) and not heap.blocks, (line, how, limit, heap)
+        answer = run[-1].whole()
+        allowed = [answer, (refusal, 0, 0)]
+        if way == "new" and wanted[0] == CONFLICT:
+            allowed.append(([*answer[0][:-1], ""], 0, 0))
+        assert (answer == whole(line, wanted) or limit < FAR) and all(it.whole() in allowed for it in run), (line, how, limit)
+        assert not heap.blocks, (line, how, limit, heap)
     reported = sum(it.status == NO_MEMORY for it in found)
     print(f"{len(found) - len(runs)} calls with requests refused, {reported} of them reported")
     assert reported >= 3 * len(LINES)
 
 
+def bytes_of(text_and_places):
+    text, places = text_and_places
+    return text.encode(), places
+
+
 def test_each_row_in_four_threads(library):
     def wrong(_):
         six = Six()
-        return [row for _ in range(20) for row, (*_, total, text) in zip(GIVEN, LINES)
-                if six.of_texts(row[0], row[5]) != (*row[1:4], total, text.encode())]
+        return [row for _ in range(20) for row, (*_, total, _) in zip(GIVEN, LINES)
+                if six.of_texts(row[0], row[5]) != (*row[1:4], total, *bytes_of(whole_of(*row[1:5])))]
 
     with concurrent.futures.ThreadPoolExecutor(4) as pool:
         assert list(pool.map(wrong, range(4))) == [[]] * 4

@@ -14,8 +14,8 @@ LIMIT = 300  # seconds for all of them, of which the site takes twenty
 # Each .deb and what it needs.
 NEEDS = {
     "mergejoin": "libc6 (>= 2.34)",
-    "libmergejoin1": "libc6 (>= 2.14)",
-    "libmergejoin-dev": f"libmergejoin1 (= {VERSION})",
+    "libmergejoin2": "libc6 (>= 2.14)",
+    "libmergejoin-dev": f"libmergejoin2 (= {VERSION})",
     "mergejoin-doc": "",
 }
 # The extension, if what makes it is there, and where its scripts are.

@@ -25,13 +25,13 @@ from sqlite_extension import NAME as MODULE
 from sqlite_extension import connected
 from sqlite_extension import lacking as lacking_sqlite
 
-SHARED = TOP / "out/lib/libmergejoin.so.1"
+SHARED = TOP / "out/lib/libmergejoin.so.2"
 TREE = f"mergejoin-{VERSION}"  # in the .tar.gz
 # The library, and where its files and the link to it are below the prefix of the .tar.gz.
 LIBRARY = {"include/mergejoin.h": "bindings/c/mergejoin.h", "share/man/man3/mergejoin.3": "docs/mergejoin.3", **{f"lib/{name}": f"out/lib/{name}" for name in (
-    "libmergejoin.a", "libmergejoin.so.1", "pkgconfig/mergejoin.pc", "cmake/mergejoin/mergejoin-config.cmake",
+    "libmergejoin.a", "libmergejoin.so.2", "pkgconfig/mergejoin.pc", "cmake/mergejoin/mergejoin-config.cmake",
     "cmake/mergejoin/mergejoin-config-version.cmake")}}
-LINKED = {"lib/libmergejoin.so": "libmergejoin.so.1"}
+LINKED = {"lib/libmergejoin.so": "libmergejoin.so.2"}
 CALLS = """import mergejoin
 print(mergejoin.__file__.split("/env/")[1].split("/site-packages/")[1])
 print(mergejoin.replay('{"title": "Notes"}', ['{"author": "Ada"}', '{"title": null}']))"""
@@ -108,7 +108,7 @@ def files_of_debs():
     program = {name.replace("site-functions", "vendor-completions"): source for name, source in INSTALLED.items() if source != "LICENSE"}
     files = {"mergejoin": copies(program),
              "mergejoin-doc": copies({f"share/doc/mergejoin-doc/{page}": page for page in pages()}),
-             "libmergejoin1": {f"{FOLDER}/libmergejoin.so.1": placed.pop(f"{FOLDER}/libmergejoin.so.1")},
+             "libmergejoin2": {f"{FOLDER}/libmergejoin.so.2": placed.pop(f"{FOLDER}/libmergejoin.so.2")},
              "libmergejoin-dev": {**placed, **copies({"share/doc/libmergejoin-dev/FROM-C.md": "docs/FROM-C.md"})}}
     if SQLITE:
         files[SQLITE] = copies({f"share/doc/{SQLITE}/SQLITE.md": "docs/SQLITE.md",
@@ -123,13 +123,13 @@ def files_of_debs():
 def others_of(name):
     """Gives the files of a .deb that are made for Debian alone, or built of the extension's sources."""
     yield from (f"share/doc/{name}/changelog.gz", f"share/doc/{name}/copyright")
-    if name in ("mergejoin", "libmergejoin1", SQLITE) or name == "mergejoin-doc" and not lacking_for_a_site():
+    if name in ("mergejoin", "libmergejoin2", SQLITE) or name == "mergejoin-doc" and not lacking_for_a_site():
         yield f"share/lintian/overrides/{name}"
     if name == SQLITE:
         yield f"{FOLDER}/{MODULE}"
     if name == EXTENSION:
         yield config("pkglibdir").removeprefix("/usr/") + "/mergejoin.so"
-        yield f"{PLACE}/mergejoin--0.2--{SHORT}.sql"
+        yield from (f"{PLACE}/mergejoin--{old}--{SHORT}.sql" for old in ("0.2", "0.3"))
 
 
 def has_files(below, wanted, others):
@@ -336,7 +336,7 @@ def test_the_bytes_do_not_depend_on_the_environment(one, top, run, tmp_path):
 
 def test_a_library_that_was_replaced_is_not_packed(top, run, tmp_path):
     """A byte is added to it after bin/library has made it."""
-    (top / "bin/library").write_text(f"#!/bin/sh\nprintf x >>'{top}/out/lib/libmergejoin.so.1'\n")
+    (top / "bin/library").write_text(f"#!/bin/sh\nprintf x >>'{top}/out/lib/libmergejoin.so.2'\n")
     says = f"package: the library in {top}/out is not what was built there: its checksums differ\n"
     assert run([top / "bin/package", "packed"]) == (125, "", says)
     assert not (tmp_path / "packed").exists()

@@ -53,7 +53,7 @@ def test_the_same_bytes_are_made_twice_and_have_their_sums(made, run):
 def test_the_archive_has_what_a_program_links(made):
     with tarfile.open(made[0] / TAR) as archive:
         names = {member.name.removeprefix(f"mergejoin-{VERSION}/") for member in archive if member.isfile() or member.issym()}
-    assert {"lib/libmergejoin.a", "lib/libmergejoin.so.1", "include/mergejoin.h", "lib/pkgconfig/mergejoin.pc", "share/doc/mergejoin/LICENSE",
+    assert {"lib/libmergejoin.a", "lib/libmergejoin.so.2", "include/mergejoin.h", "lib/pkgconfig/mergejoin.pc", "share/doc/mergejoin/LICENSE",
             "share/man/man3/mergejoin.3"} <= names
 
 

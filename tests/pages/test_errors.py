@@ -1,5 +1,5 @@
-"""Each interface reports an error as the table of docs/ERRORS.md has it: the status of the header, the variant of Rust, the class of
-Python, the SQLSTATE of PostgreSQL and the code of SQLite.
+"""Each interface reports an error as the table of docs/ERRORS.md has it: the status and the name of the header, the variant of Rust, the
+class of Python, the SQLSTATE of PostgreSQL and the code of SQLite. And the line of each error is the library's.
 """
 
 import importlib.util
@@ -11,11 +11,12 @@ import types
 import pytest
 
 TOP = pathlib.Path(__file__).resolve().parents[2]
-HEADS = ["what is wrong", "the command: line, status", "C", "Rust: `Error::`", "Python", "PostgreSQL", "SQLite"]
+HEADS = ["what is wrong", "the line", "the command's status", "C", "Rust: `Error::`", "Python", "PostgreSQL", "SQLite", "HTTP"]
 # What PostgreSQL's own headers call these codes.
 SQLSTATES = {"INVALID_PARAMETER_VALUE": "22023", "INVALID_JSON_TEXT": "22032", "PROGRAM_LIMIT_EXCEEDED": "54000", "OUT_OF_MEMORY": "53200"}
-# What of a reply decides more than the status does.
-WORDS = {"REFUSED": "test failed", "FORM": "no path", "POINTER": "no slash", "DOCUMENT": "not JSON", "PATCH": "not JSON"}
+# Lines of the library, by the status that each has.
+LINES = {"CONFLICT": "conflict: two patches", "REFUSED": "operation 0: test failed", "FORM": "operation 0: no path", "POINTER": "pointer: no slash",
+         "DOCUMENT": "document: not JSON", "PATCH": "patch 0: not JSON"}
 
 
 def read(name):
@@ -24,13 +25,13 @@ def read(name):
 
 def rows():
     """Gives the rows of the table, by the number of the status."""
-    lines = [[cell.strip().strip("`") for cell in line.strip()[1:-1].split("|")] for line in read("docs/ERRORS.md").splitlines() if line.startswith("| ")]
-    first = next(place for place, line in enumerate(lines) if line[0] == HEADS[0])
+    lines = [[cell.strip() for cell in line.strip()[1:-1].split("|")] for line in read("docs/ERRORS.md").splitlines() if line.startswith("| ")]
+    first = next(place for place, line in enumerate(lines) if line == HEADS)
     found = {}
     for line in lines[first + 1:]:
-        if len(line) != len(HEADS) or not line[2].isdigit():
+        if len(line) != len(HEADS):
             break
-        found[int(line[2])] = dict(zip(HEADS, line))
+        found[int(line[3].split()[0])] = dict(zip(HEADS, line))
     return found
 
 
@@ -40,17 +41,25 @@ NAMES = {int(number): name for name, number in re.findall(r"^  MERGEJOIN_([A-Z_]
 
 def asked(head):
     """Gives the status, its name and the cell of each row that has one under a head."""
-    return [pytest.param(number, NAMES[number], row[head], id=NAMES[number]) for number, row in ROWS.items() if row[head] not in ("", "NULL")]
+    return [pytest.param(number, NAMES[number], row[head].strip("`"), id=NAMES[number]) for number, row in ROWS.items()
+            if row[head] not in ("", "NULL")]
 
 
-def case_of(source, name):
-    """Gives what a C source does with a status, as far as the next one."""
-    found = re.search(rf"case MERGEJOIN_{name}:(.*?)(?=\n +case |\n +default:|\n  \}})", source, re.S)
-    return found[1] if found else ""
+def codes_of(source):
+    """Gives what `code_of` of a C source returns for each status, and what it returns for the others."""
+    body = re.search(r"^static int code_of\(.*?^\}", read(source), re.M | re.S)[0]
+    found, waiting = {}, []
+    for name, code in re.findall(r"case MERGEJOIN_(\w+):|(?:return (\w+);)", body.replace("default:", "case MERGEJOIN_OTHER:")):
+        if name:
+            waiting.append(name)
+        else:
+            found |= dict.fromkeys(waiting, code)
+            waiting = []
+    return found
 
 
 def test_the_table_has_each_status_but_that_of_a_result():
-    assert list(ROWS) == [number for number in NAMES if number != 0]
+    assert {number: row["C"].split()[1].strip("`") for number, row in ROWS.items()} == {number: name for number, name in NAMES.items() if number}
 
 
 @pytest.fixture(name="python", scope="module")
@@ -78,7 +87,9 @@ def test_python_raises_the_class_of_the_table(python, number, name, wanted):
     if wanted == "MemoryError":  # the extension raises it, since no text is made then
         assert "PyErr_NoMemory" in read("bindings/python/c/writing.c")
         return
-    assert type(python.error_of(number, 0, 1, 0, WORDS.get(name, ""))).__name__ == wanted
+    line = LINES.get(name, "a line")
+    error = python.error_of(number, 0, 1, 0, line, "", False)
+    assert (type(error).__name__, str(error)) == (wanted, line)
 
 
 @pytest.mark.parametrize("number,name,wanted", asked("Rust: `Error::`"))
@@ -92,25 +103,18 @@ def test_rust_has_the_variant_of_the_table(number, name, wanted):
 def test_postgresql_has_the_code_of_the_table(number, name, wanted):
     own = {key: "".join(re.findall(r"'(.)'", parts)) for key, parts in
            re.findall(r"#define ERRCODE_(\w+) MAKE_SQLSTATE\(([^)]*)\)", read("bindings/postgresql/src/calls.h"))}
-    source = read("bindings/postgresql/src/errors.c")
     if name == "NO_MEMORY":
         source = "".join(path.read_text("utf-8") for path in sorted((TOP / "bindings/postgresql/src").glob("*.c")))
         assert SQLSTATES["OUT_OF_MEMORY"] == wanted and "errcode(ERRCODE_OUT_OF_MEMORY)" in source
         return
-    done = case_of(source, name)
-    if called := re.search(r"(refuse_\w+)\(answer\)", done):
-        done = re.search(rf"^static void {called[1]}\(.*?^\}}", source, re.M | re.S)[0]
-    assert {(SQLSTATES | own)[code] for code in re.findall(r"errcode\(ERRCODE_(\w+)\)", done)} == {wanted}
+    codes = codes_of("bindings/postgresql/src/errors.c")
+    assert (SQLSTATES | own)[codes[name].removeprefix("ERRCODE_")] == wanted
 
 
 @pytest.mark.parametrize("number,name,wanted", asked("SQLite"))
 def test_sqlite_has_the_code_of_the_table(number, name, wanted):
-    source = read("bindings/sqlite/calls.c")
-    ends = {"SQLITE_NOMEM": "sqlite3_result_error_nomem", "SQLITE_TOOBIG": "sqlite3_result_error_toobig"}
-    if wanted in ends:
-        assert re.search(rf"MERGEJOIN_{name}\b[^{{]*\{{\s*{ends[wanted]}\(", source)
+    if wanted == "SQLITE_NOMEM":
+        assert "sqlite3_result_error_nomem" in read("bindings/sqlite/calls.c")
         return
-    done = case_of(source, name)
-    if called := re.search(r"return (write_\w+)\(", done):
-        done = re.search(rf"^static int {called[1]}\(.*?^\}}", source, re.M | re.S)[0]
-    assert (re.findall(r"return (SQLITE_\w+);", done) or ["SQLITE_ERROR"]) == [wanted]
+    codes = codes_of("bindings/sqlite/calls.c")
+    assert codes.get(name, codes["OTHER"]) == wanted

@@ -24,8 +24,10 @@ def test_the_page_is_what_is_printed_of_the_header(run):
 
 
 def test_each_call_is_shown_with_its_prototype(shown):
-    declared = re.findall(r"^((?:mergejoin_reply|uint32_t|void|static inline (?:mergejoin_text|char)) [*]?mergejoin_\w+[^_\W]\([^;{]*\))", HEADER, re.M)
+    declared = re.findall(r"^((?:mergejoin_reply|uint32_t|void|static inline (?:mergejoin_text|size_t|int)) mergejoin_\w+[^_\W]\([^;{]*\))", HEADER, re.M)
     declared = [re.sub(r"\s+", " ", text.removeprefix("static inline ")) for text in declared]
+    declared += [re.sub(r"mergejoin_reply (\w+)\((.*)uint8_t \*out, size_t capacity, size_t limit\)", r"char *\1_new(\2size_t limit, mergejoin_reply *reply)", text)
+                 for text in declared if "uint8_t *out" in text]
     assert len(declared) > 40
     assert [text for text in declared if f" {text}; " not in shown] == []
 

@@ -146,7 +146,8 @@ def test_a_dark_ground_is_for_all_who_ask_for_one(site):
 
 def test_each_call_of_c_and_each_status_is_there(site, pages):
     header = HEADER.read_text("utf-8")
-    names = set(re.findall(r"^(?:mergejoin_\w+|uint32_t|void|static inline (?:mergejoin_text|char)) [*]?(mergejoin_\w+[^_\W])\(", header, re.M))
+    names = set(re.findall(r"^(?:mergejoin_\w+|uint32_t|void|static inline (?:mergejoin_text|size_t|int)) (mergejoin_\w+[^_\W])\(", header, re.M))
+    names |= {f"{name}_new" for name in re.findall(r"^mergejoin_reply (\w+)\(", header, re.M)}
     names |= set(re.findall(r"^} (mergejoin_\w+);", header, re.M))
     assert len(names) > 40
     assert sorted(name for name in names if f"c.{name}" not in pages[site / "c-api.html"].ids) == []

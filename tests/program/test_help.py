@@ -27,7 +27,7 @@ Limits: 1,048,576 bytes of input, 127 levels of nesting, whole numbers from -2^6
 Status: 0 with a result; 1 there is none; 2 the input or an argument is wrong; 3 memory or a stream failed.
 Each subcommand's help has its input. mergejoin-feed makes one input of several files.
 mergejoin-locate shows in which of them a refusal arose, and where. REFUSALS.md, in
-share/doc/mergejoin or in docs of the repository, explains each line of refusal. Version 0.3.0.
+share/doc/mergejoin or in docs of the repository, explains each line of refusal. Version 0.4.0.
 """
 
 HELP = """\

@@ -9,17 +9,17 @@ import shutil
 
 from calls import TOP, run
 
-CRATES = ["mp_tree", "mp_pointer", "mp_patch", "mp_merge", "mp_cli", "mergejoin"]
+CRATES = ["mp_tree", "mp_pointer", "mp_patch", "mp_merge", "mp_texts", "mp_cli", "mergejoin"]
 UNPROVED = """\
 mergejoin: this answer comes from the sources as they are, not from the proved program, and takes a minute or two, each time until \
 bin/prove has run once: that proves and builds the program in some 15 minutes, and a call takes 12 ms then
 """
 
 
-def built(count=6):
+def built(count=7):
     """What bin/prove reports when it has built so many crates."""
-    each = [f"mergejoin: {crate}, {number} of 6 ..\nmergejoin: {crate} took N s, N s in all\n" for number, crate in enumerate(CRATES, 1)]
-    return "mergejoin: proving and building 6 crates, which takes some minutes on first use ..\n" + "".join(each[:count])
+    each = [f"mergejoin: {crate}, {number} of 7 ..\nmergejoin: {crate} took N s, N s in all\n" for number, crate in enumerate(CRATES, 1)]
+    return "mergejoin: proving and building 7 crates, which takes some minutes on first use ..\n" + "".join(each[:count])
 
 
 def tried(words, given=b""):

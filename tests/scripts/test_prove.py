@@ -35,7 +35,7 @@ def test_a_place_that_cannot_be_written_to(copy):
 
 def test_a_build_that_fails(copy):
     failed = "mergejoin: the build of mp_patch failed after N s; its log is TOP/out/build.log, which ends:\nnot proved\n"
-    assert copy.run(["bin/prove"], {"FAILS": "1"}) == (125, "", f"{built(2)}mergejoin: mp_patch, 3 of 6 ..\n{failed}")
+    assert copy.run(["bin/prove"], {"FAILS": "1"}) == (125, "", f"{built(2)}mergejoin: mp_patch, 3 of 7 ..\n{failed}")
     assert copy.asked() == CRATES[:2]
     assert copy.join() == NOT_PROVED
     assert copy.asked() == ["try in mergejoin"]

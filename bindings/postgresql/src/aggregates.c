@@ -4,8 +4,8 @@
 #include "errors.h"
 #include "values.h"
 
-/* The kept form of two patches that conflict, at one place, since none is shown. */
-#define CONFLICT "![\"\"]"
+/* What the kept form of two patches that conflict begins with. */
+#define CONFLICT '!'
 enum { LEAST = 256, JOIN = 65536 }; /* the bytes of the first buffer of a text, and of a join at most */
 
 typedef struct Group {
@@ -22,34 +22,30 @@ PG_FUNCTION_INFO_V1(mergejoin_deserialize);
 PG_FUNCTION_INFO_V1(mergejoin_joined);
 PG_FUNCTION_INFO_V1(mergejoin_joined_or_null);
 
-/* Returns what a state gives by a call, as a value in the current memory context, or NULL if that is no result. */
-static text *text_of(Group *group, mergejoin_reply (*call)(mergejoin_patches *, uint8_t *, size_t, size_t)) {
-  mergejoin_reply reply = {.length = Min(group->length + LEAST, JOIN)};
-  size_t size;
-  text *value;
-
-  do {
-    size = reply.length;
-    value = palloc(VARHDRSZ + size);
-    prepare_call(&group->memory);
-    reply = call(&group->patches, (uint8_t *)VARDATA(value), size, LONGEST);
-    if (reply.status == MERGEJOIN_NO_MEMORY) refuse_for_memory(&group->memory);
-    if (reply.status == MERGEJOIN_TOO_LARGE) refuse_length();
-  } while (reply.length > size);
-  SET_VARSIZE(value, VARHDRSZ + reply.length);
-  return reply.status == MERGEJOIN_RESULT ? value : NULL;
+static mergejoin_reply call_text(void *group, uint8_t *out, size_t capacity) {
+  return mergejoin_patches_text(&((Group *)group)->patches, out, capacity, LONGEST);
 }
 
-/* Makes the state that two patches conflict, and frees what there was. */
-static void keep_conflict(Group *group) {
-  const mergejoin_text kept = mergejoin_text_of(CONFLICT, strlen(CONFLICT));
+static mergejoin_reply call_kept(void *group, uint8_t *out, size_t capacity) {
+  return mergejoin_patches_kept(&((Group *)group)->patches, out, capacity, LONGEST);
+}
 
+/* Returns what a state gives by one of these calls. */
+static Answer answer_of_group(Group *group, Call call) {
+  Answer answer = answer_by(call, group, &group->memory, Min(group->length + LEAST, JOIN));
+
+  if (answer.reply.status == MERGEJOIN_TOO_LARGE) refuse_length();
+  return answer;
+}
+
+/* Makes the state that two patches conflict of its kept form, and frees what there was. */
+static void keep_conflict(Group *group, mergejoin_text kept) {
   prepare_call(&group->memory);
   if (mergejoin_patches_from_kept(&group->patches, kept.bytes, kept.length, NULL, 0, 0).status != MERGEJOIN_CONFLICT)
     refuse_for_memory(&group->memory);
 }
 
-/* Takes a text, for which so many bytes of the group's memory were made. Of the places of a conflict one is left. */
+/* Takes a text, for which so many bytes of the group's memory were made. */
 static void take(Group *group, mergejoin_text text, Size made) {
   mergejoin_reply reply;
 
@@ -58,7 +54,6 @@ static void take(Group *group, mergejoin_text text, Size made) {
   reply = mergejoin_patches_add(&group->patches, text.bytes, text.length, NULL, 0, 0);
   if (reply.status == MERGEJOIN_PATCH) refuse_patch(text, &group->memory);
   if (reply.status == MERGEJOIN_PENDING || reply.status == MERGEJOIN_NO_MEMORY) refuse_for_memory(&group->memory);
-  if (reply.total > 1) keep_conflict(group);
   group->length += text.length;
   group->memory.used -= made;
 }
@@ -94,17 +89,17 @@ Datum mergejoin_combine(PG_FUNCTION_ARGS) {
   Group *other = group_of(fcinfo, 1, false), *group = group_of(fcinfo, 0, other != NULL);
 
   if (other) {
-    mergejoin_text kept = borrowed(other->kept ? other->kept : text_of(other, mergejoin_patches_kept));
+    mergejoin_text kept = borrowed(other->kept ? other->kept : answer_of_group(other, call_kept).value);
 
-    if (*kept.bytes == *CONFLICT) keep_conflict(group);
-    if (*kept.bytes != *CONFLICT) take(group, kept, 0);
+    if (*kept.bytes == CONFLICT) keep_conflict(group, kept);
+    if (*kept.bytes != CONFLICT) take(group, kept, 0);
   }
   if (!group) PG_RETURN_NULL();
   PG_RETURN_POINTER(group);
 }
 
 /* Returns a state as bytes: its kept form. */
-Datum mergejoin_serialize(PG_FUNCTION_ARGS) { PG_RETURN_BYTEA_P(text_of(group_of(fcinfo, 0, false), mergejoin_patches_kept)); }
+Datum mergejoin_serialize(PG_FUNCTION_ARGS) { PG_RETURN_BYTEA_P(answer_of_group(group_of(fcinfo, 0, false), call_kept).value); }
 
 /* Returns the state of bytes, which is not read before it is combined. */
 Datum mergejoin_deserialize(PG_FUNCTION_ARGS) {
@@ -116,13 +111,17 @@ Datum mergejoin_deserialize(PG_FUNCTION_ARGS) {
 
 /* Returns the join of a group, or raises that two of its patches conflict. There is a state if there was a text. */
 Datum mergejoin_joined(PG_FUNCTION_ARGS) {
-  text *joined = text_of(group_of(fcinfo, 0, false), mergejoin_patches_text);
+  Group *group = group_of(fcinfo, 0, false);
+  Answer answer = answer_of_group(group, call_text);
 
-  if (!joined) refuse_group();
-  return returned(fcinfo, joined);
+  if (answer.reply.status == MERGEJOIN_CONFLICT && answer.reply.length == 0) refuse_for_memory(&group->memory);
+  if (answer.reply.status != MERGEJOIN_RESULT) refuse(&answer);
+  return returned(fcinfo, answer.value);
 }
 
 /* The same, or NULL if two conflict. */
 Datum mergejoin_joined_or_null(PG_FUNCTION_ARGS) {
-  return returned(fcinfo, text_of(group_of(fcinfo, 0, false), mergejoin_patches_text));
+  Answer answer = answer_of_group(group_of(fcinfo, 0, false), call_text);
+
+  return returned(fcinfo, answer.reply.status == MERGEJOIN_RESULT ? answer.value : NULL);
 }

@@ -12,9 +12,7 @@
 
 /* The library limits what a result takes in memory, too: by its own count at most so many bytes for a byte of a text. */
 #define WEIGHT 350
-/* A rewriting has a test and an edit for each change, each with its path: at most about so many bytes for a byte of the patch. */
-#define REWRITTEN 16
-/* What the places of a conflict may take if no one says it, or if there is no memory for more. */
+/* What the places of a conflict may take beside what is read, if no one says it. */
 #define PLACES 65536
 
 /* Borrows the bytes of a value, which is not compressed nor out of line, and stays its owner's. */
@@ -32,75 +30,25 @@ static size_t length_of(const Request *request) {
   return length;
 }
 
-/* Returns how many bytes the text is likely to have: as many as all that is read, and of a rewriting some times the patch. */
-static size_t likely_length(const Request *request) {
-  size_t length = length_of(request) + 64;
-
-  if (request->export == EXPORT_REWRITE) length += REWRITTEN * request->texts->length;
-  return length;
-}
-
-static bool is_join_or_replay(const Request *request) {
-  return request->export == EXPORT_JOIN || request->export == EXPORT_REPLAY;
-}
-
-static size_t places_of(const Request *request) { return Max(request->places, PLACES); }
-
 /*
  * Returns the limit of a call. The results of a JSON Patch and of a rewriting may be much larger than what is read. No other result
- * is, and what the limit allows besides are the places of a conflict.
+ * is, nor is one place of a conflict.
  */
 static size_t limit_of(const Request *request) {
-  bool may_grow = request->export == EXPORT_PATCH || request->export == EXPORT_REWRITE;
-
-  return (may_grow ? allowed_memory() : places_of(request)) + WEIGHT * length_of(request);
+  if (request->on_texts) return allowed_memory() + WEIGHT * length_of(request);
+  return length_of(request) + Max(request->places, PLACES);
 }
 
-/* Makes the call of a request. The texts and the buffer are its caller's. */
-static mergejoin_reply called(const Request *request, uint8_t *buffer, size_t capacity, size_t limit) {
+/* Makes the call of a request. */
+static mergejoin_reply called(const Request *request, uint8_t *out, size_t capacity) {
   const mergejoin_text *document = &request->document, *texts = request->texts;
-
-  switch (request->export) {
-    case EXPORT_JOIN:
-      return mergejoin_join(texts, request->count, buffer, capacity, limit);
-    case EXPORT_REPLAY:
-      return mergejoin_replay(document->bytes, document->length, texts, request->count, buffer, capacity, limit);
-    case EXPORT_MERGE:
-      return mergejoin_merge(document->bytes, document->length, texts, request->count, buffer, capacity, limit);
-    case EXPORT_REWRITE:
-      return mergejoin_rewrite(document->bytes, document->length, texts->bytes, texts->length, buffer, capacity, limit);
-    case EXPORT_PATCH:
-      return mergejoin_patch(document->bytes, document->length, texts->bytes, texts->length, buffer, capacity, limit);
-    case EXPORT_GET:
-      return mergejoin_get(document->bytes, document->length, texts->bytes, texts->length, buffer, capacity, limit);
-  }
-  pg_unreachable();
-}
-
-/* Returns whether a call needed more memory than it may take, or has a result that is longer than a report can be. */
-static bool is_too_large(const mergejoin_reply *reply, const Memory *memory) {
-  return (reply->status == MERGEJOIN_NO_MEMORY && memory->is_over) ||
-         (reply->status == MERGEJOIN_RESULT && reply->length > LONGEST - AROUND);
-}
-
-/*
- * Calls, with a limit and a buffer. If a join or a replay is refused memory, it may be that two patches conflict at more places
- * than there is memory for: then it is called again for the first of them.
- */
-static mergejoin_reply called_in_memory(const Request *request, Memory *memory, uint8_t *buffer, size_t capacity) {
-  mergejoin_reply reply;
   size_t limit = limit_of(request);
 
-  prepare_call(memory);
-  reply = called(request, buffer, capacity, limit);
-  if (reply.status == MERGEJOIN_NO_MEMORY && memory->is_over && is_join_or_replay(request)) {
-    prepare_call(memory);
-    reply = called(request, buffer, capacity, PLACES);
-    if (reply.status == MERGEJOIN_TOO_LARGE) reply.status = MERGEJOIN_NO_MEMORY;
-  }
-  if (request->is_kept && is_too_large(&reply, memory)) reply = (mergejoin_reply){.status = MERGEJOIN_TOO_LARGE};
-  if (reply.status == MERGEJOIN_NO_MEMORY) refuse_for_memory(memory);
-  return reply;
+  if (request->on_patches)
+    return request->on_patches(document->bytes, document->length, texts, request->count, out, capacity, limit);
+  if (request->on_texts)
+    return request->on_texts(document->bytes, document->length, texts->bytes, texts->length, out, capacity, limit);
+  return mergejoin_join(texts, request->count, out, capacity, limit);
 }
 
 /* Makes ready for a call that takes this memory. The library's texts are UTF-8, and so have to be those of the database. */
@@ -113,33 +61,57 @@ void prepare_call(Memory *memory) {
   use_memory(memory);
 }
 
-/* Returns how many bytes of an answer are wanted. */
-static size_t wanted_length(const Request *request, const mergejoin_reply *reply) {
-  return reply->status == MERGEJOIN_CONFLICT ? Min(reply->length, places_of(request)) : reply->length;
+/* Gives a value the bytes after its header, for mergejoin_grow: an error is raised if it can't have so many. */
+static void *resized(void *bytes, size_t capacity) {
+  if (capacity > LONGEST + 1) refuse_length();
+  if (!bytes) return VARDATA(palloc(VARHDRSZ + capacity));
+  return VARDATA(repalloc((char *)bytes - VARHDRSZ, VARHDRSZ + capacity));
 }
 
 /*
- * Calls the library, with a buffer as long as the text is likely to be, and once more if what is wanted of the text is longer. The
- * value is made in the current memory context, and is its caller's.
+ * Makes a call that takes this memory, of what it is given, whose text is likely to have so many bytes. The value is made in the current
+ * memory context, and is its caller's.
  */
-Answer answer_of(const Request *request) {
+Answer answer_by(Call call, void *given, Memory *memory, size_t likely) {
   Answer answer;
-  Memory own = {0}, *memory = request->memory ? request->memory : &own;
-  size_t size = likely_length(request), wanted;
+  mergejoin_buffer buffer = {.likely = Min(likely, LONGEST - AROUND), .resized = resized};
 
-  if (memory == &own) own = begun_memory(request->made);
-  for (;;) {
-    size = Min(size, LONGEST);
-    answer.value = palloc(VARHDRSZ + size);
-    answer.reply = called_in_memory(request, memory, (uint8_t *)VARDATA(answer.value), size);
-    wanted = wanted_length(request, &answer.reply);
-    if (wanted <= size) break;
-    if (wanted > LONGEST) refuse_length();
-    size = wanted;
-    pfree(answer.value);
+  while (mergejoin_grow(&buffer, &answer.reply)) {
+    prepare_call(memory);
+    answer.reply = call(given, buffer.bytes, buffer.capacity);
+    if (answer.reply.status == MERGEJOIN_NO_MEMORY) refuse_for_memory(memory);
   }
-  if (own.context) MemoryContextDelete(own.context);
-  SET_VARSIZE(answer.value, VARHDRSZ + Min(answer.reply.length, size));
+  if (!buffer.bytes) refuse_for_memory(memory);
+  answer.value = (text *)(buffer.bytes - VARHDRSZ);
+  SET_VARSIZE(answer.value, VARHDRSZ + answer.reply.length);
+  return answer;
+}
+
+/* Makes the call of a request, of which too large may be an answer. */
+static mergejoin_reply call_of_request(void *given, uint8_t *out, size_t capacity) {
+  const Request *request = given;
+  mergejoin_reply reply = called(request, out, capacity);
+  bool is_too_large = (reply.status == MERGEJOIN_NO_MEMORY && request->memory->is_over) ||
+                      (reply.status == MERGEJOIN_RESULT && reply.length > LONGEST - AROUND);
+
+  if (request->is_kept && is_too_large) reply = (mergejoin_reply){.status = MERGEJOIN_TOO_LARGE};
+  return reply;
+}
+
+/* Calls the library. The value is made in the current memory context, and is its caller's. */
+Answer answer_of(const Request *request) {
+  Request own = *request;
+  size_t likely = length_of(request);
+  Memory memory = {0};
+  Answer answer;
+
+  if (!own.memory) {
+    memory = begun_memory(own.made);
+    own.memory = &memory;
+  }
+  if (own.edits) likely += own.edits * own.texts->length;
+  answer = answer_by(call_of_request, &own, own.memory, likely);
+  if (memory.context) MemoryContextDelete(memory.context);
   return answer;
 }
 

@@ -7,11 +7,9 @@
 #include "calls.h"
 #include "lib/stringinfo.h"
 
-extern char *why_unread(const Answer *answer);
-extern size_t first_places(const Answer *answer, size_t most, size_t longest, size_t *end);
+extern char *line_of(const Answer *answer);
 extern size_t append_places(StringInfo list, const Answer *answer, size_t most, size_t longest);
 extern void refuse_patch(mergejoin_text wrong, Memory *memory) pg_attribute_noreturn();
-extern void refuse_group(void) pg_attribute_noreturn();
 extern void refuse_caller(void) pg_attribute_noreturn();
 extern void refuse(const Answer *answer) pg_attribute_noreturn();
 extern void refuse_length(void) pg_attribute_noreturn();

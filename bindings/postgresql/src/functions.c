@@ -10,6 +10,10 @@
 
 /* The most bytes of the places that the value of an aggregate has. */
 #define REPORTED_PLACES 1048576
+/* A rewriting has a test and an edit for each change, each with its path: at most about so many bytes for a byte of the patch. */
+#define EDITS 16
+/* The line of a patch that needs more than a call may take. */
+#define TOO_LARGE "too large"
 
 PG_MODULE_MAGIC;
 
@@ -60,8 +64,8 @@ static void read_patches(Request *request, FunctionCallInfo fcinfo, int number, 
 }
 
 /* Calls with a document, and an array of patches. */
-static Datum of_patches(FunctionCallInfo fcinfo, Export export) {
-  Request request = {.export = export};
+static Datum of_patches(FunctionCallInfo fcinfo, OnPatches *call) {
+  Request request = {.on_patches = call};
 
   request.document = text_of_argument(fcinfo, 0, &request.made);
   read_patches(&request, fcinfo, 1, false);
@@ -69,9 +73,9 @@ static Datum of_patches(FunctionCallInfo fcinfo, Export export) {
 }
 
 /* Calls with a document, and a patch or a pointer. */
-static Datum of_two(FunctionCallInfo fcinfo, Export export) {
+static Datum of_two(FunctionCallInfo fcinfo, OnTexts *call, size_t edits) {
   mergejoin_text second;
-  Request request = {.export = export, .texts = &second, .count = 1};
+  Request request = {.on_texts = call, .edits = edits, .texts = &second, .count = 1};
   Answer answer;
 
   request.document = text_of_argument(fcinfo, 0, &request.made);
@@ -83,36 +87,37 @@ static Datum of_two(FunctionCallInfo fcinfo, Export export) {
 }
 
 Datum mergejoin_sql_join(PG_FUNCTION_ARGS) {
-  Request request = {.export = EXPORT_JOIN};
+  Request request = {0};
 
   read_patches(&request, fcinfo, 0, false);
   return returned(fcinfo, result_of(&request));
 }
 
-Datum mergejoin_sql_replay(PG_FUNCTION_ARGS) { return of_patches(fcinfo, EXPORT_REPLAY); }
+Datum mergejoin_sql_replay(PG_FUNCTION_ARGS) { return of_patches(fcinfo, mergejoin_replay); }
 
-Datum mergejoin_sql_merge(PG_FUNCTION_ARGS) { return of_patches(fcinfo, EXPORT_MERGE); }
+Datum mergejoin_sql_merge(PG_FUNCTION_ARGS) { return of_patches(fcinfo, mergejoin_merge); }
 
-Datum mergejoin_sql_rewrite(PG_FUNCTION_ARGS) { return of_two(fcinfo, EXPORT_REWRITE); }
+Datum mergejoin_sql_rewrite(PG_FUNCTION_ARGS) { return of_two(fcinfo, mergejoin_rewrite, EDITS); }
 
-Datum mergejoin_sql_patch(PG_FUNCTION_ARGS) { return of_two(fcinfo, EXPORT_PATCH); }
+Datum mergejoin_sql_patch(PG_FUNCTION_ARGS) { return of_two(fcinfo, mergejoin_patch, 0); }
 
-Datum mergejoin_sql_get(PG_FUNCTION_ARGS) { return of_two(fcinfo, EXPORT_GET); }
+Datum mergejoin_sql_get(PG_FUNCTION_ARGS) { return of_two(fcinfo, mergejoin_get, 0); }
 
 /* Returns the places at which two patches conflict. */
 Datum mergejoin_sql_conflicts(PG_FUNCTION_ARGS) {
   mergejoin_text texts[2];
-  Request request = {.export = EXPORT_JOIN, .texts = texts, .count = lengthof(texts), .places = allowed_memory()};
+  Request request = {.texts = texts, .count = lengthof(texts), .places = allowed_memory()};
   Answer answer;
-  size_t end;
+  StringInfoData places;
 
   texts[0] = text_of_argument(fcinfo, 0, &request.made);
   texts[1] = text_of_argument(fcinfo, 1, &request.made);
   answer = answer_of(&request);
   if (answer.reply.status == MERGEJOIN_RESULT) return returned(fcinfo, cstring_to_text("[]"));
   if (answer.reply.status != MERGEJOIN_CONFLICT) refuse(&answer);
-  if (first_places(&answer, SIZE_MAX, SIZE_MAX, &end) < answer.reply.total) refuse_places(answer.reply.total);
-  return returned(fcinfo, answer.value);
+  initStringInfo(&places);
+  if (append_places(&places, &answer, SIZE_MAX, SIZE_MAX) < answer.reply.total) refuse_places(answer.reply.total);
+  return returned(fcinfo, cstring_to_text_with_len(places.data, places.len));
 }
 
 /* Reads a text as a patch, which takes memory, and returns whether it is one. A text for which a call may not take enough is none. */
@@ -147,7 +152,7 @@ static void append_conflict(StringInfo report, const Answer *answer) {
 
 /* Ends mergejoin_conflict_agg: returns the first two of an array of patches that conflict, and where, or NULL if none do. */
 Datum mergejoin_first_conflict(PG_FUNCTION_ARGS) {
-  Request request = {.export = EXPORT_JOIN, .places = REPORTED_PLACES};
+  Request request = {.places = REPORTED_PLACES};
   StringInfoData report;
   Answer answer;
 
@@ -160,10 +165,10 @@ Datum mergejoin_first_conflict(PG_FUNCTION_ARGS) {
   return returned(fcinfo, cstring_to_text_with_len(report.data, report.len));
 }
 
-/* Appends which patch of a group is none, and why. */
-static void append_bad(StringInfo report, size_t number, const char *why) {
+/* Appends which patch of a group is none, and the line that says why. */
+static void append_bad(StringInfo report, size_t number, const char *line) {
   appendStringInfo(report, "{\"bad\":{\"number\":%zu,\"why\":", number);
-  escape_json(report, why);
+  escape_json(report, line);
   appendStringInfoChar(report, '}');
 }
 
@@ -192,10 +197,10 @@ static void append_report(StringInfo report, const Request *request, const Answe
       append_conflict(report, answer);
       break;
     case MERGEJOIN_PATCH:
-      append_bad(report, answer->reply.first, why_unread(answer));
+      append_bad(report, answer->reply.first, line_of(answer));
       break;
     case MERGEJOIN_TOO_LARGE:
-      append_bad(report, first_too_large(request), "too large");
+      append_bad(report, first_too_large(request), TOO_LARGE);
       break;
     default:
       refuse(answer);
@@ -204,7 +209,7 @@ static void append_report(StringInfo report, const Request *request, const Answe
 
 /* Ends mergejoin_report_agg: returns what an array of patches is. */
 Datum mergejoin_report(PG_FUNCTION_ARGS) {
-  Request request = {.export = EXPORT_JOIN, .places = REPORTED_PLACES, .is_kept = true};
+  Request request = {.places = REPORTED_PLACES, .is_kept = true};
   bool is_whole = read_elements(&request, array_of_argument(fcinfo, 0), true);
   Answer answer = answer_of(&request);
   StringInfoData report;
@@ -214,7 +219,7 @@ Datum mergejoin_report(PG_FUNCTION_ARGS) {
   if (is_whole || answer.reply.status == MERGEJOIN_PATCH)
     append_report(&report, &request, &answer);
   else
-    append_bad(&report, request.count, "too large");
+    append_bad(&report, request.count, TOO_LARGE);
   appendStringInfoChar(&report, '}');
   return returned(fcinfo, cstring_to_text_with_len(report.data, report.len));
 }

@@ -1,6 +1,6 @@
 /*
- * Texts that grow up to a length: JSON strings, and the text of a jsonb. PostgreSQL's own functions raise an error if a text is longer than
- * a value can be, and take all memory up to there: of a jsonb of 100 kB, whose numbers may have 131,072 digits each.
+ * The text of a jsonb, which grows up to a length. PostgreSQL's own functions raise an error if a text is longer than a value can be, and
+ * take all memory up to there: of a jsonb of 100 kB, whose numbers may have 131,072 digits each.
  */
 #include "writing.h"
 
@@ -20,7 +20,7 @@ Growing growing(Size capacity, Size most) {
 }
 
 /* Appends bytes, or none of them. */
-void append(Growing *text, const char *bytes, Size length) {
+static void append(Growing *text, const char *bytes, Size length) {
   text->is_over = text->is_over || length > text->most - text->length;
   if (text->is_over) return;
   if (length > text->capacity - text->length) {
@@ -53,7 +53,7 @@ static Size plain_length(const char *bytes, Size length) {
 }
 
 /* Appends bytes of UTF-8 as a JSON string. */
-void append_string(Growing *text, const char *bytes, Size length) {
+static void append_string(Growing *text, const char *bytes, Size length) {
   append(text, "\"", 1);
   for (Size at = 0; at < length; at += 1) {
     Size plain = plain_length(bytes + at, length - at);

@@ -1,5 +1,5 @@
 /*
- * Texts that grow up to a length: JSON strings, and the text of a jsonb.
+ * The text of a jsonb, which grows up to a length.
  */
 #ifndef MERGEJOIN_WRITING_H
 #define MERGEJOIN_WRITING_H
@@ -18,8 +18,6 @@ typedef struct Growing {
 } Growing;
 
 extern Growing growing(Size capacity, Size most);
-extern void append(Growing *text, const char *bytes, Size length);
-extern void append_string(Growing *text, const char *bytes, Size length);
 extern void append_jsonb(Growing *text, JsonbContainer *container);
 extern void end(Growing *text);
 

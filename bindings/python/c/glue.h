@@ -1,5 +1,5 @@
-/* What the files of the extension module share: texts that calls borrow, and the answers of calls. Each function that returns an object
- * or an int sets an error if it returns NULL or -1. */
+/* What the files of the extension module share: what calls are given, and their answers. Each function that returns an object or an int sets
+ * an error if it returns NULL or -1. */
 #ifndef MERGEJOIN_PYTHON_GLUE_H
 #define MERGEJOIN_PYTHON_GLUE_H
 
@@ -16,23 +16,37 @@ typedef struct texts {
   size_t count;
 } texts;
 
+/* What a call is given, in the order of its arguments: each text, or several, the numbers, the identities, the other object, and the limit. */
+typedef struct given {
+  texts texts[2], *text;
+  uint64_t numbers[3], *number;
+  mergejoin_identity *chosen;
+  size_t count;
+  PyObject *other;
+  size_t limit;
+} given;
+
+/* In a call: its text of that number, or its texts. */
+#define TEXT_(number) it->texts[number].at->bytes, it->texts[number].at->length
+#define ALL_(number) it->texts[number].at, it->texts[number].count
+
+/* Takes the arguments of a call, which are as many as the characters that say of what kind they are: t a text, a all texts of an iterable, n a
+ * number of 64 bits, i identities, o an object, and l a limit, of which None is none. */
+int take(given *it, PyObject *const *arguments, Py_ssize_t count, const char *kinds);
+
+void drop(given *it);
+
 /* Takes a str, bytes, or by a copy a bytearray or a memoryview, as a text of UTF-8. Half of a surrogate pair becomes bytes that are
  * not UTF-8, so that the library refuses it. */
 int texts_of_one(PyObject *given, texts *taken);
-
-/* Gives what an iterable has as a tuple. What the package's ordered() refuses sets its error, which has this word. */
-PyObject *all_of(PyObject *given, const char *what);
 
 /* Takes each text of an iterable. */
 int texts_of_all(PyObject *given, texts *taken);
 
 void texts_drop(texts *taken);
 
-/* Whether a call has as many arguments as it wants; if not, the error is set. */
-int has_arguments(Py_ssize_t count, Py_ssize_t wanted);
-
-/* Takes a limit: an int or what has __index__, or None for no limit. */
-int limit_of(PyObject *given, size_t *limit);
+/* Gives what an iterable has as a tuple. What the package's ordered() refuses sets its error, which has this word. */
+PyObject *all_of(PyObject *given, const char *what);
 
 /* The result of a call as a str, or the error that its reply reports. The text is freed. Without one memory ran out, unless an error is
  * set. */

@@ -7,7 +7,11 @@
 
 #include <pthread.h>
 
-enum { SPARE = 65536 }; /* bytes of a buffer in addition to what the text had before */
+enum {
+  WORDS = 256,  /* bytes of a buffer for the line of an error and for the word for a message */
+  PART = 4096,  /* for what is of a length that is not known */
+  SPARE = 65536 /* in addition to what the text had before */
+};
 
 /* How many forks led to this process since the module was loaded. */
 static unsigned forks;
@@ -23,7 +27,6 @@ typedef struct live {
   unsigned forks;
   int is_lost;
   size_t length, more;
-  int is_cut; /* whether the text that was read last has less than there is */
   uint64_t epoch;
   union {
     mergejoin_replica replica;
@@ -58,8 +61,6 @@ static int is_usable(live *self) {
     Py_END_ALLOW_THREADS                            \
   }
 
-#define BYTES_(text) (text).at->bytes, (text).at->length
-
 static PyObject *live_new(PyTypeObject *type, PyObject *arguments, PyObject *names) {
   allocfunc allocate = (allocfunc)PyType_GetSlot(type, Py_tp_alloc);
   live *self = (live *)allocate(type, 0);
@@ -74,7 +75,7 @@ static PyObject *live_new(PyTypeObject *type, PyObject *arguments, PyObject *nam
 }
 
 /* Gives the memory of an object back, whose handle is freed. */
-static void drop(live *self) {
+static void give_back(live *self) {
   PyTypeObject *type = Py_TYPE((PyObject *)self);
   freefunc release = (freefunc)PyType_GetSlot(type, Py_tp_free);
   if (self->lock) PyThread_free_lock(self->lock);
@@ -82,280 +83,144 @@ static void drop(live *self) {
   Py_DECREF(type);
 }
 
-/* A call that reads a handle into a buffer. */
-typedef mergejoin_reply reading(live *self, uint8_t *out, size_t capacity, size_t limit);
+/* A call on the handle of an object. */
+typedef mergejoin_reply calling(live *self, const given *it, uint8_t *out, size_t capacity);
 
-/* The text of such a call, in a buffer for half as much again as it had before, or in a second one. What was received since is not
- * counted: repeats change no text. */
-static PyObject *read_text(live *self, reading *read, size_t *length, PyObject *given) {
-  mergejoin_reply reply = {.status = MERGEJOIN_NO_MEMORY};
-  uint8_t *out = NULL;
-  size_t limit, capacity;
-  if (limit_of(given, &limit)) return NULL;
-  ALONE_(self, {
-    capacity = *length + *length / 2 + SPARE;
-    if (capacity > limit) capacity = limit + 64;
-    for (;;) {
-      free(out);
-      out = malloc(capacity);
-      if (!out) break;
-      reply = read(self, out, capacity, limit);
-      if (reply.length <= capacity) break;
-      capacity = reply.length;
-    }
-    if (out && reply.status == MERGEJOIN_RESULT) *length = reply.length;
-    self->is_cut = (reply.flags & MERGEJOIN_MORE) != 0;
-  });
-  return answer_of((char *)out, &reply);
+/* The text of a call, in a buffer of so many bytes. If it is longer, the call is made again with a buffer for it: after a call that has
+ * changed something it has a few bytes, which fit. */
+static char *text_by(live *self, const given *it, calling *call, size_t capacity, mergejoin_reply *reply) {
+  uint8_t *out = malloc(capacity);
+  if (!out) out = malloc(capacity = WORDS); /* the text may be shorter */
+  while (out) {
+    *reply = call(self, it, out, capacity);
+    if (reply->length <= capacity) break;
+    free(out);
+    out = malloc(capacity = reply->length);
+  }
+  return (char *)out;
+}
+
+/* A method of an object: the kinds of what it is given, the bytes of its first buffer, what makes its answer of the text, and its call. */
+#define METHOD_(name, kinds, bytes, made_of, call)                                                                \
+  static mergejoin_reply name##_call(live *self, const given *it, uint8_t *out, size_t capacity) { return call; } \
+  static PyObject *name(live *self, PyObject *const *arguments, Py_ssize_t count) {                               \
+    mergejoin_reply reply = {0};                                                                                  \
+    given all, *it = &all;                                                                                        \
+    char *text = NULL;                                                                                            \
+    if (take(it, arguments, count, kinds)) return NULL;                                                           \
+    ALONE_(self, text = text_by(self, it, name##_call, bytes, &reply));                                           \
+    drop(it);                                                                                                     \
+    return made_of(text, &reply);                                                                                 \
+  }
+
+#define INTO_ out, capacity, it->limit
+
+/* What is said of a refused patch has its places twice, in the line and in the array after it. They are mostly no longer than the patch. */
+#define TWICE_ (WORDS + 2 * it->texts[0].at->length)
+
+/* Half as many bytes again as a text had when it was last read. What was received since is not counted: repeats change no text. */
+static size_t after(size_t length, const given *it) {
+  length += length / 2 + SPARE;
+  return WORDS + (length < it->limit ? length : it->limit);
+}
+
+static mergejoin_reply kept(size_t *length, mergejoin_reply reply) {
+  if (reply.status == MERGEJOIN_RESULT) *length = reply.length;
+  return reply;
+}
+
+static mergejoin_reply begun(live *self, const given *it, mergejoin_reply reply) {
+  if (reply.status != MERGEJOIN_RESULT) return reply;
+  self->length = it->texts[0].at->length;
+  self->more = 0;
+  self->epoch = it->numbers[0];
+  return reply;
+}
+
+/* Begins an object with what it is given, by one of its methods. */
+static int begin(live *self, PyObject *arguments, PyObject *(*method)(live *, PyObject *const *, Py_ssize_t)) {
+  PyObject *given[2] = {NULL, NULL};
+  Py_ssize_t count = PyTuple_Size(arguments);
+  for (Py_ssize_t number = 0; number < count && number < 2; number += 1) given[number] = PyTuple_GetItem(arguments, number);
+  PyObject *answer = method(self, given, count);
+  Py_XDECREF(answer);
+  return answer ? 0 : -1;
 }
 
 /* Replica */
 
-static int replica_init(live *self, PyObject *arguments, PyObject *names) {
-  mergejoin_reply reply = {0};
-  char *text = NULL;
-  texts start = {0};
-  (void)names;
-  if (!has_arguments(PyTuple_Size(arguments), 1) || texts_of_one(PyTuple_GetItem(arguments, 0), &start)) return -1;
-  ALONE_(self, {
-    text = mergejoin_replica_start_new(&self->it.replica, BYTES_(start), SIZE_MAX, &reply);
-    self->length = start.at->length;
-    self->more = 0;
-  });
-  texts_drop(&start);
-  PyObject *answer = answer_of(text, &reply);
-  Py_XDECREF(answer);
-  return answer ? 0 : -1;
-}
+METHOD_(replica_start, "t", WORDS, answer_of, begun(self, it, mergejoin_replica_start(&self->it.replica, TEXT_(0), INTO_)))
+METHOD_(replica_receive, "tl", TWICE_, answer_of, mergejoin_replica_receive(&self->it.replica, TEXT_(0), INTO_))
+METHOD_(replica_document, "l", after(self->length, it), answer_of, kept(&self->length, mergejoin_replica_document(&self->it.replica, INTO_)))
+METHOD_(replica_joined, "l", after(self->more, it), answer_of, kept(&self->more, mergejoin_replica_joined(&self->it.replica, INTO_)))
+METHOD_(replica_get, "tl", PART, answer_of, mergejoin_replica_get(&self->it.replica, TEXT_(0), INTO_))
+
+static int replica_init(live *self, PyObject *arguments, PyObject *names) { return (void)names, begin(self, arguments, replica_start); }
 
 static void replica_dealloc(live *self) {
   if (is_whole(self)) mergejoin_replica_free(&self->it.replica);
-  drop(self);
+  give_back(self);
 }
 
-static PyObject *replica_receive(live *self, PyObject *const *arguments, Py_ssize_t count) {
-  mergejoin_reply reply = {0};
-  char *text = NULL;
-  texts patch;
-  size_t limit;
-  if (!has_arguments(count, 2) || limit_of(arguments[1], &limit) || texts_of_one(arguments[0], &patch)) return NULL;
-  ALONE_(self, {
-    text = mergejoin_replica_receive_new(&self->it.replica, BYTES_(patch), limit, &reply);
-  });
-  texts_drop(&patch);
-  return answer_of(text, &reply);
+/* Patches. That those which were taken conflict is no error, but of the call that asks for their join. So no call that takes patches wants
+ * places, of which there may be very many. */
+
+#define NO_PLACES 0
+#define TAKEN_ out, capacity, NO_PLACES
+
+static mergejoin_reply taken(mergejoin_reply reply) {
+  return reply.status == MERGEJOIN_CONFLICT ? (mergejoin_reply){.status = MERGEJOIN_RESULT} : reply;
 }
 
-static mergejoin_reply document_of(live *self, uint8_t *out, size_t capacity, size_t limit) {
-  return mergejoin_replica_document(&self->it.replica, out, capacity, limit);
+METHOD_(patches_add, "t", WORDS, answer_of, taken(mergejoin_patches_add(&self->it.patches, TEXT_(0), TAKEN_)))
+METHOD_(patches_from_kept, "t", WORDS, answer_of, begun(self, it, taken(mergejoin_patches_from_kept(&self->it.patches, TEXT_(0), TAKEN_))))
+METHOD_(patches_text, "l", after(self->length, it), answer_of, kept(&self->length, mergejoin_patches_text(&self->it.patches, INTO_)))
+METHOD_(patches_kept, "l", after(self->length, it), answer_of, kept(&self->length, mergejoin_patches_kept(&self->it.patches, INTO_)))
+METHOD_(patches_take_all, "o", WORDS, answer_of,
+        taken(mergejoin_patches_combine(&self->it.patches, &((live *)it->other)->it.patches, TAKEN_)))
+
+/* Takes all that another has, and leaves it without patches. The other is new, and no other thread has it. */
+static PyObject *patches_combine(live *self, PyObject *const *arguments, Py_ssize_t count) {
+  if (count == 1 && arguments[0] != (PyObject *)self && Py_TYPE(arguments[0]) == Py_TYPE((PyObject *)self)) {
+    return patches_take_all(self, arguments, count);
+  }
+  PyErr_SetString(PyExc_TypeError, "another Patches is wanted");
+  return NULL;
 }
-
-static mergejoin_reply joined_of(live *self, uint8_t *out, size_t capacity, size_t limit) {
-  return mergejoin_replica_joined(&self->it.replica, out, capacity, limit);
-}
-
-static PyObject *replica_document(live *self, PyObject *limit) { return read_text(self, document_of, &self->length, limit); }
-
-static PyObject *replica_joined(live *self, PyObject *limit) { return read_text(self, joined_of, &self->more, limit); }
-
-static PyObject *replica_get(live *self, PyObject *const *arguments, Py_ssize_t count) {
-  mergejoin_reply reply = {0};
-  char *text = NULL;
-  texts pointer;
-  size_t limit;
-  if (!has_arguments(count, 2) || limit_of(arguments[1], &limit) || texts_of_one(arguments[0], &pointer)) return NULL;
-  ALONE_(self, text = mergejoin_replica_get_new(&self->it.replica, BYTES_(pointer), limit, &reply));
-  texts_drop(&pointer);
-  return answer_of(text, &reply);
-}
-
-/* Patches */
 
 static void patches_dealloc(live *self) {
   if (is_whole(self)) mergejoin_patches_free(&self->it.patches);
-  drop(self);
+  give_back(self);
 }
-
-/* Patches that were taken may conflict: that is no error, but of a call that asks for their join. So no call that takes patches wants
- * places, of which there may be very many. */
-#define NO_PLACES 0
-
-static PyObject *taken(char *text, mergejoin_reply *reply) {
-  if (reply->status == MERGEJOIN_CONFLICT) reply->status = MERGEJOIN_RESULT;
-  PyObject *answer = answer_of(text, reply);
-  Py_XDECREF(answer);
-  return answer ? Py_NewRef(Py_None) : NULL;
-}
-
-static PyObject *patches_add(live *self, PyObject *given) {
-  mergejoin_reply reply = {0};
-  char *text = NULL;
-  texts patch;
-  if (texts_of_one(given, &patch)) return NULL;
-  ALONE_(self, text = mergejoin_patches_add_new(&self->it.patches, BYTES_(patch), NO_PLACES, &reply));
-  texts_drop(&patch);
-  return taken(text, &reply);
-}
-
-static PyObject *patches_from_kept(live *self, PyObject *given) {
-  mergejoin_reply reply = {0};
-  char *text = NULL;
-  texts kept;
-  if (texts_of_one(given, &kept)) return NULL;
-  ALONE_(self, {
-    text = mergejoin_patches_from_kept_new(&self->it.patches, BYTES_(kept), NO_PLACES, &reply);
-    self->length = kept.at->length;
-  });
-  texts_drop(&kept);
-  return taken(text, &reply);
-}
-
-/* Takes all that another has, and leaves it without patches. The other is new, and no other thread has it. */
-static PyObject *patches_combine(live *self, PyObject *given) {
-  mergejoin_reply reply = {0};
-  char *text = NULL;
-  live *other = (live *)given;
-  if (given == (PyObject *)self || Py_TYPE(given) != Py_TYPE((PyObject *)self)) {
-    PyErr_SetString(PyExc_TypeError, "another Patches is wanted");
-    return NULL;
-  }
-  ALONE_(self, text = mergejoin_patches_combine_new(&self->it.patches, &other->it.patches, NO_PLACES, &reply));
-  return taken(text, &reply);
-}
-
-static mergejoin_reply text_of(live *self, uint8_t *out, size_t capacity, size_t limit) {
-  return mergejoin_patches_text(&self->it.patches, out, capacity, limit);
-}
-
-static mergejoin_reply kept_of(live *self, uint8_t *out, size_t capacity, size_t limit) {
-  return mergejoin_patches_kept(&self->it.patches, out, capacity, limit);
-}
-
-static PyObject *patches_text(live *self, PyObject *limit) { return read_text(self, text_of, &self->length, limit); }
-
-static PyObject *patches_kept(live *self, PyObject *limit) { return read_text(self, kept_of, &self->length, limit); }
 
 /* PatchLog */
 
-/* A number of 64 bits, of an int or of what has __index__. */
-static int number_of(PyObject *given, uint64_t *number) {
-  PyObject *taken = PyNumber_Index(given);
-  *number = taken ? PyLong_AsUnsignedLongLong(taken) : 0;
-  Py_XDECREF(taken);
-  return PyErr_Occurred() ? -1 : 0;
+/* The text of pairs, and whether it has less than there is. */
+static PyObject *pairs_of(char *text, const mergejoin_reply *reply) {
+  PyObject *answer = answer_of(text, reply);
+  return answer ? Py_BuildValue("Ni", answer, (reply->flags & MERGEJOIN_MORE) != 0) : NULL;
 }
 
-static int log_init(live *self, PyObject *arguments, PyObject *names) {
-  mergejoin_reply reply = {0};
-  char *text = NULL;
-  texts start;
-  uint64_t epoch;
-  (void)names;
-  if (!has_arguments(PyTuple_Size(arguments), 2) || number_of(PyTuple_GetItem(arguments, 0), &epoch)) return -1;
-  if (texts_of_one(PyTuple_GetItem(arguments, 1), &start)) return -1;
-  ALONE_(self, {
-    text = mergejoin_patch_log_start_new(&self->it.log, epoch, BYTES_(start), SIZE_MAX, &reply);
-    self->length = start.at->length;
-    self->epoch = epoch;
-  });
-  texts_drop(&start);
-  PyObject *answer = answer_of(text, &reply);
-  Py_XDECREF(answer);
-  return answer ? 0 : -1;
+static mergejoin_reply decided(live *self, mergejoin_reply reply) {
+  self->epoch += reply.status == MERGEJOIN_RESULT;
+  return reply;
 }
+
+METHOD_(log_start, "nt", WORDS, answer_of, begun(self, it, mergejoin_patch_log_start(&self->it.log, it->numbers[0], TEXT_(0), INTO_)))
+METHOD_(log_receive, "nnnt", WORDS, answer_of,
+        mergejoin_patch_log_receive(&self->it.log, it->numbers[0], it->numbers[1], it->numbers[2], TEXT_(0), INTO_))
+METHOD_(log_document, "l", after(self->length, it), answer_of, kept(&self->length, mergejoin_patch_log_document(&self->it.log, INTO_)))
+METHOD_(log_conflicts, "l", after(self->more, it), pairs_of, kept(&self->more, mergejoin_patch_log_conflicts(&self->it.log, INTO_)))
+METHOD_(log_conflicts_of, "nnl", PART, pairs_of,
+        mergejoin_patch_log_conflicts_of(&self->it.log, it->numbers[0], it->numbers[1], INTO_))
+METHOD_(log_count, "", WORDS, answer_of, mergejoin_patch_log_count(&self->it.log, INTO_))
+METHOD_(log_decide, "il", PART, answer_of, decided(self, mergejoin_patch_log_decide(&self->it.log, it->chosen, it->count, INTO_)))
+
+static int log_init(live *self, PyObject *arguments, PyObject *names) { return (void)names, begin(self, arguments, log_start); }
 
 static void log_dealloc(live *self) {
   if (is_whole(self)) mergejoin_patch_log_free(&self->it.log);
-  drop(self);
-}
-
-static PyObject *log_receive(live *self, PyObject *const *arguments, Py_ssize_t count) {
-  mergejoin_reply reply = {0};
-  char *text = NULL;
-  texts patch;
-  uint64_t epoch, sender, number;
-  if (!has_arguments(count, 4) || number_of(arguments[0], &epoch) || number_of(arguments[1], &sender) || number_of(arguments[2], &number)) return NULL;
-  if (texts_of_one(arguments[3], &patch)) return NULL;
-  ALONE_(self, {
-    text = mergejoin_patch_log_receive_new(&self->it.log, epoch, sender, number, BYTES_(patch), SIZE_MAX, &reply);
-  });
-  texts_drop(&patch);
-  return answer_of(text, &reply);
-}
-
-static mergejoin_reply log_document_of(live *self, uint8_t *out, size_t capacity, size_t limit) {
-  return mergejoin_patch_log_document(&self->it.log, out, capacity, limit);
-}
-
-static mergejoin_reply log_pairs_of(live *self, uint8_t *out, size_t capacity, size_t limit) {
-  return mergejoin_patch_log_conflicts(&self->it.log, out, capacity, limit);
-}
-
-static PyObject *log_document(live *self, PyObject *limit) { return read_text(self, log_document_of, &self->length, limit); }
-
-/* The text of the pairs that come first, and whether more are left out. */
-static PyObject *log_conflicts(live *self, PyObject *limit) {
-  PyObject *text = read_text(self, log_pairs_of, &self->more, limit);
-  return text ? Py_BuildValue("Ni", text, self->is_cut) : NULL;
-}
-
-/* The same of the pairs with one identity. */
-static PyObject *log_conflicts_of(live *self, PyObject *const *arguments, Py_ssize_t count) {
-  mergejoin_reply reply = {0};
-  char *text = NULL;
-  uint64_t sender, number;
-  size_t limit;
-  if (!has_arguments(count, 3) || number_of(arguments[0], &sender) || number_of(arguments[1], &number) || limit_of(arguments[2], &limit)) return NULL;
-  ALONE_(self, text = mergejoin_patch_log_conflicts_of_new(&self->it.log, sender, number, limit, &reply));
-  PyObject *answer = answer_of(text, &reply);
-  return answer ? Py_BuildValue("Ni", answer, (reply.flags & MERGEJOIN_MORE) != 0) : NULL;
-}
-
-static PyObject *log_count(live *self, PyObject *nothing) {
-  mergejoin_reply reply = {0};
-  char *text = NULL;
-  (void)nothing;
-  ALONE_(self, text = mergejoin_patch_log_count_new(&self->it.log, SIZE_MAX, &reply));
-  PyObject *answer = answer_of(text, &reply);
-  PyObject *count = answer ? PyNumber_Long(answer) : NULL;
-  Py_XDECREF(answer);
-  return count;
-}
-
-/* Each identity is a pair of numbers. */
-static mergejoin_identity *identities_of(PyObject *given, size_t *count) {
-  PyObject *all = all_of(given, "identities");
-  Py_ssize_t length = all ? PyTuple_Size(all) : 0;
-  mergejoin_identity *identities = all ? PyMem_Malloc(sizeof *identities * (size_t)(length ? length : 1)) : NULL;
-  if (all && !identities) PyErr_NoMemory();
-  for (Py_ssize_t number = 0; identities && number < length; number += 1) {
-    PyObject *pair = PyTuple_GetItem(all, number);
-    int is_pair = PyTuple_Check(pair) && PyTuple_Size(pair) == 2;
-    if (!is_pair) PyErr_SetString(PyExc_TypeError, "an identity is a tuple of a sender and a number");
-    if (!is_pair || number_of(PyTuple_GetItem(pair, 0), &identities[number].sender) ||
-        number_of(PyTuple_GetItem(pair, 1), &identities[number].number)) {
-      PyMem_Free(identities);
-      identities = NULL;
-    }
-  }
-  Py_XDECREF(all);
-  *count = (size_t)length;
-  return identities;
-}
-
-static PyObject *log_decide(live *self, PyObject *const *arguments, Py_ssize_t count) {
-  mergejoin_reply reply = {0};
-  char *text = NULL;
-  size_t limit, length;
-  if (!has_arguments(count, 2) || limit_of(arguments[1], &limit)) return NULL;
-  mergejoin_identity *chosen = identities_of(arguments[0], &length);
-  if (!chosen) return NULL;
-  ALONE_(self, {
-    text = mergejoin_patch_log_decide_new(&self->it.log, chosen, length, limit, &reply);
-    if (reply.status == MERGEJOIN_RESULT) self->epoch += 1;
-  });
-  PyMem_Free(chosen);
-  return answer_of(text, &reply);
+  give_back(self);
 }
 
 static PyObject *log_epoch(live *self, PyObject *nothing) {
@@ -367,23 +232,22 @@ static PyObject *log_epoch(live *self, PyObject *nothing) {
 
 /* The types. Each is used by a class of the package, which looks at the arguments. */
 
-#define METHOD_(name, function, how) {name, (PyCFunction)(void (*)(void))(function), how, NULL}
+#define ENTRY_(name, function) {name, (PyCFunction)(void (*)(void))(function), METH_FASTCALL, NULL}
 
 static PyMethodDef replica_methods[] = {
-    METHOD_("receive", replica_receive, METH_FASTCALL), METHOD_("document", replica_document, METH_O),
-    METHOD_("joined", replica_joined, METH_O), METHOD_("get", replica_get, METH_FASTCALL), {NULL, NULL, 0, NULL},
+    ENTRY_("receive", replica_receive), ENTRY_("document", replica_document), ENTRY_("joined", replica_joined), ENTRY_("get", replica_get),
+    {NULL, NULL, 0, NULL},
 };
 
 static PyMethodDef patches_methods[] = {
-    METHOD_("add", patches_add, METH_O), METHOD_("combine", patches_combine, METH_O), METHOD_("text", patches_text, METH_O),
-    METHOD_("kept", patches_kept, METH_O), METHOD_("from_kept", patches_from_kept, METH_O), {NULL, NULL, 0, NULL},
+    ENTRY_("add", patches_add), ENTRY_("combine", patches_combine), ENTRY_("text", patches_text), ENTRY_("kept", patches_kept),
+    ENTRY_("from_kept", patches_from_kept), {NULL, NULL, 0, NULL},
 };
 
 static PyMethodDef log_methods[] = {
-    METHOD_("receive", log_receive, METH_FASTCALL), METHOD_("document", log_document, METH_O),
-    METHOD_("conflicts", log_conflicts, METH_O), METHOD_("conflicts_of", log_conflicts_of, METH_FASTCALL),
-    METHOD_("decide", log_decide, METH_FASTCALL), METHOD_("epoch", log_epoch, METH_NOARGS), METHOD_("count", log_count, METH_NOARGS),
-    {NULL, NULL, 0, NULL},
+    ENTRY_("receive", log_receive), ENTRY_("document", log_document), ENTRY_("conflicts", log_conflicts),
+    ENTRY_("conflicts_of", log_conflicts_of), ENTRY_("count", log_count), ENTRY_("decide", log_decide),
+    {"epoch", (PyCFunction)(void (*)(void))log_epoch, METH_NOARGS, NULL}, {NULL, NULL, 0, NULL},
 };
 
 static PyType_Slot replica_slots[] = {

@@ -32,7 +32,7 @@ static int text_of(PyObject *given, PyObject *kept, mergejoin_text *text) {
 }
 
 /* The objects, each of which is kept, and the list of those that are made of them. */
-static int take(PyObject *objects, texts *taken) {
+static int take_objects(PyObject *objects, texts *taken) {
   Py_ssize_t count = objects ? PyTuple_Size(objects) : -1;
   *taken = (texts){NULL, NULL, 0};
   if (count < 0) return -1;
@@ -54,7 +54,7 @@ failed:
   return -1;
 }
 
-int texts_of_one(PyObject *given, texts *taken) { return take(PyTuple_Pack(1, given), taken); }
+int texts_of_one(PyObject *given, texts *taken) { return take_objects(PyTuple_Pack(1, given), taken); }
 
 PyObject *all_of(PyObject *given, const char *what) {
   if (PyList_Check(given) || PyTuple_Check(given) || PyIter_Check(given)) return PySequence_Tuple(given);
@@ -66,7 +66,7 @@ PyObject *all_of(PyObject *given, const char *what) {
   return all;
 }
 
-int texts_of_all(PyObject *given, texts *taken) { return take(all_of(given, "texts"), taken); }
+int texts_of_all(PyObject *given, texts *taken) { return take_objects(all_of(given, "texts"), taken); }
 
 void texts_drop(texts *taken) {
   Py_CLEAR(taken->kept);
@@ -74,35 +74,18 @@ void texts_drop(texts *taken) {
   taken->at = NULL;
 }
 
-int has_arguments(Py_ssize_t count, Py_ssize_t wanted) {
-  if (count != wanted) PyErr_Format(PyExc_TypeError, "%zd arguments in the place of %zd", count, wanted);
-  return count == wanted;
-}
-
-int limit_of(PyObject *given, size_t *limit) {
-  *limit = SIZE_MAX;
-  if (given == Py_None) return 0;
-  PyObject *taken = PyNumber_Index(given);
-  *limit = taken ? PyLong_AsSize_t(taken) : 0;
-  Py_XDECREF(taken);
-  return PyErr_Occurred() ? -1 : 0;
-}
-
-/* Raises what the package makes of a reply without a result. */
+/* Raises what the package makes of a reply without a result: of its line, and of the array of places at the end of its text. */
 static PyObject *raised(const char *text, const mergejoin_reply *reply) {
-  PyObject *errors = PyImport_ImportModule("mergejoin._errors");
-  PyObject *error = NULL;
+  PyObject *errors = PyImport_ImportModule("mergejoin._errors"), *error = NULL;
+  size_t line = reply->length - reply->places;
   if (errors) {
-    error = PyObject_CallMethod(errors, "error_of", "InnnNI", (unsigned)reply->status, (Py_ssize_t)reply->first,
-                                (Py_ssize_t)reply->second, (Py_ssize_t)reply->total,
-                                PyUnicode_DecodeUTF8(text, (Py_ssize_t)reply->length, "strict"),
-                                (unsigned)(reply->flags & MERGEJOIN_MORE));
-    Py_DECREF(errors);
+    error = PyObject_CallMethod(errors, "error_of", "Innns#s#O", (unsigned)reply->status, (Py_ssize_t)reply->first, (Py_ssize_t)reply->second,
+                                (Py_ssize_t)reply->total, text, (Py_ssize_t)line, text + line, (Py_ssize_t)reply->places,
+                                reply->flags & MERGEJOIN_MORE ? Py_True : Py_False);
   }
-  if (error) {
-    PyErr_SetObject((PyObject *)Py_TYPE(error), error);
-    Py_DECREF(error);
-  }
+  if (error) PyErr_SetObject((PyObject *)Py_TYPE(error), error);
+  Py_XDECREF(error);
+  Py_XDECREF(errors);
   return NULL;
 }
 

@@ -55,7 +55,7 @@ class Bounds(unittest.TestCase):
         for wrong in ('{"n', '{"n0":[', "{", "~"):
             log = [("a", f'{{"n0":{number}}}') for number in range(1_500)] + [("a", wrong)]
             for made in (conflicts_by_key, join_by_key):
-                with self.assertRaises(mergejoin.InputError) as raised:
+                with self.assertRaises(mergejoin.PatchError) as raised:
                     made(dask.bag.from_sequence(log, npartitions=2)).compute(scheduler="synchronous")
                 error = raised.exception
-                self.assertEqual((error.key, error.number, error.args), ("a", 0, ("patch", 0, "not JSON", None)))
+                self.assertEqual((error.key, error.number, error.args, str(error)), ("a", 0, (0, "not JSON", None), "patch of 'a': not JSON"))

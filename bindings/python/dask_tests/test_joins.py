@@ -149,7 +149,7 @@ class Tasks(unittest.TestCase):
 
 class Errors(unittest.TestCase):
     def raised(self, made, bag, **how):
-        with self.assertRaises(mergejoin.InputError) as raised:
+        with self.assertRaises(mergejoin.PatchError) as raised:
             made(bag).compute(**how)
         return raised.exception
 
@@ -159,8 +159,8 @@ class Errors(unittest.TestCase):
             log = [("a", "1"), (("b", 2), "2"), ("a", "3"), (("b", 2), "[1.5]")]
             chance.shuffle(log)
             error = self.raised(made, dask.bag.from_sequence(log, npartitions=2), scheduler=scheduler)
-            self.assertEqual((error.key, error.number, error.why), (("b", 2), 0, "number not whole"))
-            self.assertIn("patch of ('b', 2): number not whole", str(error))
+            self.assertEqual((error.key, error.number, error.cause), (("b", 2), 0, "number not whole"))
+            self.assertEqual((str(error), error.place), ("patch of ('b', 2): number not whole at \"/0\"", "/0"))
 
     def test_it_is_reported_in_every_order_also_if_patches_conflict(self):
         log = [("a", '{"x":1}'), ("a", '{"x":2}'), ("a", b"\xff"), ("b", "1")]
@@ -168,7 +168,7 @@ class Errors(unittest.TestCase):
         for given in (log, [*large, *log[2:]]):
             for order, count, made in itertools.product(itertools.permutations(given), (1, 2, 4), (join_by_key, conflicts_by_key)):
                 error = self.raised(made, dask.bag.from_sequence(order, npartitions=count), scheduler="synchronous")
-                self.assertEqual((error.key, error.number, error.why), ("a", 0, "not JSON"))
+                self.assertEqual((error.key, error.number, error.cause), ("a", 0, "not JSON"))
 
     def test_a_text_that_is_several_documents_is_reported(self):
         """Texts move in one piece, with separators, which may be in a text that is no document."""
@@ -180,12 +180,12 @@ class Errors(unittest.TestCase):
                 for shares, more in itertools.product((1, 2), ([], [("a", '{"x":1}')], [("a", "4"), ("a", "5")])):
                     bag = dask.bag.from_sequence(log + more, npartitions=1)
                     error = self.raised(lambda bag: made(bag, shares), bag, scheduler="synchronous")
-                    self.assertEqual((error.key, error.number, error.why), ("a", 0, "not JSON"))
+                    self.assertEqual((error.key, error.number, error.cause), ("a", 0, "not JSON"))
 
     def test_an_empty_text_is_reported(self):
         for key, more, made in itertools.product(("", "a", 1), ([], [("b", "1")]), (join_by_key, conflicts_by_key)):
             error = self.raised(made, dask.bag.from_sequence([(key, ""), *more], npartitions=1), scheduler="synchronous")
-            self.assertEqual((error.key, error.number, error.why), (key, 0, "not JSON"))
+            self.assertEqual((error.key, error.number, error.cause), (key, 0, "not JSON"))
 
     def test_what_is_no_text_raises_a_type_error(self):
         for made, text in itertools.product((join_by_key, conflicts_by_key), (1, None, ["{}"])):

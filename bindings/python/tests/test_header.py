@@ -25,7 +25,7 @@ class Header(unittest.TestCase):
         self.assertEqual(mergejoin.__version__, re.search(r'#define MERGEJOIN_VERSION_STRING "(.*)"', HEADER)[1])
 
     def test_depth(self):
-        levels = int(re.search(r'"too deep" \(a document has at most (\d+) levels\)', HEADER)[1])
+        levels = int(re.search(r"document has at most (\d+) levels", HEADER)[1])
         self.assertEqual(mergejoin.objects._DEEPEST, levels)
         source = (TOP / "bindings/python/c/writing.c").read_text("utf-8")
         self.assertEqual(int(re.search(r"DEEPEST = (\d+)", source)[1]), levels)

@@ -12,7 +12,8 @@ import unittest
 import weakref
 
 import mergejoin
-from mergejoin import Arrival, Conflict, InputError, Missing, NoPatches, Patches, PatchLog, Refused, Replica, TooLarge
+from mergejoin import (Arrival, Conflict, DocumentError, Missing, NoPatches, PatchError, Patches, PatchLog, PointerError, Refused, Replica,
+                       TooLarge)
 
 START = '{"title": "Notes", "tags": ["a"]}'
 ADA, BOB, UNTITLED = '{"author": "Ada"}', '{"author": "Bob"}', '{"title": null}'
@@ -150,18 +151,17 @@ class Replicas(unittest.TestCase):
         self.assertEqual((replica.get("/tags/0"), replica.get(b"/tags", "none")), ('"a"', '["a"]'))
         self.assertEqual((replica.get("/x", None), replica.get("/x", default=7)), (None, 7))
         self.assertRaises(Missing, replica.get, "/x")
-        self.assertRaises(InputError, replica.get, "x", None)
+        self.assertRaises(PointerError, replica.get, "x", None)
 
     def test_what_is_wrong_changes_nothing(self):
-        self.assertRaises(InputError, Replica, "[")
+        self.assertRaises(DocumentError, Replica, "[")
         self.assertRaises(TypeError, Replica, {})
         replica = Replica(START)
         replica.receive(ADA)
-        for wrong, why, place in (("[", "not JSON", None), ('{"a":1.5}', "number not whole", "/a")):
-            with self.assertRaises(InputError) as raised:
+        for wrong, *carried in (("[", 0, "not JSON", None), ('{"a":1.5}', 0, "number not whole", "/a")):
+            with self.assertRaises(PatchError) as raised:
                 replica.receive(wrong)
-            error = raised.exception
-            self.assertEqual((error.what, error.number, error.why, error.place), ("patch", 0, why, place))
+            self.assertEqual([raised.exception.number, raised.exception.cause, raised.exception.place], carried)
         self.assertRaises(Conflict, replica.receive, BOB)
         self.assertEqual(replica.joined(), '{"author":"Ada"}')
 
@@ -230,11 +230,11 @@ class Logs(unittest.TestCase):
     def test_what_is_no_message(self):
         log = PatchLog(7, START)
         for words, error in (((-1, (1, 1), ADA), OverflowError), ((7, (MOST + 1, 1), ADA), OverflowError), ((7, (1,), ADA), TypeError),
-                             ((7, (1, "2"), ADA), TypeError), ((7, (1, 1), {}), TypeError), ((8, (1, 1), "["), InputError)):
+                             ((7, (1, "2"), ADA), TypeError), ((7, (1, 1), {}), TypeError), ((8, (1, 1), "["), PatchError)):
             self.assertRaises(error, log.receive, *words)
         for chosen in ([1], [(1,)], 5, [(1, None)]):
             self.assertRaises(TypeError, log.decide, chosen)
-        self.assertRaises(InputError, PatchLog, 1, "[")
+        self.assertRaises(DocumentError, PatchLog, 1, "[")
 
 
 class Threads(unittest.TestCase):
@@ -274,13 +274,18 @@ class Threads(unittest.TestCase):
 
 
 REPEATED = """
-import resource, mergejoin
+import mergejoin
+
+def most():
+    # How many kB of addresses the process had at once.
+    return int(open("/proc/self/status").read().split("VmPeak:")[1].split()[0])
+
 text, replica, patches = '{"a":"' + "x" * 100_000 + '"}', mergejoin.Replica("{}"), mergejoin.Patches()
 for _ in range(4_000):
     replica.receive(text)
     patches.add(text)
-resource.setrlimit(resource.RLIMIT_AS, (300_000_000,) * 2)
-print({len(text), len(replica.document()), len(replica.joined()), len(patches.text())})
+before = most()
+print({len(text), len(replica.document()), len(replica.joined()), len(patches.text())}, most() - before < 10_000)
 """
 
 
@@ -293,7 +298,7 @@ class Memory(unittest.TestCase):
     def test_repeats_take_no_buffer(self):
         """Of 400 MB of the same patch the text is as long as that of one."""
         done = subprocess.run([sys.executable, "-I", "-c", REPEATED], capture_output=True, text=True, check=False)
-        self.assertEqual((done.returncode, done.stdout, done.stderr), (0, "{100008}\n", ""))
+        self.assertEqual((done.returncode, done.stdout, done.stderr), (0, "{100008} True\n", ""))
 
     def test_what_is_dropped_is_freed(self):
         long, before = json.dumps({f"n{number}": number for number in range(5_000)}), 0
@@ -302,7 +307,7 @@ class Memory(unittest.TestCase):
             replica.receive(long)
             patches.add(long)
             log.receive(0, (0, 0), long)
-            self.assertRaises(InputError, patches.add, "[")
+            self.assertRaises(PatchError, patches.add, "[")
             before = before or (number == 40 and resident())
         self.assertLess(resident() - before, 4_000_000)
 

@@ -5,7 +5,7 @@ import json
 import unittest
 
 import mergejoin
-from mergejoin import InputError, objects
+from mergejoin import DocumentError, PatchError, objects
 
 
 class Colour(enum.IntEnum):
@@ -39,17 +39,17 @@ TAKEN = [None, True, 0, -(2**63), 2**64 - 1, "", "é\U0001f600\n\x00", [], {}, [
 
 class Objects(unittest.TestCase):
     def test_refused(self):
-        for value, why, place in REFUSED:
+        for value, cause, place in REFUSED:
+            of_document = DocumentError(cause, place)
             for call, words, wanted in (
-                (objects.join, [[{}, {}, value, 1.5]], ("patch", 2)), (objects.replay, [value, [1.5]], ("document", 0)),
-                (objects.replay, [{}, [value]], ("patch", 0)), (objects.merge, [{}, iter([1, value])], ("patch", 1)),
-                (objects.rewrite, [{}, value], ("patch", 0)), (objects.patch, [value, 1.5], ("document", 0)),
-                (objects.patch, [{}, value], ("patch", 0)), (objects.get, [value, "?"], ("document", 0)),
+                (objects.join, [[{}, {}, value, 1.5]], PatchError(2, cause, place)), (objects.replay, [value, [1.5]], of_document),
+                (objects.replay, [{}, [value]], PatchError(0, cause, place)), (objects.merge, [{}, iter([1, value])], PatchError(1, cause, place)),
+                (objects.rewrite, [{}, value], PatchError(0, cause, place)), (objects.patch, [value, 1.5], of_document),
+                (objects.patch, [{}, value], PatchError(0, cause, place)), (objects.get, [value, "?"], of_document),
             ):
-                with self.subTest(place=place, why=why, call=call.__name__), self.assertRaises(InputError) as raised:
+                with self.subTest(place=place, cause=cause, call=call.__name__), self.assertRaises(type(wanted)) as raised:
                     call(*words)
-                error = raised.exception
-                self.assertEqual((error.what, error.number, error.why, error.place), (*wanted, why, place))
+                self.assertEqual(raised.exception.args, wanted.args)
 
     def test_an_error_of_the_caller_s_class_is_raised(self):
         """None of them says that the value is not a document. The class raises once."""
@@ -86,8 +86,8 @@ class Objects(unittest.TestCase):
 
     def test_depth_is_the_library_s(self):
         self.assertEqual(json.loads(mergejoin.get(json.dumps(nested(126)), "")), nested(126))
-        with self.assertRaises(InputError) as raised:
+        with self.assertRaises(DocumentError) as raised:
             mergejoin.get(json.dumps(nested(127)), "")
-        self.assertEqual((raised.exception.why, raised.exception.place), ("too deep", "/a" * 126))
+        self.assertEqual((raised.exception.cause, raised.exception.place), ("too deep", "/a" * 126))
         edits = [{"op": "add", "path": "/a", "value": nested(124)}]
         self.assertEqual(objects.patch({}, edits), nested(125))

@@ -38,5 +38,6 @@ class Pages(unittest.TestCase):
             self.assertTrue(it.__doc__ and it.__doc__[0].isupper() and not it.__doc__.startswith(name + "("), name)
             self.assertIn(name, text)
         for line in ("join(texts: Iterable[Union[str, bytes, bytearray, memoryview]], *, limit: Optional[int] = None) -> str", "class Patches(builtins.object)",
-                     "class Missing(MergejoinError, builtins.LookupError)", "class InputError(MergejoinError, builtins.ValueError)"):
+                     "class Missing(MergejoinError, builtins.LookupError)", "class InputError(MergejoinError, builtins.ValueError)",
+                     "class PatchError(InputError)"):
             self.assertIn(line, text)

@@ -9,7 +9,7 @@ import time
 import unittest
 
 import mergejoin
-from mergejoin import Conflict, InputError, NoPatches, Patches, conflicts
+from mergejoin import Conflict, DocumentError, NoPatches, PatchError, Patches, conflicts
 
 NO_PATCHES = ["", "[", "1.5", "1,2", '{"a":1}}', "\ud800", b"\xff", "[" * 127 + "]" * 127]
 
@@ -79,8 +79,8 @@ class Groups(unittest.TestCase):
             for text in order:
                 try:
                     patches.add(wrong if text == "wrong" else text)
-                except InputError as error:
-                    self.assertEqual((error.what, error.number), ("patch", 0))
+                except PatchError as error:
+                    self.assertEqual(error.number, 0)
                     raised += 1
                 if is_looked_at:
                     outcome(patches.text)
@@ -88,10 +88,10 @@ class Groups(unittest.TestCase):
 
     def test_what_is_refused_changes_nothing(self):
         patches = Patches()
-        self.assertRaises(InputError, patches.add, "[")
+        self.assertRaises(PatchError, patches.add, "[")
         self.assertRaises(NoPatches, patches.text)
         patches.add('{"a": 1}')
-        self.assertRaises(InputError, patches.add, "[")
+        self.assertRaises(PatchError, patches.add, "[")
         self.assertEqual([patches.text(), patches.text()], ['{"a":1}'] * 2)
 
     def test_a_conflict_has_places_and_no_numbers(self):
@@ -118,7 +118,7 @@ class Groups(unittest.TestCase):
         self.assertEqual((again.text(), again), (patches.text(), patches))
         self.assertNotEqual(again, Patches())
         self.assertEqual((repr(again)[:28], repr(Patches())), ('<mergejoin.Patches {"n0":[0]', "<mergejoin.Patches of no patches>"))
-        self.assertRaises(InputError, again.__setstate__, "[")
+        self.assertRaises(DocumentError, again.__setstate__, "[")
 
     def test_pairs_that_conflict(self):
         chance, found = random.Random(7), 0
@@ -133,7 +133,7 @@ class Groups(unittest.TestCase):
             self.assertEqual(conflicts(texts), wanted)
             found += len(wanted)
         self.assertGreater(found, 1000)
-        with self.assertRaises(InputError) as raised:
+        with self.assertRaises(PatchError) as raised:
             conflicts(["1", "2", "["])
         self.assertEqual(raised.exception.number, 2)
 

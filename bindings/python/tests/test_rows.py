@@ -9,7 +9,7 @@ import mergejoin
 from mergejoin import objects
 
 sys.path.insert(0, str(pathlib.Path(__file__).resolve().parents[3] / "tests/common"))
-from rows import ROWS, vector_rows
+from rows import ROWS, line_of, vector_rows
 
 
 def given(export, texts):
@@ -19,23 +19,26 @@ def given(export, texts):
     return [texts[0], texts[1:]] if export in ("replay", "merge") else texts
 
 
+# The errors by their statuses.
+KINDS = [None, mergejoin.Conflict, mergejoin.NoPatches, mergejoin.Refused, mergejoin.Missing, mergejoin.DocumentError, mergejoin.PatchError,
+         mergejoin.FormError, mergejoin.PointerError]
+
+
 def seen(call, *words):
-    """Gives what a call answers: the status of the library, the numbers and the text."""
+    """Gives what a call answers: the status of the library, the numbers, the text or the line, and the words and places."""
     try:
-        return 0, 0, 0, call(*words)
-    except mergejoin.Conflict as it:
-        return 1, it.first, it.second, json.dumps(it.places, ensure_ascii=False, separators=(",", ":"))
-    except mergejoin.NoPatches as it:
-        return 2, 0, 0, str(it)
-    except mergejoin.Refused as it:
-        return 3, it.operation, 0, it.cause
-    except mergejoin.Missing as it:
-        return 4, 0, 0, str(it)
-    except mergejoin.InputError as it:
-        said = it.why if it.place is None else f"{it.why} at {it.place}"
-        return {"document": 5, "patch": 6, "pointer": 8}[it.what], it.number, 0, said
-    except mergejoin.Malformed as it:
-        return 7, it.operation, 0, it.cause
+        return 0, 0, 0, call(*words), None
+    except mergejoin.MergejoinError as it:
+        first = next((getattr(it, name) for name in ("first", "operation", "number", "offset") if hasattr(it, name)), 0)
+        carried = it.places if isinstance(it, mergejoin.Conflict) else [getattr(it, "cause", None), getattr(it, "place", None)]
+        return KINDS.index(type(it)), first, getattr(it, "second", 0), str(it), carried
+
+
+def wanted_of(status, first, second, text):
+    """Gives the same of the reply of a row."""
+    words, _, place = text.partition(" at ")
+    carried = {0: None, 1: status == 1 and json.loads(text), 2: [None, None], 4: [None, None]}.get(status, [words, place if " at " in text else None])
+    return status, first, second, line_of(status, first, second, text), carried
 
 
 def decoded(texts):
@@ -52,7 +55,7 @@ class Rows(unittest.TestCase):
 
     def test_texts(self):
         for export, status, first, second, text, texts in self.rows:
-            call, wanted = getattr(mergejoin, export), (status, first, second, text)
+            call, wanted = getattr(mergejoin, export), wanted_of(status, first, second, text)
             with self.subTest(export=export, texts=texts):
                 self.assertEqual(seen(call, *given(export, texts)), wanted)
                 for form in (bytearray, memoryview):
@@ -71,9 +74,9 @@ class Rows(unittest.TestCase):
                 continue
             count += 1
             words = [*parts, texts[-1]] if export == "get" else given(export, parts)
-            call, wanted = getattr(objects, export), (status, first, second, json.loads(text) if status == 0 else text)
+            call, wanted = getattr(objects, export), wanted_of(status, first, second, text)
             with self.subTest(export=export, texts=texts):
-                self.assertEqual(seen(call, *words), wanted)
+                self.assertEqual(seen(call, *words), (0, 0, 0, json.loads(text), None) if status == 0 else wanted)
         self.assertGreaterEqual(count, 110)
 
     def test_what_is_long_is_asked_for_again(self):

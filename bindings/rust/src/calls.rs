@@ -3,9 +3,8 @@
 use crate::raw::{Reply, RESULT};
 use crate::Error;
 
-/// A buffer has so many bytes more than the guess. No text is longer than this but a result, a list of places, a kept form, and
-/// words with a place after them.
-pub(crate) const LEAST: usize = 64;
+/// A buffer has so many bytes more than the guess. No text is longer than this but a result, a kept form, and a line that has places.
+const LEAST: usize = 128;
 
 /// The guess for a text of what stays in memory is half as many bytes again as it had when it was last read, and these. What was
 /// received since is not counted: repeats change no text.
@@ -54,18 +53,6 @@ pub(crate) unsafe fn reply_of(
         drop(buffer);
         buffer = buffer_of(reply.length)?;
     }
-}
-
-/// Calls once, with a buffer of a few bytes, and gives the status and the text's beginning.
-///
-/// # Safety
-///
-/// As of [`text_of`].
-pub(crate) unsafe fn status_of(call: impl FnOnce(*mut u8, usize) -> Reply) -> (Reply, String) {
-    let mut buffer = [0; LEAST];
-    let reply = call(buffer.as_mut_ptr(), LEAST);
-    let shown = &buffer[..reply.length.min(LEAST)];
-    (reply, String::from_utf8_lossy(shown).into_owned())
 }
 
 fn buffer_of(capacity: usize) -> Result<Vec<u8>, Error> {

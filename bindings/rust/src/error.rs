@@ -1,10 +1,14 @@
 //! Why there is no text.
 
-use crate::raw::{Reply, CONFLICT, MISSING, MORE, NO_MEMORY, PATCH, PENDING, REFUSED};
-use crate::{places, DocumentCause, FormCause, PointerCause, RefusedCause};
-use std::fmt;
+use crate::raw::{
+    Reply, CONFLICT, DOCUMENT, FORM, MISSING, MORE, NO_MEMORY, NO_PATCHES, PATCH, PENDING, POINTER,
+    REFUSED, TOO_LARGE,
+};
+use crate::{places::places_of, DocumentCause, FormCause, PointerCause, RefusedCause};
+use std::{fmt, mem::take};
 
-/// Why there is no text. Patches and operations are numbered from 0.
+/// Why there is no text. Patches and operations are numbered from 0. What is shown is the `line` of those that have one, which has places
+/// as JSON strings.
 #[derive(Clone, Debug, PartialEq, Eq)]
 #[non_exhaustive]
 pub enum Error {
@@ -21,6 +25,8 @@ pub enum Error {
         /// Whether there are more than that: [`Patches`](crate::Patches) holds the first places of its conflict, up to 64 kB, and
         /// [`Replica`](crate::Replica) knows none if memory ran out for them.
         more: bool,
+        /// What is shown.
+        line: String,
     },
     /// There are no patches to join.
     NoPatches,
@@ -30,6 +36,8 @@ pub enum Error {
         operation: usize,
         /// The first cause that is true.
         cause: RefusedCause,
+        /// What is shown.
+        line: String,
     },
     /// The document has no part there.
     Missing,
@@ -39,6 +47,8 @@ pub enum Error {
         cause: DocumentCause,
         /// Where it has the first number that is not whole, or the first part that is too deep, as a JSON Pointer.
         place: Option<String>,
+        /// What is shown.
+        line: String,
     },
     /// A patch is not a document.
     Patch {
@@ -48,6 +58,8 @@ pub enum Error {
         cause: DocumentCause,
         /// As of a document.
         place: Option<String>,
+        /// What is shown.
+        line: String,
     },
     /// The document that is given as a JSON Patch is not one.
     Form {
@@ -55,6 +67,8 @@ pub enum Error {
         operation: usize,
         /// Why it is not one.
         cause: FormCause,
+        /// What is shown.
+        line: String,
     },
     /// The text is not a JSON Pointer.
     Pointer {
@@ -62,137 +76,124 @@ pub enum Error {
         offset: usize,
         /// Why it is not one.
         cause: PointerCause,
+        /// What is shown.
+        line: String,
     },
     /// The text is not the kept form of patches.
     NotKept,
     /// A patch was received, and memory ran out before it can be shown. The next call tries again; nothing is lost.
     Pending,
     /// The result, or something on the way to it, is larger than the limit that was set.
-    TooLarge,
+    TooLarge {
+        /// Of a JSON Patch the number of the operation whose result weighs more; of a rewriting how many of its operations fit; and
+        /// else 0.
+        number: usize,
+    },
     /// Memory ran out.
     NoMemory,
     /// What a later library may report.
     Unknown {
         /// The status.
         status: u32,
-        /// The words.
-        words: String,
+        /// The text of the reply.
+        line: String,
     },
 }
 
 impl Error {
     /// Why a call with this reply and this text has no result.
     pub(crate) fn of(reply: &Reply, text: String) -> Self {
-        Self::known(reply, &text).unwrap_or(Error::Unknown {
+        let (mut line, places) = line_and_places(reply, text);
+        Self::known(reply, &mut line, places).unwrap_or(Error::Unknown {
             status: reply.status,
-            words: text,
+            line,
         })
     }
 
-    fn known(reply: &Reply, words: &str) -> Option<Self> {
-        let number = reply.first;
+    /// It takes the line if the error is known.
+    fn known(reply: &Reply, line: &mut String, places: Vec<String>) -> Option<Self> {
+        let (number, place, words) = (reply.first, places.first().cloned(), words_of(line));
         Some(match reply.status {
             CONFLICT => Error::Conflict {
                 patches: (number < reply.second).then_some((number, reply.second)),
-                places: places::read(words, reply.total),
+                places,
                 total: reply.total,
                 more: reply.flags & MORE != 0,
+                line: take(line),
             },
-            2 => Error::NoPatches,
+            NO_PATCHES => Error::NoPatches,
             REFUSED => Error::Refused {
                 operation: number,
                 cause: RefusedCause::of(words)?,
+                line: take(line),
             },
             MISSING => Error::Missing,
-            5 if words == "not kept patches" => Error::NotKept,
-            5 => {
-                let (cause, place) = unread(words, reply.total)?;
-                Error::Document { cause, place }
-            }
-            PATCH => {
-                let (cause, place) = unread(words, reply.total)?;
-                Error::Patch {
-                    number,
-                    cause,
-                    place,
-                }
-            }
-            7 => Error::Form {
+            DOCUMENT if words == "not kept patches" => Error::NotKept,
+            DOCUMENT => Error::Document {
+                cause: DocumentCause::of(words)?,
+                place,
+                line: take(line),
+            },
+            PATCH => Error::Patch {
+                number,
+                cause: DocumentCause::of(words)?,
+                place,
+                line: take(line),
+            },
+            FORM => Error::Form {
                 operation: number,
                 cause: FormCause::of(words)?,
+                line: take(line),
             },
-            8 => Error::Pointer {
+            POINTER => Error::Pointer {
                 offset: number,
                 cause: PointerCause::of(words)?,
+                line: take(line),
             },
             NO_MEMORY => Error::NoMemory,
             PENDING => Error::Pending,
-            11 => Error::TooLarge,
+            TOO_LARGE => Error::TooLarge { number },
             _ => return None,
         })
     }
 }
 
-/// Why a text is not a document, and the place after the words if there is one: they have so many bytes then.
-fn unread(text: &str, words: usize) -> Option<(DocumentCause, Option<String>)> {
-    if words == 0 {
-        return Some((DocumentCause::of(text)?, None));
+/// The line of a reply without a result, and the places of the array that its text has after it. A conflict has no text if memory ran
+/// out for it.
+pub(crate) fn line_and_places(reply: &Reply, mut text: String) -> (String, Vec<String>) {
+    let length = text.len().saturating_sub(reply.places);
+    let places = places_of(&text[length..]).unwrap_or_default();
+    text.truncate(length);
+    text.shrink_to_fit();
+    if text.is_empty() && reply.status == CONFLICT {
+        text.push_str("conflict: two patches");
     }
-    let cause = DocumentCause::of(text.get(..words)?)?;
-    let place = text.get(words..)?.strip_prefix(" at ")?;
-    Some((cause, Some(place.to_owned())))
+    (text, places)
 }
 
-/// Shows a place as a JSON string, after ` at `.
-fn show_place(to: &mut fmt::Formatter<'_>, place: Option<&String>) -> fmt::Result {
-    match place {
-        Some(place) => write!(to, " at {}", places::Quoted(std::slice::from_ref(place))),
-        None => Ok(()),
-    }
+/// The words of a line between what is wrong and where.
+fn words_of(line: &str) -> &str {
+    let words = line.split_once(": ").map_or(line, |(_, words)| words);
+    words.split_once(" at ").map_or(words, |(words, _)| words)
 }
 
 impl fmt::Display for Error {
     fn fmt(&self, to: &mut fmt::Formatter<'_>) -> fmt::Result {
-        match self {
-            Error::Conflict {
-                patches,
-                places,
-                total,
-                more,
-            } => {
-                to.write_str("conflict")?;
-                if let Some((first, second)) = patches {
-                    write!(to, ": patches {first} and {second}")?;
-                }
-                places::show(to, places, *total, *more)
-            }
-            Error::NoPatches => to.write_str("no patches"),
-            Error::Refused { operation, cause } => write!(to, "operation {operation}: {cause}"),
-            Error::Missing => to.write_str("missing"),
-            Error::Document { cause, place } => {
-                write!(to, "document: {cause}")?;
-                show_place(to, place.as_ref())
-            }
-            Error::Patch {
-                number,
-                cause,
-                place,
-            } => {
-                write!(to, "patch {number}: {cause}")?;
-                show_place(to, place.as_ref())
-            }
-            Error::Form { cause, .. } if *cause == FormCause::NotAnArray => write!(to, "{cause}"),
-            Error::Form { operation, cause } => write!(to, "operation {operation}: {cause}"),
-            Error::Pointer { cause, .. } if *cause == PointerCause::NoSlash => {
-                write!(to, "pointer: {cause}")
-            }
-            Error::Pointer { offset, cause } => write!(to, "pointer: {cause} at {offset}"),
-            Error::NotKept => to.write_str("not kept patches"),
-            Error::Pending => to.write_str("pending"),
-            Error::TooLarge => to.write_str("too large"),
-            Error::NoMemory => to.write_str("out of memory"),
-            Error::Unknown { status, words } => write!(to, "status {status}: {words}"),
-        }
+        to.write_str(match self {
+            Error::Conflict { line, .. }
+            | Error::Refused { line, .. }
+            | Error::Document { line, .. }
+            | Error::Patch { line, .. }
+            | Error::Form { line, .. }
+            | Error::Pointer { line, .. } => line,
+            Error::NoPatches => "no patches",
+            Error::Missing => "missing",
+            Error::NotKept => "not kept patches",
+            Error::Pending => "pending",
+            Error::TooLarge { .. } => "too large",
+            Error::NoMemory => "out of memory",
+            Error::Unknown { status, line } => return write!(to, "status {status}: {line}"),
+        })
     }
 }
 

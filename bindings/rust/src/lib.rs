@@ -47,7 +47,7 @@ mod texts;
 
 pub use causes::{DocumentCause, FormCause, PointerCause, RefusedCause};
 pub use error::Error;
-pub use patch_log::{Arrival, DecideError, Identity, PatchLog};
+pub use patch_log::{Arrival, ConflictingPair, DecideError, Identity, PatchLog};
 pub use patches::{Added, Patches};
 pub use replica::{Received, Replica};
 pub use texts::{get, join, merge, patch, replay, rewrite, within, Within};

@@ -1,10 +1,10 @@
 //! A patch log that stays in memory.
 
 use crate::calls::{guess_after, reply_of, result_of, text_of};
-use crate::raw::{
-    self, Handle, OfHandle, Reply, CONFLICT, MISSING, MORE, NO_MEMORY, REFUSED, RESULT,
-};
-use crate::{places, Error};
+use crate::error::line_and_places;
+use crate::places::pairs_of;
+use crate::raw::{self, Handle, Reply, CONFLICT, MISSING, MORE, NO_MEMORY, REFUSED, RESULT};
+use crate::Error;
 use std::fmt;
 
 /// Who made a patch, and the sender's number for it. Identities are ordered by the sender, and then by the number. A sender
@@ -33,7 +33,8 @@ pub struct Identity {
 /// assert_eq!(log.receive(7, ada, r#"{"author":"Ada"}"#)?, Arrival::Repeat);
 /// assert_eq!(log.receive(7, bob, r#"{"author":"Bob"}"#)?, Arrival::Stored);
 /// assert_eq!(log.document()?, r#"{"title":"Notes"}"#);
-/// assert_eq!(log.conflicts()?, r#"[{"first":[1,1],"second":[2,1],"places":["/author"]}]"#);
+/// let pair = &log.conflicts()?[0];
+/// assert_eq!((pair.first, pair.second, pair.places[0].as_str()), (ada, bob, "/author"));
 ///
 /// let both = log.decide(&[ada, bob]);
 /// assert!(matches!(both, Err(DecideError::Conflict { first, second, .. }) if (first, second) == (ada, bob)));
@@ -56,6 +57,17 @@ pub struct PatchLog {
     /// Those that the text of the conflicts had.
     listed: usize,
     limit: usize,
+}
+
+/// Two patches that conflict.
+#[derive(Clone, Debug, PartialEq, Eq, Hash)]
+pub struct ConflictingPair {
+    /// The lower identity of the two.
+    pub first: Identity,
+    /// The other.
+    pub second: Identity,
+    /// The places at which they conflict, as JSON Pointers, in the order of paths.
+    pub places: Vec<String>,
 }
 
 /// What became of a message.
@@ -90,6 +102,8 @@ pub enum DecideError {
         places: Vec<String>,
         /// How many places there are in all.
         total: usize,
+        /// What is shown, with the numbers of the two among the chosen.
+        line: String,
     },
     /// Memory ran out.
     NoMemory,
@@ -97,8 +111,8 @@ pub enum DecideError {
     Unknown {
         /// The status.
         status: u32,
-        /// The words.
-        words: String,
+        /// The text of the reply.
+        line: String,
     },
 }
 
@@ -110,28 +124,21 @@ impl PatchLog {
     /// [`Error::Document`] if the text is not a document, or [`Error::NoMemory`].
     pub fn new(epoch: u64, start: impl AsRef<[u8]>) -> Result<Self, Error> {
         let start = start.as_ref();
-        let (mut held, (bytes, length)) = (Handle::new(), (start.as_ptr(), start.len()));
+        let mut log = PatchLog {
+            held: Handle::new(),
+            shown: start.len(),
+            listed: 0,
+            limit: usize::MAX,
+        };
+        let (held, bytes, length) = (&mut log.held, start.as_ptr(), start.len());
         // SAFETY: `held` is as the header's {0}, and no other call has it; the text is borrowed for the call, and no pointer of a
         // slice is null; the call writes its text alone. It is made again if the text is no document, and then changes nothing.
         unsafe {
             text_of(0, |out, capacity| {
-                raw::mergejoin_patch_log_start(
-                    &mut held,
-                    epoch,
-                    bytes,
-                    length,
-                    out,
-                    capacity,
-                    usize::MAX,
-                )
+                raw::mergejoin_patch_log_start(held, epoch, bytes, length, out, capacity, usize::MAX)
             })
         }?;
-        Ok(PatchLog {
-            held,
-            shown: length,
-            listed: 0,
-            limit: usize::MAX,
-        })
+        Ok(log)
     }
 
     /// From now on a text that is longer than so many bytes is [`Error::TooLarge`].
@@ -151,22 +158,13 @@ impl PatchLog {
         identity: Identity,
         patch: impl AsRef<[u8]>,
     ) -> Result<Arrival, Error> {
-        let Identity { sender, number } = identity;
-        let patch = patch.as_ref();
-        let (held, (bytes, length)) = (&mut self.held, (patch.as_ptr(), patch.len()));
+        let (held, Identity { sender, number }, patch) = (&mut self.held, identity, patch.as_ref());
+        let (bytes, length) = (patch.as_ptr(), patch.len());
         // SAFETY: as of `new`, of a log. The word for a message fits, so that it is not received twice.
         let word = unsafe {
             text_of(0, |out, capacity| {
                 raw::mergejoin_patch_log_receive(
-                    held,
-                    epoch,
-                    sender,
-                    number,
-                    bytes,
-                    length,
-                    out,
-                    capacity,
-                    usize::MAX,
+                    held, epoch, sender, number, bytes, length, out, capacity, usize::MAX,
                 )
             })
         }?;
@@ -175,10 +173,7 @@ impl PatchLog {
             "repeat" => Ok(Arrival::Repeat),
             "late" => Ok(Arrival::Late),
             "early" => Ok(Arrival::Early),
-            _ => Err(Error::Unknown {
-                status: RESULT,
-                words: word,
-            }),
+            _ => Err(unknown(word)),
         }
     }
 
@@ -189,25 +184,30 @@ impl PatchLog {
     ///
     /// [`Error::NoMemory`], or [`Error::TooLarge`].
     pub fn document(&mut self) -> Result<String, Error> {
-        let text = self.read(raw::mergejoin_patch_log_document, self.shown)?;
+        let (held, limit) = (&mut self.held, self.limit);
+        // SAFETY: `held` is a log, and no other call has it; the call writes its text alone, and changes nothing.
+        let text = unsafe {
+            text_of(guess_after(self.shown).min(limit), |out, capacity| {
+                raw::mergejoin_patch_log_document(held, out, capacity, limit)
+            })
+        }?;
         self.shown = text.len();
         Ok(text)
     }
 
-    /// Gives the text of a JSON array of each two patches that conflict, in the order of their identities, the lower one first:
-    /// `[{"first":[1,1],"second":[2,1],"places":["/a"]}]` of number 1 of sender 1 and number 1 of sender 2.
+    /// Gives each two patches that conflict, once, in the order of their identities.
     ///
     /// # Errors
     ///
     /// [`Error::NoMemory`], or [`Error::TooLarge`].
-    pub fn conflicts(&mut self) -> Result<String, Error> {
+    pub fn conflicts(&mut self) -> Result<Vec<ConflictingPair>, Error> {
         match self.first_conflicts()? {
-            (text, false) => Ok(text),
-            (_, true) => Err(Error::TooLarge),
+            (pairs, false) => Ok(pairs),
+            (_, true) => Err(Error::TooLarge { number: 0 }),
         }
     }
 
-    /// Gives the same text of the pairs that come first, as many as the limit allows, and whether a pair or a place is left out.
+    /// Gives the pairs that come first, as many as the limit allows, and whether a pair or a place is left out.
     /// A pair counts 64 bytes and its places, and a place 128, 8 for each token, and its bytes; the last pair may have the first
     /// of its places alone.
     ///
@@ -219,29 +219,27 @@ impl PatchLog {
     /// }
     /// log.set_limit(250);
     /// let (first, more) = log.first_conflicts()?;
-    /// assert_eq!(first, r#"[{"first":[1,1],"second":[2,1],"places":["/a"]}]"#);
-    /// assert!(more);
-    /// assert_eq!(log.conflicts(), Err(Error::TooLarge));
+    /// assert_eq!((first.len(), first[0].second.sender, more), (1, 2, true));
+    /// assert_eq!(log.conflicts(), Err(Error::TooLarge { number: 0 }));
     /// # Ok::<(), Error>(())
     /// ```
     ///
     /// # Errors
     ///
-    /// [`Error::NoMemory`], or [`Error::TooLarge`] if the limit is less than the two bytes of an empty array.
-    pub fn first_conflicts(&mut self) -> Result<(String, bool), Error> {
+    /// [`Error::NoMemory`], or [`Error::TooLarge`] if the limit is less than two bytes.
+    pub fn first_conflicts(&mut self) -> Result<(Vec<ConflictingPair>, bool), Error> {
         let (held, limit) = (&mut self.held, self.limit);
-        let guess = guess_after(self.listed).min(limit);
-        // SAFETY: as of `read`.
-        let (text, more) = unsafe {
-            pairs_of(guess, |out, capacity| {
+        // SAFETY: as of `document`.
+        let (reply, text) = unsafe {
+            reply_of(guess_after(self.listed).min(limit), |out, capacity| {
                 raw::mergejoin_patch_log_conflicts(held, out, capacity, limit)
             })
         }?;
         self.listed = text.len();
-        Ok((text, more))
+        pairs_in(&reply, text)
     }
 
-    /// Gives the same of the pairs with one identity: with which others its patch conflicts. The array is empty if no patch is
+    /// Gives the same of the pairs with one identity: with which others its patch conflicts. There are none if no patch is
     /// stored under it.
     ///
     /// ```
@@ -251,23 +249,25 @@ impl PatchLog {
     ///     log.receive(7, Identity { sender, number: 1 }, format!(r#"{{"a":{}}}"#, sender / 2))?;
     /// }
     /// let (of_two, more) = log.conflicts_of(Identity { sender: 2, number: 1 })?;
-    /// assert_eq!(of_two, r#"[{"first":[1,1],"second":[2,1],"places":["/a"]}]"#);
-    /// assert!(!more);
+    /// assert_eq!((of_two.len(), of_two[0].first.sender, more), (1, 1, false));
     /// # Ok::<(), Error>(())
     /// ```
     ///
     /// # Errors
     ///
     /// As of [`first_conflicts`](PatchLog::first_conflicts).
-    pub fn conflicts_of(&mut self, identity: Identity) -> Result<(String, bool), Error> {
-        let Identity { sender, number } = identity;
-        let (held, limit) = (&mut self.held, self.limit);
-        // SAFETY: as of `read`.
-        unsafe {
-            pairs_of(guess_after(0).min(limit), |out, capacity| {
+    pub fn conflicts_of(
+        &mut self,
+        identity: Identity,
+    ) -> Result<(Vec<ConflictingPair>, bool), Error> {
+        let (held, limit, Identity { sender, number }) = (&mut self.held, self.limit, identity);
+        // SAFETY: as of `document`.
+        let (reply, text) = unsafe {
+            reply_of(guess_after(0).min(limit), |out, capacity| {
                 raw::mergejoin_patch_log_conflicts_of(held, sender, number, out, capacity, limit)
             })
-        }
+        }?;
+        pairs_in(&reply, text)
     }
 
     /// Gives how many patches are stored. What a log takes, and what its calls cost, is bounded by this and by the lengths of the
@@ -278,16 +278,13 @@ impl PatchLog {
     /// [`Error::NoMemory`].
     pub fn count(&mut self) -> Result<usize, Error> {
         let held = &mut self.held;
-        // SAFETY: as of `read`.
+        // SAFETY: as of `document`.
         let text = unsafe {
             text_of(0, |out, capacity| {
                 raw::mergejoin_patch_log_count(held, out, capacity, usize::MAX)
             })
         }?;
-        text.parse().map_err(|_| Error::Unknown {
-            status: RESULT,
-            words: text,
-        })
+        text.parse().map_err(|_| unknown(text))
     }
 
     /// Ends the start by the patches with these identities: what they make of it is the new start, whose number is the next.
@@ -299,79 +296,53 @@ impl PatchLog {
     /// [`DecideError::LastEpoch`], [`DecideError::NotReceived`] and [`DecideError::Conflict`] are looked for in this order; or
     /// [`DecideError::NoMemory`]. Nothing is changed then.
     pub fn decide(&mut self, chosen: &[Identity]) -> Result<(), DecideError> {
-        let (held, limit) = (&mut self.held, self.limit);
+        let (held, limit, identities) = (&mut self.held, self.limit, chosen.as_ptr());
         // SAFETY: as of `receive`; the identities are borrowed for the call. It is made again if the places of a conflict did not
         // fit, after which nothing is changed.
-        let (reply, text) = unsafe {
+        let answer = unsafe {
             reply_of(0, |out, capacity| {
-                raw::mergejoin_patch_log_decide(
-                    held,
-                    chosen.as_ptr(),
-                    chosen.len(),
-                    out,
-                    capacity,
-                    limit,
-                )
+                raw::mergejoin_patch_log_decide(held, identities, chosen.len(), out, capacity, limit)
             })
-        }
-        .map_err(|_| DecideError::NoMemory)?;
-        if reply.status == RESULT {
-            return Ok(());
-        }
-        Err(DecideError::of(&reply, text, chosen))
-    }
-
-    /// Makes one of the header's calls that read a log, for a text that had so many bytes before.
-    fn read(&mut self, call: OfHandle, length: usize) -> Result<String, Error> {
-        let (held, limit) = (&mut self.held, self.limit);
-        let guess = guess_after(length).min(limit);
-        // SAFETY: `held` is a log, and no other call has it; the call writes its text alone, and changes nothing.
-        unsafe {
-            text_of(guess, |out, capacity| call(held, out, capacity, limit))
+        };
+        match answer {
+            Ok((reply, _)) if reply.status == RESULT => Ok(()),
+            Ok((reply, text)) => Err(DecideError::of(&reply, text, chosen)),
+            Err(_) => Err(DecideError::NoMemory),
         }
     }
 }
 
-/// Calls for the text of pairs, and gives whether a pair or a place is left out of it too.
-///
-/// # Safety
-///
-/// As of [`text_of`].
-unsafe fn pairs_of(
-    guess: usize,
-    call: impl FnMut(*mut u8, usize) -> Reply,
-) -> Result<(String, bool), Error> {
-    // SAFETY: the call is as this one wants it.
-    let (reply, text) = unsafe { reply_of(guess, call) }?;
-    let text = result_of(&reply, text)?;
-    Ok((text, reply.flags & MORE != 0))
+/// The pairs of a reply, and whether a pair or a place is left out.
+fn pairs_in(reply: &Reply, text: String) -> Result<(Vec<ConflictingPair>, bool), Error> {
+    let text = result_of(reply, text)?;
+    let pairs = pairs_of(&text).ok_or_else(|| unknown(text))?;
+    Ok((pairs, reply.flags & MORE != 0))
+}
+
+/// What a later library may give.
+fn unknown(line: String) -> Error {
+    let status = RESULT;
+    Error::Unknown { status, line }
 }
 
 impl DecideError {
     /// Why a decision with this reply and this text began nothing. The reply numbers the chosen identities.
     fn of(reply: &Reply, text: String, chosen: &[Identity]) -> Self {
-        let known =
-            match reply.status {
-                CONFLICT => chosen.get(reply.first).zip(chosen.get(reply.second)).map(
-                    |(&first, &second)| DecideError::Conflict {
-                        first,
-                        second,
-                        places: places::read(&text, reply.total),
-                        total: reply.total,
-                    },
-                ),
-                REFUSED => Some(DecideError::LastEpoch),
-                MISSING => chosen
-                    .get(reply.first)
-                    .copied()
-                    .map(DecideError::NotReceived),
-                NO_MEMORY => Some(DecideError::NoMemory),
-                _ => None,
-            };
-        known.unwrap_or(DecideError::Unknown {
-            status: reply.status,
-            words: text,
-        })
+        let (line, places) = line_and_places(reply, text);
+        let of_chosen = |number| chosen.get(number).copied();
+        match (reply.status, of_chosen(reply.first), of_chosen(reply.second)) {
+            (CONFLICT, Some(first), Some(second)) => DecideError::Conflict {
+                first,
+                second,
+                places,
+                total: reply.total,
+                line,
+            },
+            (REFUSED, ..) => DecideError::LastEpoch,
+            (MISSING, Some(identity), _) => DecideError::NotReceived(identity),
+            (NO_MEMORY, ..) => DecideError::NoMemory,
+            (status, ..) => DecideError::Unknown { status, line },
+        }
     }
 }
 
@@ -383,39 +354,16 @@ impl fmt::Display for Identity {
 
 impl fmt::Display for DecideError {
     fn fmt(&self, to: &mut fmt::Formatter<'_>) -> fmt::Result {
-        match self {
-            DecideError::LastEpoch => to.write_str("no number is left for a start"),
-            DecideError::NotReceived(identity) => write!(to, "{identity} has not arrived"),
-            DecideError::Conflict {
-                first,
-                second,
-                places,
-                total,
-            } => {
-                write!(to, "conflict: {first} and {second}")?;
-                places::show(to, places, *total, false)
-            }
-            DecideError::NoMemory => to.write_str("out of memory"),
-            DecideError::Unknown { status, words } => write!(to, "status {status}: {words}"),
-        }
+        to.write_str(match self {
+            DecideError::LastEpoch => "no number is left for a start",
+            DecideError::NotReceived(_) => "missing",
+            DecideError::Conflict { line, .. } => line,
+            DecideError::NoMemory => "out of memory",
+            DecideError::Unknown { status, line } => return write!(to, "status {status}: {line}"),
+        })
     }
 }
 
 impl std::error::Error for DecideError {}
 
-impl Drop for PatchLog {
-    fn drop(&mut self) {
-        // SAFETY: `held` is a log, and is not used any more.
-        unsafe { raw::mergejoin_patch_log_free(&mut self.held) }
-    }
-}
-
-impl fmt::Debug for PatchLog {
-    fn fmt(&self, to: &mut fmt::Formatter<'_>) -> fmt::Result {
-        to.debug_struct("PatchLog").finish_non_exhaustive()
-    }
-}
-
-// SAFETY: what is held may move between threads, as the header says and the library proves; and `&mut self` leaves one
-// call at a time.
-unsafe impl Send for PatchLog {}
+raw::holds!(PatchLog, mergejoin_patch_log_free);

@@ -1,9 +1,8 @@
 //! Patches that are gathered without a start.
 
-use crate::calls::{guess_after, reply_of, status_of, text_of, LEAST};
-use crate::raw::{self, Handle, OfHandle, OfText, CONFLICT, PATCH, PENDING, RESULT};
+use crate::calls::{guess_after, reply_of, text_of};
+use crate::raw::{self, Handle, OfHandle, OfText, Reply, CONFLICT, PENDING, RESULT};
 use crate::Error;
-use std::fmt;
 
 /// The limit of a call that takes patches. If two conflict, no place is wanted, and there may be very many.
 const NO_PLACES: usize = 0;
@@ -93,14 +92,14 @@ impl Patches {
     /// [`Error::NoMemory`]: neither has changed.
     pub fn combine(&mut self, other: &mut Patches) -> Result<Added, Error> {
         let (held, others) = (&mut self.held, &mut other.held);
-        // SAFETY: no other call has either, and two mutable borrows are of two; the call is made once, and writes its text
-        // alone.
-        let (reply, words) = unsafe {
-            status_of(|out, capacity| {
+        // SAFETY: no other call has either, and two mutable borrows are of two; the call writes its text alone. What it says fits,
+        // so that it is made once.
+        let answer = unsafe {
+            reply_of(0, |out, capacity| {
                 raw::mergejoin_patches_combine(held, others, out, capacity, NO_PLACES)
             })
         };
-        added_of(&reply, words)
+        added_of(answer)
     }
 
     /// Gives the text of the join of all patches that were taken, as [`join`](crate::join) does.
@@ -147,22 +146,17 @@ impl Patches {
         Ok(patches)
     }
 
-    /// Makes one of the header's calls that give patches a text. Why it is not a document may end with a long place: then nothing
-    /// was taken, and the call is made again.
+    /// Makes one of the header's calls that give patches a text.
     fn take(&mut self, call: OfText, text: &[u8]) -> Result<Added, Error> {
         let held = &mut self.held;
-        let mut make = |out, capacity| {
-            // SAFETY: no other call has `held`; the text is borrowed for the call, and no pointer of a slice is null; the buffer
-            // has the capacity, as the two below pass it.
-            unsafe { call(held, text.as_ptr(), text.len(), out, capacity, NO_PLACES) }
+        // SAFETY: no other call has `held`; the text is borrowed for the call, and no pointer of a slice is null; the call writes its
+        // text alone. It is made again if that is a long line, of a text that is no document, after which nothing is changed.
+        let answer = unsafe {
+            reply_of(0, |out, capacity| {
+                call(held, text.as_ptr(), text.len(), out, capacity, NO_PLACES)
+            })
         };
-        // SAFETY: the call writes its text alone.
-        let (mut reply, mut words) = unsafe { status_of(&mut make) };
-        if reply.status == PATCH && reply.length > LEAST {
-            // SAFETY: as above; after this status the call may be made again, since nothing is changed.
-            (reply, words) = unsafe { reply_of(reply.length, make) }?;
-        }
-        added_of(&reply, words)
+        added_of(answer)
     }
 
     /// Makes one of the header's calls that read patches.
@@ -176,12 +170,13 @@ impl Patches {
     }
 }
 
-fn added_of(reply: &raw::Reply, words: String) -> Result<Added, Error> {
+fn added_of(answer: Result<(Reply, String), Error>) -> Result<Added, Error> {
+    let (reply, text) = answer?;
     match reply.status {
         RESULT => Ok(Added::Joined),
         CONFLICT => Ok(Added::Conflict),
         PENDING => Ok(Added::Pending),
-        _ => Err(Error::of(reply, words)),
+        _ => Err(Error::of(&reply, text)),
     }
 }
 
@@ -191,19 +186,4 @@ impl Default for Patches {
     }
 }
 
-impl Drop for Patches {
-    fn drop(&mut self) {
-        // SAFETY: `held` is as the header has it, and is not used any more.
-        unsafe { raw::mergejoin_patches_free(&mut self.held) }
-    }
-}
-
-impl fmt::Debug for Patches {
-    fn fmt(&self, to: &mut fmt::Formatter<'_>) -> fmt::Result {
-        to.debug_struct("Patches").finish_non_exhaustive()
-    }
-}
-
-// SAFETY: what is held may move between threads, as the header says and the library proves; and `&mut self` leaves one
-// call at a time.
-unsafe impl Send for Patches {}
+raw::holds!(Patches, mergejoin_patches_free);

@@ -3,7 +3,6 @@
 use crate::calls::{guess_after, text_of};
 use crate::raw::{self, Handle, OfHandle, OfText};
 use crate::Error;
-use std::fmt;
 
 /// The guess for a part. One that is longer is written twice.
 const PART: usize = 4096;
@@ -98,7 +97,8 @@ impl Replica {
     /// - [`Error::NoMemory`].
     pub fn receive(&mut self, patch: impl AsRef<[u8]>) -> Result<Received, Error> {
         let patch = patch.as_ref();
-        match self.call(raw::mergejoin_replica_receive, patch, patch.len()) {
+        // What is said of a patch that is refused has its places twice, and they are mostly no longer than the patch.
+        match self.call(raw::mergejoin_replica_receive, patch, patch.len().saturating_mul(2)) {
             Ok(_) => Ok(Received::Taken),
             Err(Error::Pending) => Ok(Received::Pending),
             Err(why) => Err(why),
@@ -136,7 +136,7 @@ impl Replica {
     /// [`Error::TooLarge`].
     pub fn get(&mut self, pointer: impl AsRef<str>) -> Result<String, Error> {
         let pointer = pointer.as_ref().as_bytes();
-        self.call(raw::mergejoin_replica_get, pointer, PART)
+        self.call(raw::mergejoin_replica_get, pointer, PART.min(self.limit))
     }
 
     /// Makes one of the header's calls of a replica with a text.
@@ -146,7 +146,7 @@ impl Replica {
         // slice is null; the call writes its text alone. It is made again for a part, for places, or for words
         // with a long place, after which nothing is changed: all other texts fit.
         unsafe {
-            text_of(guess.min(limit), |out, capacity| {
+            text_of(guess, |out, capacity| {
                 call(held, text.as_ptr(), text.len(), out, capacity, limit)
             })
         }
@@ -164,19 +164,4 @@ impl Replica {
     }
 }
 
-impl Drop for Replica {
-    fn drop(&mut self) {
-        // SAFETY: `held` is a replica or as the header's {0}, and is not used any more.
-        unsafe { raw::mergejoin_replica_free(&mut self.held) }
-    }
-}
-
-impl fmt::Debug for Replica {
-    fn fmt(&self, to: &mut fmt::Formatter<'_>) -> fmt::Result {
-        to.debug_struct("Replica").finish_non_exhaustive()
-    }
-}
-
-// SAFETY: what is held may move between threads, as the header says and the library proves; and `&mut self` leaves one
-// call at a time.
-unsafe impl Send for Replica {}
+raw::holds!(Replica, mergejoin_replica_free);

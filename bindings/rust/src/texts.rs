@@ -23,7 +23,7 @@ pub struct Within {
 ///
 /// let copy = r#"[{"op":"copy","from":"","path":"/a"}]"#;
 /// assert_eq!(within(2_500).patch("{}", copy)?, r#"{"a":{}}"#);
-/// assert_eq!(within(5).patch("{}", copy), Err(Error::TooLarge));
+/// assert_eq!(within(5).patch("{}", copy), Err(Error::TooLarge { number: 0 }));
 /// # Ok::<(), Error>(())
 /// ```
 #[must_use]

@@ -68,8 +68,11 @@ fn buffers_do_not_grow_by_repeats() {
     log.receive(0, Identity { sender: 2, number: 1 }, r#"{"a":1}"#)
         .unwrap();
     for _ in 0..3 {
-        let (length, most) = largest(|| log.conflicts().unwrap());
-        assert!(length > 1000 && most < MOST, "{length} {most}");
+        let (_, most) = largest(|| {
+            assert_eq!(log.conflicts().unwrap().len() as u64, REPEATS);
+            String::new()
+        });
+        assert!(most < MOST, "{most}");
     }
     replica.set_limit(LENGTH);
     let (length, most) = largest(|| replica.document().unwrap());

@@ -5,8 +5,8 @@ use std::{fmt::Write, fs};
 
 const LIMIT: usize = 64 << 20;
 
-/// The most that may be resident, in kB.
-const MOST: usize = 300_000;
+/// The most that may be resident, in kB: the text of an error may have twice the limit, and the library takes as much besides.
+const MOST: usize = 350_000;
 
 /// The most that this process had resident at once, in kB.
 fn most_resident() -> usize {
@@ -42,7 +42,7 @@ fn short_texts_take_no_more_than_the_limit_allows() {
     for value in [r#""0123456789""#, r#"{"":{"":0}}"#] {
         let document = format!(r#"{{"a":[{value}]}}"#);
         let patched = within(LIMIT).patch(document, format!("[{copies}]"));
-        assert_eq!(patched, Err(Error::TooLarge));
+        assert!(matches!(patched, Err(Error::TooLarge { number: 10..=30 })), "{patched:?}");
         assert!(most_resident() < MOST);
     }
     // A long name above many places at which two patches conflict.

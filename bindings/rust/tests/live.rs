@@ -1,8 +1,8 @@
 //! What stays in memory: replicas, patches without a start, and patch logs.
 
 use mergejoin::{
-    join, replay, Added, Arrival, DecideError, DocumentCause, Error, Identity, PatchLog, Patches,
-    PointerCause, Received, Replica,
+    join, replay, Added, Arrival, ConflictingPair, DecideError, DocumentCause, Error, Identity,
+    PatchLog, Patches, PointerCause, Received, Replica,
 };
 use std::time::{Duration, Instant};
 
@@ -10,6 +10,7 @@ const ADA: &str = r#"{"author":"Ada"}"#;
 const BOB: &str = r#"{"author":"Bob"}"#;
 const UNTITLED: &str = r#"{"title":null}"#;
 const START: &str = r#"{"title":"Notes"}"#;
+const TOO_LARGE: Error = Error::TooLarge { number: 0 };
 
 /// How many of the places `/n0` to `/n19999` patches hold of a conflict at all of them, in their order, and the last of these.
 const HELD: usize = 458;
@@ -21,12 +22,13 @@ fn conflict(place: &str) -> Error {
         places: vec![place.to_owned()],
         total: 1,
         more: false,
+        line: format!("conflict: two patches at \"{place}\""),
     }
 }
 
 // Of a kept form there is no place.
 fn unread(cause: DocumentCause) -> Error {
-    Error::Document { cause, place: None }
+    Error::Document { cause, place: None, line: format!("document: {cause}") }
 }
 
 /// The least time, of five, of 500 more patches.
@@ -67,10 +69,10 @@ fn a_conflict_at_many_places_makes_no_later_patch_dearer() {
 #[test]
 fn patches_say_if_there_are_more_places_than_they_hold() {
     for (kept, shown) in [
-        (r#"!["/a"]"#, r#"conflict at "/a""#),
-        (r#"!+["/a"]"#, r#"conflict at "/a" and more"#),
-        (r#"!+["/a","/b"]"#, r#"conflict at "/a", "/b" and more"#),
-        ("!+[]", "conflict"),
+        (r#"!["/a"]"#, r#"conflict: two patches at "/a""#),
+        (r#"!+["/a"]"#, r#"conflict: two patches at "/a" and more"#),
+        (r#"!+["/a","/b"]"#, r#"conflict: two patches at "/a", "/b" and more"#),
+        ("!+[]", "conflict: two patches"),
     ] {
         let mut patches = Patches::from_kept(kept).unwrap();
         let error = patches.add(ADA).and(patches.text()).unwrap_err();
@@ -84,8 +86,8 @@ fn patches_say_if_there_are_more_places_than_they_hold() {
 }
 
 fn is_not_json<T>(answer: Result<T, Error>) -> bool {
-    let (number, cause, place) = (0, DocumentCause::NotJson, None);
-    answer.err() == Some(Error::Patch { number, cause, place })
+    let (number, cause, place, line) = (0, DocumentCause::NotJson, None, "patch 0: not JSON".to_owned());
+    answer.err() == Some(Error::Patch { number, cause, place, line })
 }
 
 /// Members enough that no first buffer has their join, or their places.
@@ -110,16 +112,17 @@ fn a_replica_shows_what_it_received() {
 
 #[test]
 fn each_error_of_a_replica_is_reported() {
-    let (cause, place) = (DocumentCause::TooDeep, Some("/0".repeat(126)));
+    let (cause, place) = (DocumentCause::TooDeep, "/0".repeat(126));
+    let line = format!("document: too deep at \"{place}\"");
     let deep = "[".repeat(127) + &"]".repeat(127);
-    assert_eq!(Replica::new(deep).err(), Some(Error::Document { cause, place }));
+    assert_eq!(Replica::new(deep).err(), Some(Error::Document { cause, place: Some(place), line }));
 
     let mut replica = Replica::new(START).unwrap();
     replica.receive(ADA).unwrap();
     assert!(is_not_json(replica.receive("{")));
     assert_eq!(replica.receive(BOB), Err(conflict("/author")));
-    let (offset, cause) = (0, PointerCause::NoSlash);
-    assert_eq!(replica.get("x"), Err(Error::Pointer { offset, cause }));
+    let (offset, cause, line) = (0, PointerCause::NoSlash, "pointer: no slash".to_owned());
+    assert_eq!(replica.get("x"), Err(Error::Pointer { offset, cause, line }));
     assert_eq!(replica.get("/x"), Err(Error::Missing));
     assert_eq!(replica.document(), replay(START, [ADA]), "it is as it was");
     assert_eq!(replica.joined(), join([ADA]), "it is as it was");
@@ -148,9 +151,9 @@ fn texts_are_longer_than_a_first_buffer() {
 fn a_place_is_longer_than_a_first_buffer() {
     for name in ["n".repeat(1000), format!("{}\u{e9}", "n".repeat(43))] {
         let patch = format!(r#"{{"{name}":1.5}}"#);
-        let (number, cause) = (0, DocumentCause::NotWhole);
-        let place = Some(format!("/{name}"));
-        let error = Error::Patch { number, cause, place };
+        let (number, cause, place) = (0, DocumentCause::NotWhole, Some(format!("/{name}")));
+        let line = format!("patch 0: number not whole at \"/{name}\"");
+        let error = Error::Patch { number, cause, place, line };
         let mut patches = Patches::new();
         patches.add(ADA).unwrap();
         assert_eq!(patches.add(&patch).err().as_ref(), Some(&error));
@@ -203,10 +206,8 @@ fn two_groups_conflict() {
     other.add(BOB).unwrap();
     assert_eq!(one.combine(&mut other), Ok(Added::Conflict));
     assert_eq!(one.text(), Err(conflict("/author")));
-    assert_eq!(
-        one.text().unwrap_err().to_string(),
-        r#"conflict at "/author""#
-    );
+    let shown = r#"conflict: two patches at "/author""#;
+    assert_eq!(conflict("/author").to_string(), shown);
 }
 
 #[test]
@@ -250,6 +251,12 @@ const ONE: Identity = Identity { sender: 1, number: 1 };
 const TWO: Identity = Identity { sender: 2, number: 1 };
 const LAST: Identity = Identity { sender: u64::MAX, number: u64::MAX };
 
+/// The pair of these identities, which conflict at the author, or of which no place is given.
+fn pair(first: Identity, second: Identity, has_place: bool) -> ConflictingPair {
+    let places = has_place.then(|| "/author".to_owned()).into_iter().collect();
+    ConflictingPair { first, second, places }
+}
+
 /// A log of the start of number 7, which has patches of Ada and of Bob, that conflict, and one that conflicts with neither.
 fn log_of_three() -> PatchLog {
     let mut log = PatchLog::new(7, START).unwrap();
@@ -266,26 +273,24 @@ fn a_patch_log_shows_what_conflicts_with_no_other() {
         assert_eq!(log.receive(epoch, ONE, UNTITLED), Ok(arrival));
     }
     assert_eq!(log.document(), replay(START, [UNTITLED]));
-    let pair = r#"[{"first":[1,1],"second":[2,1],"places":["/author"]}]"#;
-    assert_eq!(log.conflicts().as_deref(), Ok(pair));
+    assert_eq!(log.conflicts(), Ok(vec![pair(ONE, TWO, true)]));
 }
 
 #[test]
 fn a_patch_log_counts_its_patches_and_gives_the_first_conflicts() {
     let mut log = log_of_three();
     assert_eq!(log.count(), Ok(3));
-    let pair = r#"[{"first":[1,1],"second":[2,1],"places":["/author"]}]"#;
-    let without = r#"[{"first":[1,1],"second":[2,1],"places":[]}]"#;
+    let (whole, without) = (vec![pair(ONE, TWO, true)], vec![pair(ONE, TWO, false)]);
     // A pair weighs 64, and its place 143.
-    let cut = [(206, without), (64, without), (63, "[]"), (2, "[]")].map(|(limit, text)| (limit, text, true));
-    for (limit, text, more) in [(207, pair, false)].into_iter().chain(cut) {
+    for (limit, pairs) in [(207, &whole), (206, &without), (64, &without), (63, &vec![]), (2, &vec![])] {
         log.set_limit(limit);
-        assert_eq!(log.first_conflicts(), Ok((text.to_owned(), more)), "{limit}");
-        let all = if more { Err(Error::TooLarge) } else { Ok(pair.to_owned()) };
+        let more = limit < 207;
+        assert_eq!(log.first_conflicts(), Ok((pairs.clone(), more)), "{limit}");
+        let all = if more { Err(TOO_LARGE) } else { Ok(whole.clone()) };
         assert_eq!(log.conflicts(), all, "{limit}");
     }
     log.set_limit(1);
-    assert_eq!(log.first_conflicts(), Err(Error::TooLarge));
+    assert_eq!(log.first_conflicts(), Err(TOO_LARGE));
     assert_eq!(log.count(), Ok(3), "a number is not bounded");
     log.decide(&[ONE]).unwrap();
     assert_eq!(log.count(), Ok(0));
@@ -294,21 +299,19 @@ fn a_patch_log_counts_its_patches_and_gives_the_first_conflicts() {
 #[test]
 fn a_patch_log_gives_the_conflicts_of_one_identity() {
     let mut log = log_of_three();
-    log.receive(7, Identity { sender: 0, number: 9 }, r#"{"author":null,"title":5}"#).unwrap();
-    let pair = |[first, second]: [[u64; 2]; 2], place: &str| format!(r#"{{"first":{first:?},"second":{second:?},"places":["{place}"]}}"#).replace(", ", ",");
-    let with_one = pair([[0, 9], [1, 1]], "/author");
-    let with_two = pair([[0, 9], [2, 1]], "/author");
-    let both = pair([[1, 1], [2, 1]], "/author");
-    assert_eq!(log.conflicts_of(ONE), Ok((format!("[{with_one},{both}]"), false)));
-    assert_eq!(log.conflicts_of(TWO), Ok((format!("[{with_two},{both}]"), false)));
-    assert_eq!(log.conflicts_of(Identity { sender: 9, number: 9 }), Ok(("[]".to_owned(), false)));
+    let zero = Identity { sender: 0, number: u64::MAX };
+    log.receive(7, zero, r#"{"author":null,"title":5}"#).unwrap();
+    let [with_one, with_two, both] = [(zero, ONE), (zero, TWO), (ONE, TWO)].map(|(first, second)| pair(first, second, true));
+    assert_eq!(log.conflicts_of(ONE), Ok((vec![with_one.clone(), both.clone()], false)));
+    assert_eq!(log.conflicts_of(TWO), Ok((vec![with_two, both.clone()], false)));
+    assert_eq!(log.conflicts_of(Identity { sender: 9, number: 9 }), Ok((vec![], false)));
     // A pair weighs 64, and its place 143.
-    for (limit, text, more) in [(414, format!("[{with_one},{both}]"), false), (270, format!("[{with_one}]"), true), (63, "[]".to_owned(), true)] {
+    for (limit, pairs) in [(414, vec![with_one.clone(), both]), (270, vec![with_one]), (63, vec![])] {
         log.set_limit(limit);
-        assert_eq!(log.conflicts_of(ONE), Ok((text, more)), "{limit}");
+        assert_eq!(log.conflicts_of(ONE), Ok((pairs, limit < 414)), "{limit}");
     }
     log.set_limit(1);
-    assert_eq!(log.conflicts_of(ONE), Err(Error::TooLarge));
+    assert_eq!(log.conflicts_of(ONE), Err(TOO_LARGE));
 }
 
 #[test]
@@ -316,7 +319,7 @@ fn a_decision_begins_the_next_start() {
     let mut log = log_of_three();
     assert_eq!(log.decide(&[LAST, TWO, LAST]), Ok(()));
     assert_eq!(log.document(), replay(START, [BOB, UNTITLED]));
-    assert_eq!(log.conflicts().as_deref(), Ok("[]"));
+    assert_eq!(log.conflicts(), Ok(vec![]));
     assert_eq!(log.receive(7, ONE, ADA), Ok(Arrival::Late));
     assert_eq!(log.receive(8, ONE, ADA), Ok(Arrival::Stored));
     assert_eq!(log.decide(&[]), Ok(()));
@@ -327,29 +330,28 @@ fn a_decision_begins_the_next_start() {
 fn each_error_of_a_patch_log_is_reported() {
     let cause = DocumentCause::NotWhole;
     let place = Some("/a".to_owned());
-    let unread = Error::Document { cause, place: place.clone() };
+    let line = |which| format!(r#"{which}: number not whole at "/a""#);
+    let unread = Error::Document { cause, place: place.clone(), line: line("document") };
     assert_eq!(PatchLog::new(7, r#"{"a":1.5}"#).err(), Some(unread));
     let mut log = log_of_three();
     for epoch in [6, 7, 8] {
         assert!(is_not_json(log.receive(epoch, ONE, "[")));
-        let unread = Error::Patch { number: 0, cause, place: place.clone() };
+        let unread = Error::Patch { number: 0, cause, place: place.clone(), line: line("patch 0") };
         assert_eq!(log.receive(epoch, ONE, r#"{"a":1.5}"#), Err(unread));
     }
     let none = Identity { sender: 1, number: 2 };
     let missing = DecideError::NotReceived(none);
     assert_eq!(log.decide(&[ONE, TWO, none]), Err(missing.clone()));
-    assert_eq!(missing.to_string(), "1:2 has not arrived");
-    let conflict = DecideError::Conflict {
-        first: ONE,
-        second: TWO,
-        places: vec!["/author".to_owned()],
-        total: 1,
-    };
-    for chosen in [[ONE, LAST, TWO], [TWO, TWO, ONE]] {
-        assert_eq!(log.decide(&chosen), Err(conflict.clone()));
+    assert_eq!((missing.to_string().as_str(), none.to_string().as_str()), ("missing", "1:2"));
+    for (chosen, line) in [
+        ([ONE, LAST, TWO], r#"conflict: patches 0 and 2 at "/author""#),
+        ([TWO, TWO, ONE], r#"conflict: patches 2 and 0 at "/author""#),
+    ] {
+        let (places, total) = (vec!["/author".to_owned()], 1);
+        let conflict = DecideError::Conflict { first: ONE, second: TWO, places, total, line: line.to_owned() };
+        assert_eq!(conflict.to_string(), line);
+        assert_eq!(log.decide(&chosen), Err(conflict));
     }
-    let shown = r#"conflict: 1:1 and 2:1 at "/author""#;
-    assert_eq!(conflict.to_string(), shown);
     assert_eq!(log.document(), replay(START, [UNTITLED]), "it is as it was");
 
     let mut last = PatchLog::new(u64::MAX, START).unwrap();
@@ -365,7 +367,7 @@ fn texts_of_a_patch_log_are_longer_than_a_first_buffer() {
     log.receive(0, ONE, &one).unwrap();
     assert_eq!(log.document().as_ref(), Ok(&one));
     log.receive(0, TWO, other).unwrap();
-    assert!(log.conflicts().unwrap().ends_with(r#","/498","/499"]}]"#));
+    assert_eq!(log.conflicts().unwrap()[0].places[498..], ["/498", "/499"]);
     let places = |answer| match answer {
         Err(DecideError::Conflict { places, total, .. }) => (places.len(), total),
         answer => panic!("{answer:?}"),
@@ -374,10 +376,10 @@ fn texts_of_a_patch_log_are_longer_than_a_first_buffer() {
     log.set_limit(2 * 140); // what each of these places weighs
     assert_eq!(places(log.decide(&[ONE, TWO])), (2, 500));
     let shown = log.decide(&[ONE, TWO]).unwrap_err().to_string();
-    assert_eq!(shown, r#"conflict: 1:1 and 2:1 at "/000", "/001" and 498 more"#);
-    assert_eq!(log.conflicts(), Err(Error::TooLarge));
+    assert_eq!(shown, r#"conflict: patches 0 and 1 at "/000", "/001" and 498 more"#);
+    assert_eq!(log.conflicts(), Err(TOO_LARGE));
     log.set_limit(1);
-    assert_eq!(log.document(), Err(Error::TooLarge));
+    assert_eq!(log.document(), Err(TOO_LARGE));
     assert_eq!(log.receive(0, LAST, "{}"), Ok(Arrival::Stored), "a limit is of what is read");
 }
 
@@ -386,17 +388,17 @@ fn a_limit_is_of_what_is_read() {
     let mut replica = Replica::new(START).unwrap();
     replica.receive(ADA).unwrap();
     replica.set_limit(START.len());
-    assert_eq!(replica.document(), Err(Error::TooLarge));
+    assert_eq!(replica.document(), Err(TOO_LARGE));
     assert_eq!(replica.joined().as_deref(), Ok(ADA));
     assert_eq!(replica.receive(UNTITLED), Ok(Received::Taken));
     assert_eq!(replica.document().as_deref(), Ok(ADA));
     replica.set_limit(4);
-    assert_eq!(replica.get("/author"), Err(Error::TooLarge));
+    assert_eq!(replica.get("/author"), Err(TOO_LARGE));
 
     let mut patches = Patches::from_kept(ADA).unwrap();
     patches.set_limit(ADA.len() - 1);
-    assert_eq!(patches.text(), Err(Error::TooLarge));
-    assert_eq!(patches.kept(), Err(Error::TooLarge));
+    assert_eq!(patches.text(), Err(TOO_LARGE));
+    assert_eq!(patches.kept(), Err(TOO_LARGE));
     patches.set_limit(ADA.len());
     assert_eq!(patches.text().as_deref(), Ok(ADA));
 }

@@ -69,15 +69,16 @@ fn a_conflict_has_all_its_places() {
         "/é",
         "/\u{1f600}",
     ];
+    let line = r#"conflict: patches 0 and 2 at "/\b\f\n\r\t\u0001\u001f", "/\",", "/\\", "/a~1b", "/é", "/😀""#;
     let wanted = Error::Conflict {
         patches: Some((0, 2)),
         places: places.map(text).to_vec(),
         total: 6,
         more: false,
+        line: text(line),
     };
     let given = [with(1), text(r#"{"other":1}"#), with(2)];
-    let shown = r#"conflict: patches 0 and 2 at "/\b\f\n\r\t\u0001\u001f", "/\",", "/\\", "/a~1b", "/é", "/😀""#;
-    assert_eq!(wanted.to_string(), shown);
+    assert_eq!(wanted.to_string(), line);
     assert_eq!(join(&given), Err(wanted.clone()));
     assert_eq!(replay("5", given), Err(wanted));
 }
@@ -87,24 +88,24 @@ fn each_error_is_reported() {
     let none: [&str; 0] = [];
     assert_eq!(join(none), Err(Error::NoPatches));
     assert_eq!(get("1", "/a"), Err(Error::Missing));
-    let (cause, place) = (DocumentCause::NotWhole, Some("/a~1b/1".to_owned()));
-    let unread = Error::Document { cause, place };
-    assert_eq!(unread.to_string(), r#"document: number not whole at "/a~1b/1""#);
-    assert_eq!(merge(r#"{"a/b":[1,1.5]}"#, ["["]), Err(unread));
-    let (number, cause, place) = (1, DocumentCause::NotJson, None);
-    let unread = Error::Patch { number, cause, place };
-    assert_eq!(merge("1", ["1", ""]), Err(unread.clone()));
+    let unread = |cause, place, line: &str| Error::Document { cause, place, line: text(line) };
+    let of_patch = |cause, place, line: &str| Error::Patch { number: 1, cause, place, line: text(line) };
+    let line = r#"document: number not whole at "/a~1b/1""#;
+    let error = unread(DocumentCause::NotWhole, Some(text("/a~1b/1")), line);
+    assert_eq!(error.to_string(), line);
+    assert_eq!(merge(r#"{"a/b":[1,1.5]}"#, ["["]), Err(error));
+    let error = of_patch(DocumentCause::NotJson, None, "patch 1: not JSON");
+    assert_eq!(merge("1", ["1", ""]), Err(error.clone()));
     let not_utf8: [&[u8]; 2] = [b"1", b"\"\xff\""];
-    assert_eq!(merge("1", not_utf8), Err(unread));
-    let (cause, place) = (DocumentCause::NotWhole, Some(String::new()));
-    assert_eq!(merge("1", ["1", "0.5"]), Err(Error::Patch { number, cause, place }));
-    let (offset, cause) = (1, PointerCause::BadTilde);
-    assert_eq!(get("1", "/~2"), Err(Error::Pointer { offset, cause }));
-    let (offset, cause) = (0, PointerCause::NoSlash);
-    assert_eq!(get("1", "a"), Err(Error::Pointer { offset, cause }));
-    let deep = "[".repeat(127) + &"]".repeat(127);
-    let (cause, place) = (DocumentCause::TooDeep, Some("/0".repeat(126)));
-    assert_eq!(rewrite(deep, "1"), Err(Error::Document { cause, place }));
+    assert_eq!(merge("1", not_utf8), Err(error));
+    let error = of_patch(DocumentCause::NotWhole, Some(text("")), r#"patch 1: number not whole at """#);
+    assert_eq!(merge("1", ["1", "0.5"]), Err(error));
+    let pointer = |offset, cause, line: &str| Err(Error::Pointer { offset, cause, line: text(line) });
+    assert_eq!(get("1", "/~2"), pointer(1, PointerCause::BadTilde, "pointer: bad tilde at 1"));
+    assert_eq!(get("1", "a"), pointer(0, PointerCause::NoSlash, "pointer: no slash"));
+    let (deep, place) = ("[".repeat(127) + &"]".repeat(127), "/0".repeat(126));
+    let line = format!("document: too deep at \"{place}\"");
+    assert_eq!(rewrite(deep, "1"), Err(unread(DocumentCause::TooDeep, Some(place), &line)));
 }
 
 #[test]
@@ -113,7 +114,8 @@ fn a_limit_bounds_what_is_made() {
     let copy = r#"{"op":"copy","from":"","path":"/a/-"}"#;
     for document in [r#"{"a":["0123456789"]}"#, r#"{"a":[{"":{"":0}}]}"#] {
         let copies = format!("[{}]", vec![copy; 60].join(","));
-        assert_eq!(within(64_000_000).patch(document, copies), Err(Error::TooLarge));
+        let patched = within(64_000_000).patch(document, copies);
+        assert!(matches!(patched, Err(Error::TooLarge { number: 10..=30 })), "{patched:?}");
     }
     // Patches that conflict at more places than the limit allows.
     let with = |value: u8| {
@@ -121,23 +123,22 @@ fn a_limit_bounds_what_is_made() {
         format!("{{{}}}", names.join(","))
     };
     match within(1000).join([with(1), with(2)]) {
-        Err(Error::Conflict { places, total, .. }) => {
+        Err(Error::Conflict { places, total, line, .. }) => {
             assert_eq!(total, 1000);
+            assert!(line.ends_with(r#""/n102", "/n103" and 993 more"#));
             assert_eq!(places, ["/n0", "/n1", "/n10", "/n100", "/n101", "/n102", "/n103"]);
         }
         answer => panic!("{answer:?}"),
     }
-    assert_eq!(within(300).rewrite(r#"{"a":1}"#, r#"{"a":null}"#), Err(Error::TooLarge));
+    let rewritten = within(300).rewrite(r#"{"a":1}"#, r#"{"a":null}"#);
+    assert_eq!(rewritten, Err(Error::TooLarge { number: 0 }), "of its one place the test fits alone");
 }
 
 /// Why the second of two operations is refused.
 fn refusal(document: &str, operation: &str) -> Option<RefusedCause> {
     let edits = format!(r#"[{{"op":"copy","from":"","path":""}},{operation}]"#);
     match patch(document, edits) {
-        Err(Error::Refused {
-            operation: 1,
-            cause,
-        }) => Some(cause),
+        Err(Error::Refused { operation: 1, cause, line }) if line == format!("operation 1: {cause}") => Some(cause),
         _ => None,
     }
 }
@@ -174,15 +175,15 @@ fn each_cause_of_a_form_is_reported() {
         (r#"{"op":"add","path":""}"#, FormCause::NoValue),
     ] {
         let edits = format!(r#"[{{"op":"test","path":"","value":1}},{edit}]"#);
-        let operation = 1;
-        assert_eq!(patch("1", edits), Err(Error::Form { operation, cause }));
+        let line = format!("operation 1: {cause}");
+        assert_eq!(patch("1", edits), Err(Error::Form { operation: 1, cause, line }));
     }
-    let (operation, cause) = (0, FormCause::NotAnArray);
-    assert_eq!(patch("1", "{}"), Err(Error::Form { operation, cause }));
+    let (operation, cause, line) = (0, FormCause::NotAnArray, text("not an array"));
+    assert_eq!(patch("1", "{}"), Err(Error::Form { operation, cause, line }));
 }
 
 #[test]
-fn an_error_begins_with_the_words_of_the_program() {
+fn an_error_shows_the_line_of_the_program() {
     let shown = |answer: Result<String, Error>| answer.unwrap_err().to_string();
     let two = [
         r#"{"a":{"\"\n\u0001":1}}"#,
@@ -242,7 +243,7 @@ fn a_limit_is_of_the_result() {
     assert_eq!(call(merged.len()), [(); 4].map(|()| Ok(text(merged))));
     assert_eq!(
         call(merged.len() - 1),
-        [(); 4].map(|()| Err(Error::TooLarge))
+        [(); 4].map(|()| Err(Error::TooLarge { number: 0 }))
     );
     assert_eq!(within(0).get(document, "/b"), Err(Error::Missing));
     assert!(within(0).join([document, "1"]).is_err());
@@ -255,10 +256,10 @@ fn a_limit_is_of_what_operations_make_and_take() {
     // An object weighs 1000 bytes, a name of one byte 129, a number 40, and the pointer of such a name 138.
     let patched = |limit| within(limit).patch(document, edits);
     assert_eq!(patched(1338).as_deref(), Ok(merged));
-    assert_eq!(patched(1337), Err(Error::TooLarge));
+    assert_eq!(patched(1337), Err(Error::TooLarge { number: 0 }));
     let rewritten = |limit| within(limit).rewrite(document, add);
     assert_eq!(rewritten(178).as_deref(), Ok(edits));
-    assert_eq!(rewritten(177), Err(Error::TooLarge));
+    assert_eq!(rewritten(177), Err(Error::TooLarge { number: 0 }));
 }
 
 #[test]

@@ -1,5 +1,5 @@
 -- What is in a buffer that holds the whole text of a result.
-use Rattle.std.proofs.Common.{if◌then◌else◌, ◌≡◌, ◌≢◌, ◌≤◌, ◌∙◌, ℕ, Bool, true, false, nat_lt, List, [], ◌++◌, Option, None, Some, inl, inr, length, take, drop, refl, sym, ap, subst}
+use Rattle.std.proofs.Common.{if◌then◌else◌, ◌≡◌, ◌≢◌, ◌≤◌, ◌∙◌, ℕ, Bool, true, false, nat_lt, List, ◌++◌, Option, None, Some, inl, inr, length, take, drop, refl, sym, ap, subst}
 use Rattle.std.proofs.Math.Seq.{take-append_seam}
 use Rattle.std.proofs.lemmas.List.{take_all}
 use Rattle.mp_tree.specs.declared.fault.ReadFault.{ReadFault}
@@ -22,18 +22,21 @@ use Rattle.mp_c.specs.Answered.{ExportAnswer, answer_text, answer_conflict, answ
 use Rattle.mp_c.specs.Laws.{HandleFollows, GaveDocument, ReplaysAgreeInTheirBuffers}
 use Rattle.mp_c.specs.OnHandles.{HandleAnswer, handle_text, handle_conflict, handle_first_pairs, handle_first_places, handle_unread, handle_fault, handle_not_utf8, handle_not_started, OfStarted, ShowsDocument}
 use Rattle.mp_c.specs.Replies.{IsReply, buffer_after}
-use Rattle.mp_c.specs.Report.{Report, status_conflict, status_document, status_not_started, status_patch, status_pointer, status_result, status_too_large, unnumbered, report_of, report_of_fault, report_of_handle, report_of_live_fault, report_of_pointer, report_of_text, report_of_unread}
+use Rattle.mp_texts.specs.Lines.{too_large}
+use Rattle.mp_c.specs.Report.{Report, a_document, status_conflict, status_not_started, status_pointer, status_result, status_too_large, unnumbered, report_of, report_of_document, report_of_fault, report_of_handle, report_of_live_fault, report_of_patch, report_of_pointer, report_of_said, report_of_text}
 use Rattle.mp_c.specs.declared.replying.Reply.{Reply}
 
 -- ---- no error is reported as a result
 
-of_document : (why : ReadFault) (place : Option Tokens) → ¬ ((report_of_unread status_document 0 why place).status ≡ status_result)
-of_document read.NotJson place e = cc
-of_document why place e = cc
+of_document : (why : ReadFault) (place : Option Tokens) → ¬ ((report_of_document why place).status ≡ status_result)
+of_document read.OutOfMemory place e = cc
+of_document why None e = cc
+of_document why (Some place) e = cc
 
-of_patch : (number : ℕ) (why : ReadFault) (place : Option Tokens) → ¬ ((report_of_unread status_patch number why place).status ≡ status_result)
-of_patch number read.NotJson place e = cc
-of_patch number why place e = cc
+of_patch : (number : ℕ) (why : ReadFault) (place : Option Tokens) → ¬ ((report_of_patch number why place).status ≡ status_result)
+of_patch number read.OutOfMemory place e = cc
+of_patch number why None e = cc
+of_patch number why (Some place) e = cc
 
 of_pointer : (why : PointerFault) → ¬ ((report_of_pointer why).status ≡ status_result)
 of_pointer pointer.NoSlash e = cc
@@ -51,7 +54,7 @@ no_result (texts.Refused apply.OutOfMemory) e = cc
 no_result (texts.Refused why) e = cc
 no_result why e = cc
 
-no_live_result : (why : LiveFault) → ¬ ((report_of_live_fault status_document why).status ≡ status_result)
+no_live_result : (why : LiveFault) → ¬ ((report_of_live_fault a_document why).status ≡ status_result)
 no_live_result (live.Document why) e = of_document why None e
 no_live_result (live.Pointer why) e = of_pointer why e
 no_live_result why e = cc
@@ -59,8 +62,9 @@ no_live_result why e = cc
 no_conflict : ¬ (status_conflict ≡ status_result)
 no_conflict e = cc
 
-no_unread : ¬ (status_document ≡ status_result)
-no_unread e = cc
+no_said : (numbers : Option (ℕ × ℕ)) (total : ℕ) (more : Bool) (said : Option (List Tokens)) → ¬ ((report_of_said numbers total more said).status ≡ status_result)
+no_said numbers total more None e = cc
+no_said numbers total more (Some shown) e = cc
 
 no_pointer : ¬ (status_pointer ≡ status_result)
 no_pointer e = cc
@@ -80,8 +84,8 @@ whole_text before written enough =
 fits : (limit : ℕ) (result : List ℕ) → (report_of_text limit result).status ≡ status_result → report_of_text limit result ≡ unnumbered status_result result
 fits limit result = by (nat_lt limit (length result))
   where
-    by : (b : Bool) → (if b then unnumbered status_too_large [] else unnumbered status_result result).status ≡ status_result
-        → (if b then unnumbered status_too_large [] else unnumbered status_result result) ≡ unnumbered status_result result
+    by : (b : Bool) → (if b then unnumbered status_too_large too_large else unnumbered status_result result).status ≡ status_result
+        → (if b then unnumbered status_too_large too_large else unnumbered status_result result) ≡ unnumbered status_result result
     by true e = absurd (cc)
     by false e = refl
 
@@ -111,14 +115,14 @@ module _ (IsText : List ℕ → Type 0) (reply : Reply) (before buffer : List �
   }
 
   -- what a call on a handle answers with a result, of which nothing is left out, is a text
-  pub result_held : (limit : ℕ) (answer : HandleAnswer) → IsReply (report_of_handle limit status_document answer) reply before buffer → reply.status ≡ status_result
+  pub result_held : (limit : ℕ) (answer : HandleAnswer) → IsReply (report_of_handle limit a_document answer) reply before buffer → reply.status ≡ status_result
       → ((written : List ℕ) → answer ≡ handle_text written → IsText written) → ((array : List ℕ) → answer ≢ handle_first_pairs array) → HoldsText IsText reply buffer
   result_held limit (handle_text written) replied has_result is whole =
       text_held written (is written refl) (subst (λ (r : Report). IsReply r reply before buffer) (fits limit written (sym replied.status ∙ has_result)) replied)
-  result_held limit (handle_conflict total array) replied has_result is whole = absurd (no_conflict (sym replied.status ∙ has_result))
-  result_held limit (handle_first_places total array) replied has_result is whole = absurd (no_conflict (sym replied.status ∙ has_result))
+  result_held limit (handle_conflict total said) replied has_result is whole = absurd (no_said None total false said (sym replied.status ∙ has_result))
+  result_held limit (handle_first_places total said) replied has_result is whole = absurd (no_said None total true said (sym replied.status ∙ has_result))
   result_held limit (handle_first_pairs array) replied has_result is whole = absurd (whole array refl)
-  result_held limit (handle_unread total said) replied has_result is whole = absurd (no_unread (sym replied.status ∙ has_result))
+  result_held limit (handle_unread why place) replied has_result is whole = absurd (of_document why place (sym replied.status ∙ has_result))
   result_held limit (handle_fault why) replied has_result is whole = absurd (no_live_result why (sym replied.status ∙ has_result))
   result_held limit (handle_not_utf8 offset) replied has_result is whole = absurd (no_pointer (sym replied.status ∙ has_result))
   result_held limit handle_not_started replied has_result is whole = absurd (no_start (sym replied.status ∙ has_result))
@@ -135,7 +139,7 @@ module _ (start : List ℕ) (patches : List (List ℕ)) (limit : ℕ) (reply : R
   outcome_held (not_utf8 offset) is replied = absurd is
 
   shown_held : (answer : HandleAnswer) (handle after : Option HeldReplica) → HandleFollows start patches handle → OfStarted (ShowsDocument limit) handle answer after
-      → IsReply (report_of_handle limit status_document answer) reply before buffer → HoldsText (IsReplayText start patches) reply buffer
+      → IsReply (report_of_handle limit a_document answer) reply before buffer → HoldsText (IsReplayText start patches) reply buffer
   shown_held answer None after follows is replied = absurd follows
   shown_held answer (Some r) None follows is replied = absurd is
   shown_held answer (Some r) (Some s) follows is replied =

@@ -8,10 +8,10 @@ use Rattle.mp_merge.specs.declared.fault.ListFault.TheVariants as list
 use Rattle.mp_texts.specs.Calls.{Call, MayConflict, MayFail, MayReturn, join_texts, merge_texts, part_text, patch_text, replay_texts, rewrite_text}
 use Rattle.mp_texts.specs.declared.fault.TextsFault.{TextsFault}
 use Rattle.mp_texts.specs.declared.fault.TextsFault.TheVariants.{Document as NoDocument, Patch, List as OfList, OutOfMemory}
-use Rattle.mp_c.specs.Answered.{ExportAnswer, answer_text, answer_conflict, answer_document, answer_patch, answer_fault, not_utf8, IsPart, IsPlaceIn, OfCall, call_document, call_patches}
-use Rattle.mp_c.specs.Private.Reporting.{ReportsCall, ReportsUnread}
+use Rattle.mp_c.specs.Answered.{ExportAnswer, answer_text, answer_conflict, answer_document, answer_patch, answer_fault, not_utf8, IsOther, IsPart, IsPlaceIn, OfCall, call_document, call_patches}
+use Rattle.mp_c.specs.Private.Reporting.{Reports, ReportsCall, ReportsUnread}
 use Rattle.mp_c.specs.Replies.{Replies}
-use Rattle.mp_c.specs.Report.{status_document}
+use Rattle.mp_c.specs.Report.{report_of_document, report_of_fault, report_of_utf8}
 use Rattle.mp_c.specs.declared.replying.Reply.{Reply}
 
 -- ---- what is reported of what the call gave is an answer of it
@@ -33,6 +33,11 @@ conflict limit call first second conflicts is = absurd is
 abbrev May : {A : Type 0} → ℕ → Call → Result (String A) TextsFault → Type 0
 May limit call given = MatchResult given (λ s. MayReturn limit call (string_bytes s)) (λ why. MayFail limit call why)
 
+-- an error without a place, or there was no memory for its line
+no_place : (limit : ℕ) (call : Call) (why : TextsFault) (reply : Reply) (before after : List ℕ) → IsOther why → MayFail limit call why → Reports (report_of_fault why) reply before after → Replies (OfCall limit call) reply before after
+no_place limit call why reply before after other may (inl report) = (answer_fault why, (other, may), report)
+no_place limit call why reply before after other may (inr report) = (answer_fault OutOfMemory, (tt, memory limit call), report)
+
 pub replied : {A : Type 0} (limit : ℕ) (call : Call) (given : Result (String A) TextsFault) (reply : Reply) (before after : List ℕ) → May limit call given
     → ReportsCall limit (call_document call) (call_patches call) given reply before after → Replies (OfCall limit call) reply before after
 replied limit call (Ok s) reply before after may report = (answer_text (string_bytes s), may, report)
@@ -40,10 +45,12 @@ replied limit call (Err (NoDocument why)) reply before after may (inl (place, at
 replied limit call (Err (NoDocument why)) reply before after may (inr report) = (answer_fault OutOfMemory, (tt, memory limit call), report)
 replied limit call (Err (Patch number why)) reply before after may (inl (place, at, report)) = (answer_patch number why place, (may, at), report)
 replied limit call (Err (Patch number why)) reply before after may (inr report) = (answer_fault OutOfMemory, (tt, memory limit call), report)
-replied limit call (Err (OfList (list.ConflictOf first second conflicts))) reply before after may (inl (array, at, report)) =
-    (answer_conflict first second conflicts.total array, (conflicts.places.items, conflict limit call first second conflicts may, at), report)
+replied limit call (Err (OfList (list.ConflictOf first second conflicts))) reply before after may (inl (shown, at, report)) =
+    (answer_conflict first second conflicts.total shown, (conflicts.places.items, conflict limit call first second conflicts may, at), report)
 replied limit call (Err (OfList (list.ConflictOf first second conflicts))) reply before after may (inr report) = (answer_fault OutOfMemory, (tt, memory limit call), report)
-replied limit call (Err why) reply before after may report = (answer_fault why, (tt, may), report)
+replied limit call (Err (OfList list.NoPatches)) reply before after may report = no_place limit call (OfList list.NoPatches) reply before after tt may report
+replied limit call (Err (OfList list.OutOfMemory)) reply before after may report = no_place limit call (OfList list.OutOfMemory) reply before after tt may report
+replied limit call (Err why) reply before after may report = no_place limit call why reply before after tt may report
 
 -- ---- parts
 
@@ -62,12 +69,17 @@ part_replied limit given document pointer spelling reply before after same utf8 
 
 -- the document is none
 pub no_document : (limit : ℕ) (why : ReadFault) (document pointer : List ℕ) (reply : Reply) (before after : List ℕ) → (why ≢ read.OutOfMemory → document_in document ≡ Err why)
-    → ReportsUnread status_document 0 why (IsPlaceIn why document) reply before after → Replies (IsPart limit document pointer) reply before after
+    → ReportsUnread (report_of_document why) (IsPlaceIn why document) reply before after → Replies (IsPart limit document pointer) reply before after
 no_document limit read.NotJson document pointer reply before after is (inl (place, at, report)) = (answer_document read.NotJson place, (is (λ e. cc), at), report)
 no_document limit read.NotWhole document pointer reply before after is (inl (place, at, report)) = (answer_document read.NotWhole place, (is (λ e. cc), at), report)
 no_document limit read.TooDeep document pointer reply before after is (inl (place, at, report)) = (answer_document read.TooDeep place, (is (λ e. cc), at), report)
 no_document limit read.OutOfMemory document pointer reply before after is (inl (place, at, report)) = (answer_fault OutOfMemory, tt, report)
 no_document limit why document pointer reply before after is (inr report) = (answer_fault OutOfMemory, tt, report)
+
+-- the pointer is not text
+pub not_utf8_replied : (limit : ℕ) (document pointer : List ℕ) (offset : ℕ) (reply : Reply) (before after : List ℕ) → IsPart limit document pointer (not_utf8 offset) → Reports (report_of_utf8 offset) reply before after → Replies (IsPart limit document pointer) reply before after
+not_utf8_replied limit document pointer offset reply before after is (inl report) = (not_utf8 offset, is, report)
+not_utf8_replied limit document pointer offset reply before after is (inr report) = (answer_fault OutOfMemory, tt, report)
 
 -- ---- a reply by another name
 

@@ -7,5 +7,6 @@ pub mod LogBuffers
 pub mod OnPatches
 pub mod OnReplicas
 pub mod OneReply
+pub mod Said
 pub mod SomeReply
 pub mod Started

@@ -7,20 +7,21 @@ use Rattle.mp_replica.specs.Faults.{IsOutOfMemory}
 use Rattle.mp_replica.specs.LogTexts.{IsConflictsTextOf, IsConflictsTextWithinOf, pairs_text}
 use Rattle.mp_replica.specs.PatchLog.{AreAlike, HeldLog, Pair, Stored, stored_of}
 use Rattle.mp_replica.specs.declared.pairs_texts.PairsText.{PairsText}
-use Rattle.mp_c.specs.Private.Reporting.{pairs_answer, pairs_text_answer}
+use Rattle.mp_c.specs.Private.Reporting.{ReportsPairs, pairs_answer, pairs_text_answer}
 use Rattle.mp_replica.specs.declared.message.Identity.{Identity}
 use Rattle.mp_replica.specs.declared.fault.LiveFault.{LiveFault}
 use Rattle.mp_replica.specs.declared.fault.LiveFault.TheVariants as live
+use Rattle.mp_texts.specs.Lines.{too_large}
 use Rattle.mp_c.specs.Laws.{HasRead, LogsAgreeInTheirBuffers}
 use Rattle.mp_c.specs.OnHandles.{HandleAnswer, handle_text, OfStarted}
 use Rattle.mp_c.specs.OnLogs.{GivesConflicts, GivesLogDocument, OnlyReads}
 use Rattle.mp_c.specs.Replies.{IsReply}
-use Rattle.mp_c.specs.Report.{Report, status_document, status_result, status_too_large, report_of_first, report_of_handle, unnumbered, with_more}
+use Rattle.mp_c.specs.Report.{Report, a_document, status_result, status_too_large, report_of_first, report_of_handle, unnumbered, with_more}
 use Rattle.mp_c.specs.declared.replying.Reply.{Reply}
 use Rattle.mp_c.proofs.Buffers.{HoldsText, held_alike, result_held}
 
 abbrev first_of : List ℕ → Bool → Report
-first_of shown b = if b then unnumbered status_too_large [] else with_more (unnumbered status_result shown)
+first_of shown b = if b then unnumbered status_too_large too_large else with_more (unnumbered status_result shown)
 
 -- of what comes first of a result that has more the flag says so
 never_first : (limit : ℕ) (shown : List ℕ) → (report_of_first limit shown).status ≡ status_result → (report_of_first limit shown).flags ≡ 0 → ⊥
@@ -41,7 +42,7 @@ holds_text Gives log reply buffer has = by has.after has.replied.1
     by None is = absurd is
     by (Some s) is =
         result_held (IsGiven Gives log) reply has.before buffer has.has.enough has.limit has.replied.0 has.replied.2 has.has.status (λ written same. (has.limit, subst (Gives has.limit log) same is.0))
-        (λ array same. let first = subst (λ (a : HandleAnswer). IsReply (report_of_handle has.limit status_document a) reply has.before buffer) same has.replied.2 in
+        (λ array same. let first = subst (λ (a : HandleAnswer). IsReply (report_of_handle has.limit a_document a) reply has.before buffer) same has.replied.2 in
         never_first has.limit array (sym first.status ∙ has.has.status) (sym first.flags ∙ has.all))
 
 -- two logs that are alike give one text
@@ -90,3 +91,9 @@ gives_conflicts of limit log (Ok written) is = by written.more is
     by false is = all_written limit of (stored_of log) (string_bytes written.text) is
 gives_conflicts of limit log (Err live.OutOfMemory) is = tt
 gives_conflicts of limit log (Err why) is = absurd is
+
+pub pairs_reported : (of : Option Identity) (limit : ℕ) (log : HeldLog) (given : Result PairsText LiveFault) (reply : Reply) (out out' : List ℕ) → GivesConflicts of limit log (pairs_answer given) → ReportsPairs limit given reply out out'
+    → IsReply (report_of_handle limit a_document (pairs_answer given)) reply out out'
+pairs_reported of limit log (Ok written) reply out out' gives replied = replied
+pairs_reported of limit log (Err live.OutOfMemory) reply out out' gives replied = replied
+pairs_reported of limit log (Err why) reply out out' gives replied = absurd gives

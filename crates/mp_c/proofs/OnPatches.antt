@@ -16,8 +16,10 @@ use Rattle.mp_replica.specs.declared.fault.LiveFault.{LiveFault}
 use Rattle.mp_replica.specs.declared.fault.LiveFault.TheVariants.{Conflict, NoPatches, OutOfMemory, Pending, TooLarge}
 use Rattle.mp_replica.specs.declared.patches.Added.{Added}
 use Rattle.mp_replica.specs.declared.patches.Added.TheVariants as added
-use Rattle.mp_c.specs.OnHandles.{HandleAnswer, handle_conflict, handle_fault, handle_first_places, handle_text, GivesJoin, GivesKept, HasAdded, HasCombined, HoldsKept, IsMadeOfKept, IsPlacesTextOrNone, OfPatches, SettlesPatches, StillTaken, patches_in}
-use Rattle.mp_c.specs.Private.Reporting.{ReportsAdded, ReportsConflict, ReportsNoJoin, live_answer, report_of_conflict}
+use Rattle.mp_c.specs.OnHandles.{HandleAnswer, handle_conflict, handle_fault, handle_first_places, handle_text, GivesJoin, GivesKept, HasAdded, HasCombined, HoldsKept, IsMadeOfKept, AreShownOrNone, OfPatches, SettlesPatches, StillTaken, patches_in}
+use Rattle.mp_c.specs.Private.Reporting.{ReportsAdded, ReportsConflict, ReportsNoJoin, live_answer}
+use Rattle.mp_c.specs.Report.{report_of_said}
+use Rattle.mp_tree.specs.Look.{Path}
 use Rattle.mp_c.specs.Replies.{HandleReplies, IsReply}
 use Rattle.mp_c.specs.declared.replying.Reply.{Reply}
 
@@ -27,25 +29,25 @@ still_taken before after keeps texts has = record { documents = has.documents; r
 -- ---- conflicts
 
 -- all places, or the first of more; or that there is no conflict
-reported_places : (limit unread : ℕ) (Is : HandleAnswer → Type 0) (reply : Reply) (out out' : List ℕ) (places : Option HeldPlaces) → (places ≡ None → Is (handle_text []))
-    → ((total : ℕ) (array : List ℕ) → MatchOption places ⊥ (λ held. (total ≡ length held.places) × (false ≡ held.more) × IsPlacesTextOrNone limit held.places array) → Is (handle_conflict total array))
-    → ((total : ℕ) (array : List ℕ) → MatchOption places ⊥ (λ held. (total ≡ length held.places) × (true ≡ held.more) × IsPlacesTextOrNone limit held.places array) → Is (handle_first_places total array))
+reported_places : (limit : ℕ) (unread : Option ℕ) (Is : HandleAnswer → Type 0) (reply : Reply) (out out' : List ℕ) (places : Option HeldPlaces) → (places ≡ None → Is (handle_text []))
+    → ((total : ℕ) (said : Option (List Path)) → MatchOption places ⊥ (λ held. (total ≡ length held.places) × (false ≡ held.more) × AreShownOrNone limit held.places said) → Is (handle_conflict total said))
+    → ((total : ℕ) (said : Option (List Path)) → MatchOption places ⊥ (λ held. (total ≡ length held.places) × (true ≡ held.more) × AreShownOrNone limit held.places said) → Is (handle_first_places total said))
     → ReportsConflict limit places reply out out' → HandleReplies limit unread Is reply out out'
 reported_places limit unread Is reply out out' None none whole part replied = (handle_text [], none refl, replied)
-reported_places limit unread Is reply out out' (Some held) none whole part (array, text, replied) = by held.more refl replied
+reported_places limit unread Is reply out out' (Some held) none whole part (said, shown, replied) = by held.more refl replied
   where
-    by : (more : Bool) → more ≡ held.more → IsReply (report_of_conflict more (length held.places) array) reply out out' → HandleReplies limit unread Is reply out out'
-    by false is replied = (handle_conflict (length held.places) array, whole (length held.places) array (refl, is, text), replied)
-    by true is replied = (handle_first_places (length held.places) array, part (length held.places) array (refl, is, text), replied)
+    by : (more : Bool) → more ≡ held.more → IsReply (report_of_said None (length held.places) more said) reply out out' → HandleReplies limit unread Is reply out out'
+    by false is replied = (handle_conflict (length held.places) said, whole (length held.places) said (refl, is, shown), replied)
+    by true is replied = (handle_first_places (length held.places) said, part (length held.places) said (refl, is, shown), replied)
 
 -- ---- what becomes of patches
 
-module _ (limit unread : ℕ) (before after : HeldPatches) (reply : Reply) (out out' : List ℕ) where
+module _ (limit : ℕ) (unread : Option ℕ) (before after : HeldPatches) (reply : Reply) (out out' : List ℕ) where
   pub added_as : (patch : List ℕ) (what : Added) → ((texts : List (List ℕ)) → HasTakenTexts before texts → TakesOne HasTakenTexts what texts patch after) → (what ≡ added.Conflict) ↔ (after.places ≢ None)
       → ReportsAdded limit what after reply out out' → HandleReplies limit unread (λ a. HasAdded limit patch before a after) reply out out'
   added_as patch added.Joined takes clash replied = (handle_text [], (refl, takes), replied)
   added_as patch added.Conflict takes clash replied =
-      reported_places limit unread (λ a. HasAdded limit patch before a after) reply out out' after.places (λ none. absurd (clash.0 refl none)) (λ total array is. (takes, is)) (λ total array is. (takes, is)) replied
+      reported_places limit unread (λ a. HasAdded limit patch before a after) reply out out' after.places (λ none. absurd (clash.0 refl none)) (λ total said is. (takes, is)) (λ total said is. (takes, is)) replied
   added_as patch added.Pending takes clash replied = (handle_fault Pending, takes, replied)
   added_as patch added.Refused takes clash replied = (handle_fault OutOfMemory, λ texts has. (takes texts has).0, replied)
 
@@ -54,7 +56,7 @@ module _ (limit unread : ℕ) (before after : HeldPatches) (reply : Reply) (out 
       → ReportsAdded limit what after reply out out' → HandleReplies limit unread (λ a. HasCombined limit before other a after left) reply out out'
   combined_as other left added.Joined takes clash replied = (handle_text [], (refl, takes), replied)
   combined_as other left added.Conflict takes clash replied =
-      reported_places limit unread (λ a. HasCombined limit before other a after left) reply out out' after.places (λ none. absurd (clash.0 refl none)) (λ total array is. (takes, is)) (λ total array is. (takes, is)) replied
+      reported_places limit unread (λ a. HasCombined limit before other a after left) reply out out' after.places (λ none. absurd (clash.0 refl none)) (λ total said is. (takes, is)) (λ total said is. (takes, is)) replied
   combined_as other left added.Pending takes clash replied = (handle_fault Pending, takes, replied)
   combined_as other left added.Refused takes clash replied =
       (handle_fault OutOfMemory, λ texts others has also. ((takes texts others has also).0, (takes texts others has also).1), replied)
@@ -65,7 +67,7 @@ module _ (limit unread : ℕ) (before after : HeldPatches) (reply : Reply) (out 
       → ReportsNoJoin limit why after reply out out' → HandleReplies limit unread (λ a. GivesJoin limit before a after) reply out out'
   not_joined Conflict settles is none replied =
       let clash : (texts : List (List ℕ)) → HasTakenTexts before texts → ¬ AreCompatible texts = λ texts has. none texts (settles.0 texts has) in
-      reported_places limit unread (λ a. GivesJoin limit before a after) reply out out' after.places (λ places. absurd (is places)) (λ total array seen. (settles, seen, clash)) (λ total array seen. (settles, seen, clash)) replied
+      reported_places limit unread (λ a. GivesJoin limit before a after) reply out out' after.places (λ places. absurd (is places)) (λ total said seen. (settles, seen, clash)) (λ total said seen. (settles, seen, clash)) replied
   not_joined Pending settles is none replied = (handle_fault Pending, (settles, is), replied)
   not_joined NoPatches settles is none replied = (handle_fault NoPatches, (settles, λ texts has. none texts (settles.0 texts has)), replied)
   not_joined TooLarge settles is none replied = (handle_fault TooLarge, (settles, is), replied)
@@ -74,7 +76,7 @@ module _ (limit unread : ℕ) (before after : HeldPatches) (reply : Reply) (out 
 
   pub made_of_kept : (kept : List ℕ) → HoldsKept kept after → ReportsConflict limit after.places reply out out' → HandleReplies limit unread (λ a. IsMadeOfKept limit kept before a after) reply out out'
   made_of_kept kept holds replied =
-      reported_places limit unread (λ a. IsMadeOfKept limit kept before a after) reply out out' after.places (λ none. (refl, holds, none)) (λ total array is. (holds, is)) (λ total array is. (holds, is)) replied
+      reported_places limit unread (λ a. IsMadeOfKept limit kept before a after) reply out out' after.places (λ none. (refl, holds, none)) (λ total said is. (holds, is)) (λ total said is. (holds, is)) replied
 
 none_read : (texts : List (List ℕ)) (documents : List Document) → AreRead texts documents → documents ≡ [] → texts ≡ []
 none_read [] documents are none = refl

@@ -13,12 +13,12 @@ use Rattle.mp_replica.specs.Following.{Follows}
 use Rattle.mp_replica.specs.Held.{AreFirstClashesWith, HeldReplica}
 use Rattle.mp_replica.specs.Texts.{FollowsTexts, IsPartOf}
 use Rattle.mp_replica.specs.declared.fault.LiveFault.{LiveFault}
-use Rattle.mp_replica.specs.declared.fault.LiveFault.TheVariants.{Conflict}
+use Rattle.mp_replica.specs.declared.fault.LiveFault.TheVariants.{Conflict, OutOfMemory}
 use Rattle.mp_replica.specs.declared.replica.Received.TheVariants as received
 use Rattle.mp_c.specs.OnHandles.{HasReceived, Receives, Settles, ShowsDocument, ShowsJoin, ShowsPart, StillFollows, handle_conflict, handle_fault}
 use Rattle.mp_c.specs.Private.Reporting.{ReportsConflicts, live_answer}
 use Rattle.mp_c.specs.Replies.{HandleReplies}
-use Rattle.mp_c.specs.Report.{status_patch}
+use Rattle.mp_c.specs.Report.{a_patch}
 use Rattle.mp_c.specs.declared.replying.Reply.{Reply}
 
 -- ---- what is kept
@@ -54,15 +54,16 @@ module _ {A : Type 0} (limit : ℕ) (before after : HeldReplica) (settles : Sett
       → MatchResult r (λ t. (after.pending ≡ None) × IsPartOf (document after.shown) spelling (string_bytes t)) (λ why. IsNoPart limit why after spelling)
       → IfOk r (λ t. length (string_bytes t) ≤ limit) → ShowsPart limit pointer before (live_answer r) after
   shows_part pointer spelling same utf8 (Ok t) part within = (settles, utf8, part.0, subst (λ (p : List ℕ). IsPartOf (document after.shown) p (string_bytes t)) same part.1, within)
+  shows_part pointer spelling same utf8 (Err OutOfMemory) part within = settles
   shows_part pointer spelling same utf8 (Err why) part within = (settles, utf8, subst (IsNoPart limit why after) same part)
 
 -- ---- conflicts
 
 pub refuses : (limit : ℕ) (patch : List ℕ) (before after : HeldReplica) (back : Doc) (found : Result Conflicts AllocError) (reply : Reply) (out out' : List ℕ) → Receives (received.Conflict back) patch before after
     → IfOk found (λ c. (start : Document) (received : List Document) → Follows start received after → AreFirstClashesWith limit received (document back) c.places.items c.total)
-    → ReportsConflicts limit found reply out out' → HandleReplies limit status_patch (λ a. HasReceived limit patch before a after) reply out out'
-refuses limit patch before after back (Ok c) reply out out' receives first (array, text, replied) = (
-  handle_conflict c.total array,
+    → ReportsConflicts limit found reply out out' → HandleReplies limit a_patch (λ a. HasReceived limit patch before a after) reply out out'
+refuses limit patch before after back (Ok c) reply out out' receives first (said, shown, replied) = (
+  handle_conflict c.total said,
   (
     (back, receives),
     λ start texts follows. let now = (receives start texts follows).1 in record {
@@ -72,7 +73,7 @@ refuses limit patch before after back (Ok c) reply out out' receives first (arra
       patch_read = (receives start texts follows).0;
       places = c.places.items;
       first = first now.from now.documents now.follows;
-      text = text;
+      shown = shown;
     },
   ),
   replied,

@@ -9,7 +9,7 @@ use Rattle.mp_tree.specs.declared.fault.ReadFault.{ReadFault}
 use Rattle.mp_pointer.specs.Spelling.{Tokens}
 use Rattle.mp_merge.specs.declared.fault.ListFault.TheVariants as list
 use Rattle.mp_texts.specs.Calls.{Call, join_texts, replay_texts, merge_texts, rewrite_text, patch_text, part_text, CallAnswer, returned, conflicting, failed, IsCallAnswer, MayFail}
-use Rattle.mp_texts.specs.PlacesTexts.{IsPlacesText}
+use Rattle.mp_texts.specs.PlacesTexts.{AreShown}
 use Rattle.mp_texts.specs.declared.fault.TextsFault.{TextsFault}
 use Rattle.mp_texts.specs.declared.fault.TextsFault.TheVariants.{Document as NoDocument, Patch, List as OfList, OutOfMemory}
 use Rattle.mp_c.specs.Answered.{ExportAnswer, answer_text, answer_conflict, answer_document, answer_patch, answer_fault, not_utf8, IsOther, IsPart, IsPlaceAt, IsPlaceIn, OfCall, call_document, call_patches}
@@ -39,7 +39,7 @@ patch_there limit (part_text document pointer) number why is = absurd is
 -- the answer of the call that the export answers with
 abbrev Of : ℕ → Call → CallAnswer → ExportAnswer → Type 0
 Of limit call (returned text) a = a ≡ answer_text text
-Of limit call (conflicting first second places total) a = (array : List ℕ) × IsPlacesText limit places array × (a ≡ answer_conflict first second total array)
+Of limit call (conflicting first second places total) a = (shown : List Tokens) × AreShown limit places shown × (a ≡ answer_conflict first second total shown)
 Of limit call (failed (NoDocument why)) a = (place : Option Tokens) × IsPlaceIn why (call_document call) place × (a ≡ answer_document why place)
 Of limit call (failed (Patch number why)) a =
     (place : Option Tokens) × IsThere call number × IsPlaceAt why (call_patches call) number place × (a ≡ answer_patch number why place)
@@ -59,7 +59,7 @@ other_seen limit call why other may some = record { answer = failed why; is = (s
 
 seen : (limit : ℕ) (call : Call) (a : ExportAnswer) → OfCall limit call a → HasMemory (report_of a) → Seen limit call a
 seen limit call (answer_text text) is memory = record { answer = returned text; is = is; shows = refl }
-seen limit call (answer_conflict first second total array) is memory = record { answer = conflicting first second is.0 total; is = is.1; shows = (array, is.2, refl) }
+seen limit call (answer_conflict first second total shown) is memory = record { answer = conflicting first second is.0 total; is = is.1; shows = (shown, is.2, refl) }
 seen limit call (answer_document why place) is memory = record { answer = failed (NoDocument why); is = ((λ e. cc), refl, is.0); shows = (place, is.1, refl) }
 seen limit call (answer_patch number why place) is memory = record { answer = failed (Patch number why); is = ((λ e. cc), refl, is.0); shows = (place, patch_there limit call number why is.0, is.1, refl) }
 seen limit call (answer_fault why) is memory = other_seen limit call why is.0 is.1 (λ none. memory (ap (λ f. (report_of_fault f).status) none))
@@ -75,8 +75,8 @@ module _ (places : PlaceLaws) where
   -- what is reported of one answer of the call is one
   one_of : (limit : ℕ) (call : Call) (answer : CallAnswer) (a b : ExportAnswer) → Of limit call answer a → Of limit call answer b → a ≡ b
   one_of limit call (returned text) a b is was = is ∙ sym was
-  one_of limit call (conflicting first second listed total) a b (array, is, same) (other, was, also) =
-      same ∙ ap (answer_conflict first second total) (places.one_text limit listed array other is was) ∙ sym also
+  one_of limit call (conflicting first second listed total) a b (shown, is, same) (other, was, also) =
+      same ∙ ap (answer_conflict first second total) (places.these_shown limit listed shown other is was) ∙ sym also
   one_of limit call (failed (NoDocument why)) a b (place, is, same) (other, was, also) =
       same ∙ ap (answer_document why) (one_place_in why (call_document call) place other is was) ∙ sym also
   one_of limit call (failed (Patch number why)) a b (place, there, is, same) (other, here, was, also) =
@@ -86,21 +86,21 @@ module _ (places : PlaceLaws) where
 -- ---- replies that report the same
 
 reply_of : ℕ → ℕ → ℕ → ℕ → ℕ → ℕ → ℕ → Reply
-reply_of whole first second total spare status flags =
-    record { length = whole; first = first; second = second; total = total; spare = spare; status = status; flags = flags }
+reply_of whole first second total places status flags =
+    record { length = whole; first = first; second = second; total = total; places = places; status = status; flags = flags }
 
 same_reply : (report : Report) (reply other : Reply) (before after other_before other_after : List ℕ) → IsReply report reply before after → IsReply report other other_before other_after
     → ReportTheSame reply other before after other_before other_after
 unfolding reply_of
 same_reply report reply other before after other_before other_after one also = record {
   same =
-      ap (λ (n : ℕ). reply_of n reply.first reply.second reply.total reply.spare reply.status reply.flags) (one.whole ∙ sym also.whole)
-      ∙ ap (λ (n : ℕ). reply_of other.length n reply.second reply.total reply.spare reply.status reply.flags) (one.first ∙ sym also.first)
-      ∙ ap (λ (n : ℕ). reply_of other.length other.first n reply.total reply.spare reply.status reply.flags) (one.second ∙ sym also.second)
-      ∙ ap (λ (n : ℕ). reply_of other.length other.first other.second n reply.spare reply.status reply.flags) (one.total ∙ sym also.total)
-      ∙ ap (λ (n : ℕ). reply_of other.length other.first other.second other.total n reply.status reply.flags) (one.spare ∙ sym also.spare)
-      ∙ ap (λ (n : ℕ). reply_of other.length other.first other.second other.total other.spare n reply.flags) (one.status ∙ sym also.status)
-      ∙ ap (λ (n : ℕ). reply_of other.length other.first other.second other.total other.spare other.status n) (one.flags ∙ sym also.flags);
+      ap (λ (n : ℕ). reply_of n reply.first reply.second reply.total reply.places reply.status reply.flags) (one.whole ∙ sym also.whole)
+      ∙ ap (λ (n : ℕ). reply_of other.length n reply.second reply.total reply.places reply.status reply.flags) (one.first ∙ sym also.first)
+      ∙ ap (λ (n : ℕ). reply_of other.length other.first n reply.total reply.places reply.status reply.flags) (one.second ∙ sym also.second)
+      ∙ ap (λ (n : ℕ). reply_of other.length other.first other.second n reply.places reply.status reply.flags) (one.total ∙ sym also.total)
+      ∙ ap (λ (n : ℕ). reply_of other.length other.first other.second other.total n reply.status reply.flags) (one.places ∙ sym also.places)
+      ∙ ap (λ (n : ℕ). reply_of other.length other.first other.second other.total other.places n reply.flags) (one.status ∙ sym also.status)
+      ∙ ap (λ (n : ℕ). reply_of other.length other.first other.second other.total other.places other.status n) (one.flags ∙ sym also.flags);
   text = report.text;
   whole = one.whole;
   buffer = one.buffer;

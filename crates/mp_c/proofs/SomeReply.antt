@@ -26,7 +26,7 @@ use Rattle.mp_c.specs.Answered.{ExportAnswer, answer_text, answer_conflict, answ
 use Rattle.mp_c.specs.Laws.{EachHasReport, HasReport}
 use Rattle.mp_c.specs.Private.LawsOfTexts.{LawsOfTexts}
 use Rattle.mp_c.specs.Replies.{IsReply}
-use Rattle.mp_c.specs.Report.{Report, status_document, status_no_memory, status_patch, report_of, report_of_apply, report_of_form, report_of_pointer, report_of_unread}
+use Rattle.mp_c.specs.Report.{Report, report_of, report_of_apply, report_of_document, report_of_form, report_of_patch, report_of_pointer}
 use Rattle.mp_c.proofs.Exports.{part_of_call}
 use Rattle.mp_c.proofs.OneReply.{HasMemory, OneIsReported, one_is_reported, one_part, patch_there}
 
@@ -79,9 +79,15 @@ utf8_or_offset bs = by (is_utf8 bs) refl
 
 -- ---- a result is not reported as out of memory, nor is an error that is none
 
-unread_memory : (status number : ℕ) (why : ReadFault) (place : Option Tokens) → status ≢ status_no_memory → why ≢ read.OutOfMemory → HasMemory (report_of_unread status number why place)
-unread_memory status number read.OutOfMemory place other some = absurd (some refl)
-unread_memory status number why place other some = other
+document_memory : (why : ReadFault) (place : Option Tokens) → why ≢ read.OutOfMemory → HasMemory (report_of_document why place)
+document_memory read.OutOfMemory place some = absurd (some refl)
+document_memory why None some = λ e. cc
+document_memory why (Some place) some = λ e. cc
+
+patch_memory : (number : ℕ) (why : ReadFault) (place : Option Tokens) → why ≢ read.OutOfMemory → HasMemory (report_of_patch number why place)
+patch_memory number read.OutOfMemory place some = absurd (some refl)
+patch_memory number why None some = λ e. cc
+patch_memory number why (Some place) some = λ e. cc
 
 form_memory : (why : FormFault) → why ≢ form.OutOfMemory → HasMemory (report_of_form why)
 form_memory form.OutOfMemory some = absurd (some refl)
@@ -151,18 +157,18 @@ module _ (laws : LawsOfTexts) where
   has_of : (limit : ℕ) (call : Call) (answer : CallAnswer) → IsCallAnswer limit call answer → Has (OfCall limit call)
   has_of limit call (returned text) is = record { answer = answer_text text; is = is; memory = λ e. cc }
   has_of limit call (conflicting first second places total) is =
-      let array = laws.places.some_text limit places in
-      record { answer = answer_conflict first second total array.0; is = (places, is, array.1); memory = λ e. cc }
+      let shown = laws.places.some_shown limit places in
+      record { answer = answer_conflict first second total shown.0; is = (places, is, shown.1); memory = λ e. cc }
   has_of limit call (failed (NoDocument why)) is =
       let place = some_place why (call_document call) (laws.places.place_or_none why (call_document call)) in
-      record { answer = answer_document why place.0; is = (is.2, place.1); memory = unread_memory status_document 0 why place.0 (λ e. cc) (document_fault limit call why is.2) }
+      record { answer = answer_document why place.0; is = (is.2, place.1); memory = document_memory why place.0 (document_fault limit call why is.2) }
   has_of limit call (failed (Patch number why)) is =
       let there = patch_there limit call number why is.2 in
       let place = some_place why there.0 (laws.places.place_or_none why there.0) in
       record {
         answer = answer_patch number why place.0;
         is = (is.2, at_number why (call_patches call) number there.0 place.0 there.1 place.1);
-        memory = unread_memory status_patch number why place.0 (λ e. cc) (patch_fault limit call number why is.2);
+        memory = patch_memory number why place.0 (patch_fault limit call number why is.2);
       }
   has_of limit call (failed (OfList (list.ConflictOf first second conflicts))) is = absurd (no_conflict is.1)
     where
@@ -209,7 +215,7 @@ module _ (laws : LawsOfTexts) where
       by (Ok d) is = part_of_document limit document pointer (d, is)
       by (Err why) is =
           let place = some_place why document (laws.places.place_or_none why document) in
-          record { answer = answer_document why place.0; is = (is, place.1); memory = unread_memory status_document 0 why place.0 (λ e. cc) (of_bytes document why is) }
+          record { answer = answer_document why place.0; is = (is, place.1); memory = document_memory why place.0 (of_bytes document why is) }
 
   -- ---- all six
 

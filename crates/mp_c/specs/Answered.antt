@@ -1,24 +1,23 @@
 -- What each export answers: the text or the error of the call over texts of its name; where a text has the value for which it is
 -- no document; and of a pointer that is not a text where it stops being one.
-use Rattle.std.specs.Prelude.{◌≡◌, ◌++◌, ◌∷◌, [], ℕ, List, Option, None, Some, Err, codes, length, slice_get, ⊤}
+use Rattle.std.specs.Prelude.{◌≡◌, ◌∷◌, [], ℕ, List, Option, None, Some, Err, slice_get, ⊤}
 use Rattle.std.specs.Str.{IsUtf8, IsValidUpTo}
 use Rattle.mp_tree.specs.Text.{document_in}
 use Rattle.mp_tree.specs.declared.fault.ReadFault.{ReadFault}
-use Rattle.mp_tree.specs.declared.fault.ReadFault.TheVariants as read
-use Rattle.mp_pointer.specs.Spelling.{Tokens, spell}
+use Rattle.mp_pointer.specs.Spelling.{Tokens}
 use Rattle.mp_merge.specs.declared.fault.ListFault.TheVariants.{ConflictOf}
 use Rattle.mp_texts.specs.Calls.{Call, MayConflict, MayFail, MayReturn, join_texts, merge_texts, part_text, patch_text}
 use Rattle.mp_texts.specs.Calls.{replay_texts, rewrite_text}
 use Rattle.mp_texts.specs.FaultPlaces.{HasNoFaultPlace, IsFaultPlace}
 use Rattle.mp_texts.specs.Faults.{IsRead}
-use Rattle.mp_texts.specs.PlacesTexts.{IsPlacesText}
+use Rattle.mp_texts.specs.PlacesTexts.{AreShown}
 use Rattle.mp_texts.specs.declared.fault.TextsFault.{TextsFault}
 use Rattle.mp_texts.specs.declared.fault.TextsFault.TheVariants.{Document as NoDocument, Patch, List as OfList, OutOfMemory}
 
 pub data ExportAnswer : Type 0 where
   answer_text : List ℕ → ExportAnswer
-  -- two patches conflict: their numbers, at how many places, and the text of the array of those that the limit allows
-  answer_conflict : ℕ → ℕ → ℕ → List ℕ → ExportAnswer
+  -- two patches conflict: their numbers, at how many places, and those that the limit allows
+  answer_conflict : ℕ → ℕ → ℕ → List Tokens → ExportAnswer
   -- the document is none, and where it has the value for which it is none, if it has one
   answer_document : ReadFault → Option Tokens → ExportAnswer
   -- nor is the patch of that number
@@ -56,29 +55,6 @@ IsPlaceIn why text (Some place) = IsFaultPlace why text place
 abbrev pub IsPlaceAt : ReadFault → List (List ℕ) → ℕ → Option Tokens → Type 0
 IsPlaceAt why texts number place = (text : List ℕ) → slice_get texts number ≡ Some text → IsPlaceIn why text place
 
--- in words, why a text is no document
-abbrev pub read_text : ReadFault → List ℕ
-read_text read.NotJson = codes "not JSON"
-read_text read.NotWhole = codes "number not whole"
-read_text read.TooDeep = codes "too deep"
-read_text read.OutOfMemory = []
-
--- the words, and after them the place if there is one
-abbrev pub said_with : List ℕ → Option Tokens → List ℕ
-said_with words None = words
-said_with words (Some place) = words ++ codes " at " ++ spell place
-
--- how many bytes the words have, if a place follows them
-abbrev pub words_before : List ℕ → Option Tokens → ℕ
-words_before words None = 0
-words_before words (Some place) = length words
-
--- what is said of such a text, and how many bytes of it are the words
-abbrev pub SaysWhy : ReadFault → List ℕ → ℕ → List ℕ → Type 0
-SaysWhy why text total said =
-    (place : Option Tokens) × IsPlaceIn why text place
-    × (total ≡ words_before (read_text why) place) × (said ≡ said_with (read_text why) place)
-
 -- ---- what an export may answer
 
 -- an error that has an answer of its own above
@@ -91,8 +67,8 @@ IsOther other = ⊤
 -- as the call over texts does
 abbrev pub OfCall : ℕ → Call → ExportAnswer → Type 0
 OfCall limit call (answer_text text) = MayReturn limit call text
-OfCall limit call (answer_conflict first second total array) =
-    (places : List Tokens) × MayConflict limit call first second places total × IsPlacesText limit places array
+OfCall limit call (answer_conflict first second total shown) =
+    (places : List Tokens) × MayConflict limit call first second places total × AreShown limit places shown
 OfCall limit call (answer_document why place) =
     MayFail limit call (NoDocument why) × IsPlaceIn why (call_document call) place
 OfCall limit call (answer_patch number why place) =

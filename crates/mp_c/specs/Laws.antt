@@ -10,7 +10,7 @@ use Rattle.mp_c.specs.Answered.{ExportAnswer, IsPart, OfCall}
 use Rattle.mp_c.specs.OnHandles.{HandleAnswer, OfStarted, ShowsDocument}
 use Rattle.mp_c.specs.OnLogs.{OnlyReads}
 use Rattle.mp_c.specs.Replies.{HandleReplies, IsReply, Replies, buffer_after}
-use Rattle.mp_c.specs.Report.{Report, report_of, status_document, status_no_memory, status_result}
+use Rattle.mp_c.specs.Report.{Report, report_of, a_document, status_no_memory, status_result}
 use Rattle.mp_c.specs.declared.replying.Reply.{Reply}
 
 -- there is a result, and the buffer holds all of it
@@ -36,7 +36,7 @@ pub record HasShown (start : List ℕ) (texts : List (List ℕ)) (reply : Reply)
   pub handle : Option HeldReplica
   pub after : Option HeldReplica
   pub follows : HandleFollows start texts handle
-  pub replied : HandleReplies limit status_document (λ answer. OfStarted (ShowsDocument limit) handle answer after) reply before buffer
+  pub replied : HandleReplies limit a_document (λ answer. OfStarted (ShowsDocument limit) handle answer after) reply before buffer
   pub has : HasResult reply before
 
 abbrev pub GaveDocument : List ℕ → List (List ℕ) → Reply → List ℕ → Type 0
@@ -57,7 +57,7 @@ pub record HasRead (Gives : ℕ → HeldLog → HandleAnswer → Type 0) (log : 
   pub limit : ℕ
   pub before : List ℕ
   pub after : Option HeldLog
-  pub replied : HandleReplies limit status_document (λ answer. OfStarted (OnlyReads (Gives limit)) (Some log) answer after) reply before buffer
+  pub replied : HandleReplies limit a_document (λ answer. OfStarted (OnlyReads (Gives limit)) (Some log) answer after) reply before buffer
   pub has : HasResult reply before
   pub all : reply.flags ≡ 0
 

@@ -1,5 +1,5 @@
 -- What each call on a handle answers, and what it makes of what the handle owns.
-use Rattle.std.specs.Prelude.{◌≡◌, ◌≢◌, ◌≤◌, ◌↔◌, ◌⊎◌, ℕ, Bool, true, false, List, [], Option, None, Some, MatchOption, Ok, Err, length, ⊤}
+use Rattle.std.specs.Prelude.{◌≡◌, ◌≢◌, ◌≤◌, ◌↔◌, ℕ, Bool, true, false, List, [], Option, None, Some, MatchOption, Ok, Err, length, ⊤}
 use Rattle.std.specs.Str.{IsUtf8, IsValidUpTo}
 use Rattle.mp_tree.specs.Document.{Document}
 use Rattle.mp_tree.specs.Look.{Path}
@@ -7,7 +7,7 @@ use Rattle.mp_tree.specs.Text.{document_in, text as compact}
 use Rattle.mp_tree.specs.View.{document}
 use Rattle.mp_tree.specs.declared.fault.ReadFault.{ReadFault}
 use Rattle.mp_texts.specs.Answers.{IsJoinText, IsReplayText}
-use Rattle.mp_texts.specs.PlacesTexts.{IsPlacesText}
+use Rattle.mp_texts.specs.PlacesTexts.{AreShown}
 use Rattle.mp_texts.specs.Texts.{AreCompatible, AreRead}
 use Rattle.mp_replica.specs.Faults.{IsNoPart, IsNotJoined, HasLongText, IsUnshown}
 use Rattle.mp_tree.specs.declared.doc.Doc.{Doc}
@@ -21,18 +21,18 @@ use Rattle.mp_replica.specs.declared.patches.Added.{Added}
 use Rattle.mp_replica.specs.declared.patches.Added.TheVariants as added
 use Rattle.mp_replica.specs.declared.replica.Received.{Received}
 use Rattle.mp_replica.specs.declared.replica.Received.TheVariants as received
-use Rattle.mp_c.specs.Answered.{SaysWhy}
+use Rattle.mp_c.specs.Answered.{IsPlaceIn}
 
 pub data HandleAnswer : Type 0 where
   handle_text : List ℕ → HandleAnswer
-  -- patches conflict at so many places; the text of the array of those that the limit allows
-  handle_conflict : ℕ → List ℕ → HandleAnswer
+  -- patches conflict at so many places; those that the limit allows, or no text if there was no memory for it
+  handle_conflict : ℕ → Option (List Path) → HandleAnswer
   -- the same of the first so many places, where there are more
-  handle_first_places : ℕ → List ℕ → HandleAnswer
+  handle_first_places : ℕ → Option (List Path) → HandleAnswer
   -- the text of the pairs that come first, where there are more pairs or places
   handle_first_pairs : List ℕ → HandleAnswer
-  -- the text is no document: what is said of it, and before that how many bytes of it are words if a place follows them
-  handle_unread : ℕ → List ℕ → HandleAnswer
+  -- the text is no document, and where it has the value for which it is none, if it has one
+  handle_unread : ReadFault → Option Path → HandleAnswer
   handle_fault : LiveFault → HandleAnswer
   -- the offset of the first byte of the pointer that is not UTF-8
   handle_not_utf8 : ℕ → HandleAnswer
@@ -57,13 +57,13 @@ abbrev pub Settles : HeldReplica → HeldReplica → Type 0
 Settles before after = StillFollows before after × (before.pending ≡ None → after ≡ before)
 
 -- the text is no document, and that is said
-abbrev pub SaysUnread : List ℕ → ℕ → List ℕ → Type 0
-SaysUnread text total said = (why : ReadFault) × (document_in text ≡ Err why) × SaysWhy why text total said
+abbrev pub SaysUnread : List ℕ → ReadFault → Option Path → Type 0
+SaysUnread text why place = (document_in text ≡ Err why) × IsPlaceIn why text place
 
 -- it is made of the text of a start, or is as it was
 abbrev pub IsStarted : List ℕ → Option HeldReplica → HandleAnswer → Option HeldReplica → Type 0
 IsStarted start before (handle_text said) (Some r) = (said ≡ []) × FollowsTexts start [] r × (r.pending ≡ None)
-IsStarted start before (handle_unread total said) after = SaysUnread start total said × (after ≡ before)
+IsStarted start before (handle_unread why place) after = SaysUnread start why place × (after ≡ before)
 IsStarted start before (handle_fault OutOfMemory) after = after ≡ before
 IsStarted start before answer after = ⊥
 
@@ -72,20 +72,21 @@ abbrev pub Receives : Received → List ℕ → HeldReplica → HeldReplica → 
 Receives what patch before after = (start : List ℕ) (texts : List (List ℕ)) → FollowsTexts start texts before
     → FollowsTextsOn what start texts patch after
 
--- the text of the array of as many places as the limit allows, or none if there was no memory for it
-abbrev pub IsPlacesTextOrNone : ℕ → List Path → List ℕ → Type 0
-IsPlacesTextOrNone limit places array = IsPlacesText limit places array ⊎ (array ≡ [])
+-- as many places as the limit allows, or no text if there was no memory for it
+abbrev pub AreShownOrNone : ℕ → List Path → Option (List Path) → Type 0
+AreShownOrNone limit places None = ⊤
+AreShownOrNone limit places (Some shown) = AreShown limit places shown
 
 -- of all places at which a patch clashes with the patches of these texts those that come first within the limit: how many there
--- are in all, and the text of the array of as many as the limit allows
-pub record AreFirstPlacesOf (limit : ℕ) (texts : List (List ℕ)) (patch : List ℕ) (total : ℕ) (array : List ℕ) : Type 0 where
+-- are in all, and as many of these as the limit allows
+pub record AreFirstPlacesOf (limit : ℕ) (texts : List (List ℕ)) (patch : List ℕ) (total : ℕ) (said : Option (List Path)) : Type 0 where
   pub documents : List Document
   pub read : AreRead texts documents
   pub change : Document
   pub patch_read : document_in patch ≡ Ok change
   pub places : List Path
   pub first : AreFirstClashesWith limit documents change places total
-  pub text : IsPlacesTextOrNone limit places array
+  pub shown : AreShownOrNone limit places said
 
 -- the patch conflicts with what was received, and is not received
 abbrev pub ConflictsWith : List ℕ → HeldReplica → HeldReplica → Type 0
@@ -100,10 +101,10 @@ IsUnshownPatch other patch before after = ⊥
 
 abbrev pub HasReceived : ℕ → List ℕ → HeldReplica → HandleAnswer → HeldReplica → Type 0
 HasReceived limit patch before (handle_text said) after = (said ≡ []) × Receives received.Taken patch before after
-HasReceived limit patch before (handle_conflict total array) after =
+HasReceived limit patch before (handle_conflict total said) after =
     ConflictsWith patch before after
-    × ((start : List ℕ) (texts : List (List ℕ)) → FollowsTexts start texts before → AreFirstPlacesOf limit texts patch total array)
-HasReceived limit patch before (handle_unread total said) after = SaysUnread patch total said × (after ≡ before)
+    × ((start : List ℕ) (texts : List (List ℕ)) → FollowsTexts start texts before → AreFirstPlacesOf limit texts patch total said)
+HasReceived limit patch before (handle_unread why place) after = SaysUnread patch why place × (after ≡ before)
 HasReceived limit patch before (handle_fault why) after = IsUnshownPatch why patch before after
 HasReceived limit patch before answer after = ⊥
 
@@ -131,14 +132,15 @@ abbrev pub ShowsPart : ℕ → List ℕ → HeldReplica → HandleAnswer → Hel
 ShowsPart limit pointer before (handle_text value) after =
     Settles before after × IsUtf8 pointer × (after.pending ≡ None)
     × IsPartOf (document after.shown) pointer value × (length value ≤ limit)
+ShowsPart limit pointer before (handle_fault OutOfMemory) after = Settles before after
 ShowsPart limit pointer before (handle_fault why) after =
     Settles before after × IsUtf8 pointer × IsNoPart limit why after pointer
 ShowsPart limit pointer before (handle_not_utf8 offset) after = (after ≡ before) × IsValidUpTo pointer offset
 ShowsPart limit pointer before handle_not_started after = ⊥
-ShowsPart limit pointer before (handle_conflict total array) after = ⊥
-ShowsPart limit pointer before (handle_first_places total array) after = ⊥
+ShowsPart limit pointer before (handle_conflict total said) after = ⊥
+ShowsPart limit pointer before (handle_first_places total said) after = ⊥
 ShowsPart limit pointer before (handle_first_pairs array) after = ⊥
-ShowsPart limit pointer before (handle_unread total said) after = ⊥
+ShowsPart limit pointer before (handle_unread why place) after = ⊥
 
 -- ---- patches without a start
 
@@ -162,15 +164,15 @@ SettlesPatches before after = StillTaken before after × (before.pending ≡ Non
 
 -- the places of the conflict that it holds: how many they are, whether there are more, and the text of the array of as many as
 -- the limit allows
-abbrev pub HoldsPlaces : ℕ → ℕ → Bool → List ℕ → HeldPatches → Type 0
-HoldsPlaces limit total more array r =
+abbrev pub HoldsPlaces : ℕ → ℕ → Bool → Option (List Path) → HeldPatches → Type 0
+HoldsPlaces limit total more said r =
     MatchOption r.places ⊥ (λ held. (total ≡ length held.places) × (more ≡ held.more)
-    × IsPlacesTextOrNone limit held.places array)
+    × AreShownOrNone limit held.places said)
 
 -- what is said of a conflict
 abbrev pub SaysConflict : ℕ → HandleAnswer → HeldPatches → Type 0
-SaysConflict limit (handle_conflict total array) r = HoldsPlaces limit total false array r
-SaysConflict limit (handle_first_places total array) r = HoldsPlaces limit total true array r
+SaysConflict limit (handle_conflict total said) r = HoldsPlaces limit total false said r
+SaysConflict limit (handle_first_places total said) r = HoldsPlaces limit total true said r
 SaysConflict limit answer r = ⊥
 
 -- what becomes of a patch, whatever texts were taken
@@ -186,11 +188,11 @@ IsNotAdded other patch before after = ⊥
 
 abbrev pub HasAdded : ℕ → List ℕ → HeldPatches → HandleAnswer → HeldPatches → Type 0
 HasAdded limit patch before (handle_text said) after = (said ≡ []) × TakesPatch added.Joined patch before after
-HasAdded limit patch before (handle_conflict total array) after =
-    TakesPatch added.Conflict patch before after × SaysConflict limit (handle_conflict total array) after
-HasAdded limit patch before (handle_first_places total array) after =
-    TakesPatch added.Conflict patch before after × SaysConflict limit (handle_first_places total array) after
-HasAdded limit patch before (handle_unread total said) after = SaysUnread patch total said × (after ≡ before)
+HasAdded limit patch before (handle_conflict total said) after =
+    TakesPatch added.Conflict patch before after × SaysConflict limit (handle_conflict total said) after
+HasAdded limit patch before (handle_first_places total said) after =
+    TakesPatch added.Conflict patch before after × SaysConflict limit (handle_first_places total said) after
+HasAdded limit patch before (handle_unread why place) after = SaysUnread patch why place × (after ≡ before)
 HasAdded limit patch before (handle_fault why) after = IsNotAdded why patch before after
 HasAdded limit patch before answer after = ⊥
 
@@ -213,10 +215,10 @@ IsNotCombined why before other after left = ⊥
 abbrev pub HasCombined : ℕ → HeldPatches → HeldPatches → HandleAnswer → HeldPatches → HeldPatches → Type 0
 HasCombined limit before other (handle_text said) after left =
     (said ≡ []) × Combines added.Joined before other after left
-HasCombined limit before other (handle_conflict total array) after left =
-    Combines added.Conflict before other after left × SaysConflict limit (handle_conflict total array) after
-HasCombined limit before other (handle_first_places total array) after left =
-    Combines added.Conflict before other after left × SaysConflict limit (handle_first_places total array) after
+HasCombined limit before other (handle_conflict total said) after left =
+    Combines added.Conflict before other after left × SaysConflict limit (handle_conflict total said) after
+HasCombined limit before other (handle_first_places total said) after left =
+    Combines added.Conflict before other after left × SaysConflict limit (handle_first_places total said) after
 HasCombined limit before other (handle_fault why) after left = IsNotCombined why before other after left
 HasCombined limit before other answer after left = ⊥
 
@@ -235,11 +237,11 @@ GivesJoin limit before (handle_text joined) after =
     SettlesPatches before after × (after.places ≡ None) × (after.pending ≡ None)
     × MatchOption after.joined ⊥ (λ j. joined ≡ compact (document j))
     × ((texts : List (List ℕ)) → HasTakenTexts before texts → IsJoinText texts joined) × (length joined ≤ limit)
-GivesJoin limit before (handle_conflict total array) after =
-    SettlesPatches before after × SaysConflict limit (handle_conflict total array) after
+GivesJoin limit before (handle_conflict total said) after =
+    SettlesPatches before after × SaysConflict limit (handle_conflict total said) after
     × ((texts : List (List ℕ)) → HasTakenTexts before texts → ¬ AreCompatible texts)
-GivesJoin limit before (handle_first_places total array) after =
-    SettlesPatches before after × SaysConflict limit (handle_first_places total array) after
+GivesJoin limit before (handle_first_places total said) after =
+    SettlesPatches before after × SaysConflict limit (handle_first_places total said) after
     × ((texts : List (List ℕ)) → HasTakenTexts before texts → ¬ AreCompatible texts)
 GivesJoin limit before (handle_fault why) after = SettlesPatches before after × HasNoJoin limit why before after
 GivesJoin limit before answer after = ⊥
@@ -262,9 +264,9 @@ HoldsKept kept r =
 -- it is made of a kept form, or is as it was
 abbrev pub IsMadeOfKept : ℕ → List ℕ → HeldPatches → HandleAnswer → HeldPatches → Type 0
 IsMadeOfKept limit kept before (handle_text said) after = (said ≡ []) × HoldsKept kept after × (after.places ≡ None)
-IsMadeOfKept limit kept before (handle_conflict total array) after =
-    HoldsKept kept after × SaysConflict limit (handle_conflict total array) after
-IsMadeOfKept limit kept before (handle_first_places total array) after =
-    HoldsKept kept after × SaysConflict limit (handle_first_places total array) after
+IsMadeOfKept limit kept before (handle_conflict total said) after =
+    HoldsKept kept after × SaysConflict limit (handle_conflict total said) after
+IsMadeOfKept limit kept before (handle_first_places total said) after =
+    HoldsKept kept after × SaysConflict limit (handle_first_places total said) after
 IsMadeOfKept limit kept before (handle_fault why) after = IsNoKept why kept × (after ≡ before)
 IsMadeOfKept limit kept before answer after = ⊥

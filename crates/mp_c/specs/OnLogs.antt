@@ -11,14 +11,14 @@ use Rattle.mp_replica.specs.declared.fault.LiveFault.TheVariants.{OutOfMemory}
 use Rattle.mp_replica.specs.declared.message.Arrival.{Arrival}
 use Rattle.mp_replica.specs.declared.message.Arrival.TheVariants as arrival
 use Rattle.mp_replica.specs.declared.message.Identity.{Identity}
-use Rattle.mp_c.specs.OnHandles.{HandleAnswer, IsPlacesTextOrNone, SaysUnread, handle_fault, handle_first_pairs, handle_text, handle_unread}
+use Rattle.mp_c.specs.OnHandles.{HandleAnswer, AreShownOrNone, SaysUnread, handle_fault, handle_first_pairs, handle_text, handle_unread}
 
 -- it is made of the text of a start and has received nothing, or is as it was
 abbrev pub IsStartedLog : ℕ → List ℕ → Option HeldLog → HandleAnswer → Option HeldLog → Type 0
 IsStartedLog epoch start before (handle_text said) (Some log) =
     (said ≡ []) × (document_in start ≡ Ok (start_of log)) × (log.epoch ≡ epoch)
     × ((i : Identity) → stored_of log i ≡ None) × LogFollows epoch (start_of log) [] log
-IsStartedLog epoch start before (handle_unread total said) after = SaysUnread start total said × (after ≡ before)
+IsStartedLog epoch start before (handle_unread why place) after = SaysUnread start why place × (after ≡ before)
 IsStartedLog epoch start before (handle_fault OutOfMemory) after = after ≡ before
 IsStartedLog epoch start before answer after = ⊥
 
@@ -42,7 +42,7 @@ pub record ArrivesAs (what : Arrival) (epoch : ℕ) (i : Identity) (text : List 
 abbrev pub SaysArrival : ℕ → Identity → List ℕ → HeldLog → HandleAnswer → HeldLog → Type 0
 SaysArrival epoch i text before (handle_text said) after =
     (what : Arrival) × (said ≡ arrival_word what) × ArrivesAs what epoch i text before after
-SaysArrival epoch i text before (handle_unread total said) after = SaysUnread text total said × (after ≡ before)
+SaysArrival epoch i text before (handle_unread why place) after = SaysUnread text why place × (after ≡ before)
 SaysArrival epoch i text before (handle_fault OutOfMemory) after = after ≡ before
 SaysArrival epoch i text before answer after = ⊥
 
@@ -78,8 +78,9 @@ GivesCount log answer = ⊥
 
 pub data DecideAnswer : Type 0 where
   decide_begun : DecideAnswer
-  -- two of the chosen patches conflict: their numbers, at how many places, and the text of the array of those that the limit allows
-  decide_conflict : ℕ → ℕ → ℕ → List ℕ → DecideAnswer
+  -- two of the chosen patches conflict: their numbers, at how many places, and those that the limit allows, or no text if there was no
+  -- memory for it
+  decide_conflict : ℕ → ℕ → ℕ → Option (List Path) → DecideAnswer
   -- under the identity of this number no patch is stored
   decide_missing : ℕ → DecideAnswer
   -- no number is left for a start
@@ -98,10 +99,10 @@ pub record HasNoPatchAt (stored : Stored) (chosen : List Identity) (number : ℕ
   pub at : IsLeastNumber chosen identity number
   pub is_first : IsFirstMissing stored chosen identity
 
--- the first two of the chosen patches that conflict have these least numbers: at how many places they do, and the text of the
--- array of as many as the limit allows
-pub record IsFirstConflict (limit : ℕ) (stored : Stored) (chosen : List Identity) (first second total : ℕ) (array : List ℕ)
-    : Type 0 where
+-- the first two of the chosen patches that conflict have these least numbers: at how many places they do, and as many of these as the
+-- limit allows
+pub record IsFirstConflict (limit : ℕ) (stored : Stored) (chosen : List Identity) (first second total : ℕ)
+    (said : Option (List Path)) : Type 0 where
   pub one : Identity
   pub other : Identity
   pub is_first : IsFirstPair stored chosen one other
@@ -109,16 +110,16 @@ pub record IsFirstConflict (limit : ℕ) (stored : Stored) (chosen : List Identi
   pub at_second : IsLeastNumber chosen other second
   pub places : List Path
   pub conflicts : AreFirstConflictsAt limit stored one other places total
-  pub text : IsPlacesTextOrNone limit places array
+  pub shown : AreShownOrNone limit places said
 
 -- why no new start is begun: the first of these that holds
 abbrev pub IsUndecided : ℕ → HeldLog → List Identity → DecideAnswer → Type 0
 IsUndecided limit log chosen decide_last = 2 ^ 64 ≤ log.epoch + 1
 IsUndecided limit log chosen (decide_missing number) =
     (log.epoch + 1 < 2 ^ 64) × HasNoPatchAt (stored_of log) chosen number
-IsUndecided limit log chosen (decide_conflict first second total array) =
+IsUndecided limit log chosen (decide_conflict first second total said) =
     (log.epoch + 1 < 2 ^ 64) × HaveArrived (stored_of log) chosen
-    × IsFirstConflict limit (stored_of log) chosen first second total array
+    × IsFirstConflict limit (stored_of log) chosen first second total said
 IsUndecided limit log chosen decide_no_memory = ⊤
 IsUndecided limit log chosen answer = ⊥
 

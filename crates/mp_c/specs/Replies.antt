@@ -1,5 +1,5 @@
 -- What a call leaves: its reply, and the caller's buffer.
-use Rattle.std.specs.Prelude.{◌≡◌, ◌++◌, ℕ, List, length, take, drop}
+use Rattle.std.specs.Prelude.{◌≡◌, ◌++◌, ℕ, List, Option, length, take, drop}
 use Rattle.mp_c.specs.Answered.{ExportAnswer}
 use Rattle.mp_c.specs.OnHandles.{HandleAnswer}
 use Rattle.mp_c.specs.OnLogs.{DecideAnswer}
@@ -16,7 +16,7 @@ pub record IsReply (report : Report) (reply : Reply) (before after : List ℕ) :
   pub first : reply.first ≡ report.first
   pub second : reply.second ≡ report.second
   pub total : reply.total ≡ report.total
-  pub spare : reply.spare ≡ 0
+  pub places : reply.places ≡ report.places
   pub flags : reply.flags ≡ report.flags
   pub whole : reply.length ≡ length report.text
   pub buffer : after ≡ buffer_after before report.text
@@ -27,7 +27,7 @@ Replies IsAnswer reply before after =
     (answer : ExportAnswer) × IsAnswer answer × IsReply (report_of answer) reply before after
 
 -- so is one of a call on a handle, the text of a result within the limit
-abbrev pub HandleReplies : ℕ → ℕ → (HandleAnswer → Type 0) → Reply → List ℕ → List ℕ → Type 0
+abbrev pub HandleReplies : ℕ → Option ℕ → (HandleAnswer → Type 0) → Reply → List ℕ → List ℕ → Type 0
 HandleReplies limit unread IsAnswer reply before after =
     (answer : HandleAnswer) × IsAnswer answer × IsReply (report_of_handle limit unread answer) reply before after
 

@@ -3,7 +3,7 @@ ghost use Rattle.mp_texts.specs.Calls.{patch_text, rewrite_text};
 ghost use Rattle.mp_c.specs.Answered.{IsPart, OfCall};
 ghost use Rattle.mp_c.specs.Replies.{Replies};
 
-use crate::replying::{DOCUMENT, Reply, report, report_not_utf8, report_unread};
+use crate::replying::{Reply, report, report_not_utf8, report_unread};
 use mp_texts::part_text;
 use mp_tree::read_doc;
 use std::alloc::Global;
@@ -69,8 +69,8 @@ pub extern "C" fn mergejoin_get(
             report(alloc, part, document, &[], out, limit)
         }
         Err(fault) => match read_doc(alloc, document) {
-            Ok(_) => report_not_utf8(fault.valid_up_to(), out),
-            Err(why) => report_unread(alloc, DOCUMENT, 0, why, document, out),
+            Ok(_) => report_not_utf8(alloc, fault.valid_up_to(), out),
+            Err(why) => report_unread(alloc, None, why, document, out),
         },
     }
 }

@@ -59,5 +59,5 @@ fn place_laws()
     ensures { PlaceLaws }
 {
     texts::fault_places();
-    texts::places_texts();
+    texts::places_are_shown();
 }

@@ -4,14 +4,14 @@
 ghost use Rattle.std.specs.Prelude.{◌≡◌, None, Some};
 ghost use Rattle.mp_c.specs.OnHandles.{OfStarted};
 ghost use Rattle.mp_c.specs.OnLogs.{Decides, GivesConflicts, GivesCount, GivesLogDocument, HasDecided, IsStartedLog, OnlyReads, SaysArrival, arrival_word};
-ghost use Rattle.mp_c.specs.Private.Reporting.{live_answer, pairs_answer};
-ghost use Rattle.mp_c.specs.Replies.{DecideReplies, HandleReplies, IsReply};
-ghost use Rattle.mp_c.specs.Report.{report_of_handle, status_document, status_patch};
+ghost use Rattle.mp_c.specs.Private.Reporting.{ReportsPairs, live_answer};
+ghost use Rattle.mp_c.specs.Replies.{DecideReplies, HandleReplies};
+ghost use Rattle.mp_c.specs.Report.{a_document, a_patch};
 
 use crate::patch_log_handle::PatchLogHandle;
 use crate::replying::{
-    DOCUMENT, PATCH, RESULT, Reply, report_live, report_live_fault, report_no_memory,
-    report_not_started, report_unread_text, write, write_first, write_result,
+    RESULT, Reply, report_live, report_live_fault, report_no_memory, report_not_started,
+    report_unread_text, write, write_first, write_result,
 };
 use crate::undecided::report_undecided;
 use mp_replica::{Arrival, Identity, LiveFault, PairsText, PatchLog};
@@ -28,13 +28,13 @@ pub extern "C" fn mergejoin_patch_log_start(
     out: &mut [u8],
     limit: usize,
 ) -> Reply
-    ensures { HandleReplies limit status_document
+    ensures { HandleReplies limit a_document
         (λ answer. IsStartedLog epoch start.now log.old.value answer log.new.value)
         result out.old out.new }
 {
     let started = match PatchLog::from_text(alloc, epoch, start) {
         Ok(started) => started,
-        Err(fault) => return report_unread_text(alloc, fault, DOCUMENT, start, out),
+        Err(fault) => return report_unread_text(alloc, fault, None, start, out),
     };
     let Ok(held) = Box::new(alloc, started) else {
         return report_no_memory(out);
@@ -55,7 +55,7 @@ pub extern "C" fn mergejoin_patch_log_receive(
     out: &mut [u8],
     limit: usize,
 ) -> Reply
-    ensures { HandleReplies limit status_patch
+    ensures { HandleReplies limit a_patch
         (λ answer. OfStarted
         (SaysArrival epoch (record { sender = sender; number = number }) patch.now)
         log.old.value answer log.new.value)
@@ -80,13 +80,13 @@ fn receive(
     out: &mut [u8],
     limit: usize,
 ) -> Reply
-    ensures { HandleReplies limit status_patch
+    ensures { HandleReplies limit a_patch
         (λ answer. SaysArrival epoch identity patch.now log.old answer log.new)
         result out.old out.new }
 {
     match log.receive_text(alloc, epoch, identity, patch) {
         Ok(arrival) => write_result(word_of(arrival), out, limit),
-        Err(fault) => report_unread_text(alloc, fault, PATCH, patch, out),
+        Err(fault) => report_unread_text(alloc, fault, Some(0), patch, out),
     }
 }
 
@@ -109,7 +109,7 @@ pub extern "C" fn mergejoin_patch_log_document(
     out: &mut [u8],
     limit: usize,
 ) -> Reply
-    ensures { HandleReplies limit status_document
+    ensures { HandleReplies limit a_document
         (λ answer. OfStarted (OnlyReads (GivesLogDocument limit)) log.old.value answer
         log.new.value)
         result out.old out.new }
@@ -119,7 +119,7 @@ pub extern "C" fn mergejoin_patch_log_document(
     };
     let answer = document(alloc, &mut held, limit);
     log.put(alloc, held);
-    report_live(answer, out, limit)
+    report_live(alloc, answer, out, limit)
 }
 
 fn document(alloc: Global, log: &mut PatchLog, limit: usize) -> Result<String, LiveFault>
@@ -136,7 +136,7 @@ pub extern "C" fn mergejoin_patch_log_conflicts(
     out: &mut [u8],
     limit: usize,
 ) -> Reply
-    ensures { HandleReplies limit status_document
+    ensures { HandleReplies limit a_document
         (λ answer. OfStarted (OnlyReads (GivesConflicts None limit)) log.old.value answer
         log.new.value)
         result out.old out.new }
@@ -146,7 +146,7 @@ pub extern "C" fn mergejoin_patch_log_conflicts(
     };
     let answer = held.conflicts_text_within(alloc, limit);
     log.put(alloc, held);
-    report_conflicts(answer, out, limit)
+    report_conflicts(alloc, answer, out, limit)
 }
 
 /// The text of those of these pairs that have one identity, as `mp_replica::PatchLog::conflicts_of_text_within` gives it.
@@ -159,7 +159,7 @@ pub extern "C" fn mergejoin_patch_log_conflicts_of(
     out: &mut [u8],
     limit: usize,
 ) -> Reply
-    ensures { HandleReplies limit status_document
+    ensures { HandleReplies limit a_document
         (λ answer. OfStarted
         (OnlyReads (GivesConflicts (Some (record { sender = sender; number = number })) limit))
         log.old.value answer log.new.value)
@@ -170,17 +170,21 @@ pub extern "C" fn mergejoin_patch_log_conflicts_of(
     };
     let answer = held.conflicts_of_text_within(alloc, Identity { sender, number }, limit);
     log.put(alloc, held);
-    report_conflicts(answer, out, limit)
+    report_conflicts(alloc, answer, out, limit)
 }
 
-fn report_conflicts(answer: Result<PairsText, LiveFault>, out: &mut [u8], limit: usize) -> Reply
-    ensures { IsReply (report_of_handle limit status_document (pairs_answer answer)) result
-        out.old out.new }
+fn report_conflicts(
+    alloc: Global,
+    answer: Result<PairsText, LiveFault>,
+    out: &mut [u8],
+    limit: usize,
+) -> Reply
+    ensures { ReportsPairs limit answer result out.old out.new }
 {
     match answer {
         Ok(PairsText { text, more: true }) => write_first(text.as_str(), out, limit),
         Ok(PairsText { text, more: false }) => write_result(text.as_str(), out, limit),
-        Err(fault) => report_live_fault(fault, DOCUMENT, out),
+        Err(fault) => report_live_fault(alloc, fault, None, out),
     }
 }
 
@@ -192,7 +196,7 @@ pub extern "C" fn mergejoin_patch_log_count(
     out: &mut [u8],
     limit: usize,
 ) -> Reply
-    ensures { HandleReplies limit status_document
+    ensures { HandleReplies limit a_document
         (λ answer. OfStarted (OnlyReads GivesCount) log.old.value answer log.new.value)
         result out.old out.new }
 {
@@ -201,7 +205,7 @@ pub extern "C" fn mergejoin_patch_log_count(
     };
     let answer = count(alloc, &held);
     log.put(alloc, held);
-    report_live(answer, out, limit)
+    report_live(alloc, answer, out, limit)
 }
 
 fn count(alloc: Global, log: &PatchLog) -> Result<String, LiveFault>

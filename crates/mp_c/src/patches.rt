@@ -4,11 +4,11 @@ ghost use Rattle.mp_replica.specs.Held.{held_places};
 ghost use Rattle.mp_c.specs.OnHandles.{GivesJoin, GivesKept, HasAdded, HasCombined, IsMadeOfKept, OfPatches, patches_in};
 ghost use Rattle.mp_c.specs.Private.Reporting.{ReportsAdded, ReportsConflict, ReportsFirstPlaces, ReportsNoJoin, live_answer};
 ghost use Rattle.mp_c.specs.Replies.{HandleReplies};
-ghost use Rattle.mp_c.specs.Report.{status_document, status_patch};
+ghost use Rattle.mp_c.specs.Report.{a_document, a_patch};
 
 use crate::patches_handle::PatchesHandle;
 use crate::replying::{
-    DOCUMENT, MORE, PATCH, Reply, report_live, report_live_fault, report_no_memory, report_places,
+    Clash, Reply, report_live, report_live_fault, report_no_memory, report_places,
     report_unread_text, write_result,
 };
 use mp_replica::{Added, FirstPlaces, LiveFault, Patches, laws as live};
@@ -38,7 +38,7 @@ pub extern "C" fn mergejoin_patches_add(
     out: &mut [u8],
     limit: usize,
 ) -> Reply
-    ensures { HandleReplies limit status_patch
+    ensures { HandleReplies limit a_patch
         (λ answer. OfPatches (HasAdded limit patch.now) patches.old.value answer patches.new.value)
         result out.old out.new }
 {
@@ -51,13 +51,13 @@ pub extern "C" fn mergejoin_patches_add(
 }
 
 fn add(alloc: Global, patches: &mut Patches, patch: &[u8], out: &mut [u8], limit: usize) -> Reply
-    ensures { HandleReplies limit status_patch
+    ensures { HandleReplies limit a_patch
         (λ answer. HasAdded limit patch.now patches.old answer patches.new)
         result out.old out.new }
 {
     match patches.add_text(alloc, patch) {
         Ok(added) => report_added(alloc, added, patches, out, limit),
-        Err(fault) => report_unread_text(alloc, fault, PATCH, patch, out),
+        Err(fault) => report_unread_text(alloc, fault, Some(0), patch, out),
     }
 }
 
@@ -74,7 +74,7 @@ fn report_added(
     match added {
         Added::Joined => write_result("", out, limit),
         Added::Conflict => report_conflict(alloc, patches, out, limit),
-        Added::Pending => report_live_fault(LiveFault::Pending, DOCUMENT, out),
+        Added::Pending => report_live_fault(alloc, LiveFault::Pending, None, out),
         Added::Refused => report_no_memory(out),
     }
 }
@@ -94,10 +94,12 @@ fn report_first_places(alloc: Global, found: &FirstPlaces, out: &mut [u8], limit
     ensures { ReportsFirstPlaces limit (held_places found.now) result out.old out.new }
 {
     let places = found.places.as_slice();
-    Reply {
-        flags: if found.more { MORE } else { 0 },
-        ..report_places(alloc, places, places.len(), out, limit)
-    }
+    let clash = Clash {
+        numbers: None,
+        total: places.len(),
+        more: found.more,
+    };
+    report_places(alloc, clash, places, out, limit)
 }
 
 /// Takes all that other patches have taken, and leaves them without patches, as `mp_replica::Patches::combine` does.
@@ -109,7 +111,7 @@ pub extern "C" fn mergejoin_patches_combine(
     out: &mut [u8],
     limit: usize,
 ) -> Reply
-    ensures { HandleReplies limit status_document
+    ensures { HandleReplies limit a_document
         (λ answer. HasCombined limit (patches_in patches.old.value) (patches_in other.old.value)
         answer (patches_in patches.new.value) (patches_in other.new.value))
         result out.old out.new }
@@ -129,7 +131,7 @@ fn combine_into(
     out: &mut [u8],
     limit: usize,
 ) -> Reply
-    ensures { HandleReplies limit status_document
+    ensures { HandleReplies limit a_document
         (λ answer. HasCombined limit patches.old (patches_in other.old.value) answer patches.new
         (patches_in other.new.value))
         result out.old out.new }
@@ -150,13 +152,13 @@ pub extern "C" fn mergejoin_patches_text(
     out: &mut [u8],
     limit: usize,
 ) -> Reply
-    ensures { HandleReplies limit status_document
+    ensures { HandleReplies limit a_document
         (λ answer. OfPatches (GivesJoin limit) patches.old.value answer patches.new.value)
         result out.old out.new }
 {
     live::holds_join();
     let Some(mut held) = patches.take(alloc) else {
-        return report_live_fault(LiveFault::NoPatches, DOCUMENT, out);
+        return report_live_fault(alloc, LiveFault::NoPatches, None, out);
     };
     let reply = text(alloc, &mut held, out, limit);
     patches.put(alloc, held);
@@ -164,7 +166,7 @@ pub extern "C" fn mergejoin_patches_text(
 }
 
 fn text(alloc: Global, patches: &mut Patches, out: &mut [u8], limit: usize) -> Reply
-    ensures { HandleReplies limit status_document
+    ensures { HandleReplies limit a_document
         (λ answer. GivesJoin limit patches.old answer patches.new) result out.old out.new }
 {
     let _settled = patches.settle(alloc);
@@ -186,7 +188,7 @@ fn report_no_join(
 {
     match fault {
         LiveFault::Conflict => report_conflict(alloc, patches, out, limit),
-        other => report_live_fault(other, DOCUMENT, out),
+        other => report_live_fault(alloc, other, None, out),
     }
 }
 
@@ -198,7 +200,7 @@ pub extern "C" fn mergejoin_patches_kept(
     out: &mut [u8],
     limit: usize,
 ) -> Reply
-    ensures { HandleReplies limit status_document
+    ensures { HandleReplies limit a_document
         (λ answer. OfPatches (GivesKept limit) patches.old.value answer patches.new.value)
         result out.old out.new }
 {
@@ -208,7 +210,7 @@ pub extern "C" fn mergejoin_patches_kept(
     };
     let answer = kept(alloc, &mut held, limit);
     patches.put(alloc, held);
-    report_live(answer, out, limit)
+    report_live(alloc, answer, out, limit)
 }
 
 fn kept(alloc: Global, patches: &mut Patches, limit: usize) -> Result<String, LiveFault>
@@ -228,14 +230,14 @@ pub extern "C" fn mergejoin_patches_from_kept(
     out: &mut [u8],
     limit: usize,
 ) -> Reply
-    ensures { HandleReplies limit status_document
+    ensures { HandleReplies limit a_document
         (λ answer. OfPatches (IsMadeOfKept limit kept.now) patches.old.value answer
         patches.new.value)
         result out.old out.new }
 {
     let made = match Patches::from_kept(alloc, kept) {
         Ok(made) => made,
-        Err(fault) => return report_live_fault(fault, DOCUMENT, out),
+        Err(fault) => return report_live_fault(alloc, fault, None, out),
     };
     let Ok(held) = Box::new(alloc, made) else {
         return report_no_memory(out);

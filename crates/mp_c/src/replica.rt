@@ -5,11 +5,11 @@ ghost use Rattle.std.specs.Prelude.{◌≡◌, None};
 ghost use Rattle.mp_c.specs.OnHandles.{HasReceived, IsStarted, OfStarted, ShowsDocument, ShowsJoin, ShowsPart};
 ghost use Rattle.mp_c.specs.Private.Reporting.{ReportsConflicts, live_answer};
 ghost use Rattle.mp_c.specs.Replies.{HandleReplies};
-ghost use Rattle.mp_c.specs.Report.{status_document, status_patch};
+ghost use Rattle.mp_c.specs.Report.{a_document, a_patch};
 
 use crate::replica_handle::ReplicaHandle;
 use crate::replying::{
-    DOCUMENT, PATCH, Reply, report_live, report_live_fault, report_no_memory, report_not_started,
+    Clash, Reply, report_live, report_live_fault, report_no_memory, report_not_started,
     report_not_utf8, report_places, report_unread_text, write_result,
 };
 use mp_merge::Conflicts;
@@ -25,13 +25,13 @@ pub extern "C" fn mergejoin_replica_start(
     out: &mut [u8],
     limit: usize,
 ) -> Reply
-    ensures { HandleReplies limit status_document
+    ensures { HandleReplies limit a_document
         (λ answer. IsStarted start.now replica.old.value answer replica.new.value)
         result out.old out.new }
 {
     let started = match Replica::from_text(alloc, start) {
         Ok(started) => started,
-        Err(fault) => return report_unread_text(alloc, fault, DOCUMENT, start, out),
+        Err(fault) => return report_unread_text(alloc, fault, None, start, out),
     };
     let Ok(held) = Box::new(alloc, started) else {
         return report_no_memory(out);
@@ -49,7 +49,7 @@ pub extern "C" fn mergejoin_replica_receive(
     out: &mut [u8],
     limit: usize,
 ) -> Reply
-    ensures { HandleReplies limit status_patch
+    ensures { HandleReplies limit a_patch
         (λ answer. OfStarted (HasReceived limit patch.now) replica.old.value answer
         replica.new.value)
         result out.old out.new }
@@ -69,13 +69,13 @@ fn receive(
     out: &mut [u8],
     limit: usize,
 ) -> Reply
-    ensures { HandleReplies limit status_patch
+    ensures { HandleReplies limit a_patch
         (λ answer. HasReceived limit patch.now replica.old answer replica.new)
         result out.old out.new }
 {
     let received = match replica.receive_text(alloc, patch) {
         Ok(received) => received,
-        Err(fault) => return report_unread_text(alloc, fault, PATCH, patch, out),
+        Err(fault) => return report_unread_text(alloc, fault, Some(0), patch, out),
     };
     match received {
         Received::Taken => write_result("", out, limit),
@@ -83,7 +83,7 @@ fn receive(
             let found = replica.conflicts_within(alloc, &back, limit);
             report_conflicts(alloc, found, out, limit)
         }
-        Received::Pending => report_live_fault(LiveFault::Pending, PATCH, out),
+        Received::Pending => report_live_fault(alloc, LiveFault::Pending, Some(0), out),
         Received::Refused => report_no_memory(out),
     }
 }
@@ -99,9 +99,14 @@ fn report_conflicts(
 {
     match found {
         Ok(Conflicts { places, total }) => {
-            report_places(alloc, places.as_slice(), total, out, limit)
+            let clash = Clash {
+                numbers: None,
+                total,
+                more: false,
+            };
+            report_places(alloc, clash, places.as_slice(), out, limit)
         }
-        Err(_) => report_live_fault(LiveFault::Conflict, PATCH, out),
+        Err(_) => report_live_fault(alloc, LiveFault::Conflict, Some(0), out),
     }
 }
 
@@ -113,7 +118,7 @@ pub extern "C" fn mergejoin_replica_document(
     out: &mut [u8],
     limit: usize,
 ) -> Reply
-    ensures { HandleReplies limit status_document
+    ensures { HandleReplies limit a_document
         (λ answer. OfStarted (ShowsDocument limit) replica.old.value answer replica.new.value)
         result out.old out.new }
 {
@@ -122,7 +127,7 @@ pub extern "C" fn mergejoin_replica_document(
     };
     let answer = document(alloc, &mut held, limit);
     replica.put(alloc, held);
-    report_live(answer, out, limit)
+    report_live(alloc, answer, out, limit)
 }
 
 fn document(alloc: Global, replica: &mut Replica, limit: usize) -> Result<String, LiveFault>
@@ -140,7 +145,7 @@ pub extern "C" fn mergejoin_replica_joined(
     out: &mut [u8],
     limit: usize,
 ) -> Reply
-    ensures { HandleReplies limit status_document
+    ensures { HandleReplies limit a_document
         (λ answer. OfStarted (ShowsJoin limit) replica.old.value answer replica.new.value)
         result out.old out.new }
 {
@@ -149,7 +154,7 @@ pub extern "C" fn mergejoin_replica_joined(
     };
     let answer = joined(alloc, &mut held, limit);
     replica.put(alloc, held);
-    report_live(answer, out, limit)
+    report_live(alloc, answer, out, limit)
 }
 
 fn joined(alloc: Global, replica: &mut Replica, limit: usize) -> Result<String, LiveFault>
@@ -168,7 +173,7 @@ pub extern "C" fn mergejoin_replica_get(
     out: &mut [u8],
     limit: usize,
 ) -> Reply
-    ensures { HandleReplies limit status_document
+    ensures { HandleReplies limit a_document
         (λ answer. OfStarted (ShowsPart limit pointer.now) replica.old.value answer
         replica.new.value)
         result out.old out.new }
@@ -182,16 +187,16 @@ pub extern "C" fn mergejoin_replica_get(
 }
 
 fn part(alloc: Global, replica: &mut Replica, pointer: &[u8], out: &mut [u8], limit: usize) -> Reply
-    ensures { HandleReplies limit status_document
+    ensures { HandleReplies limit a_document
         (λ answer. ShowsPart limit pointer.now replica.old answer replica.new)
         result out.old out.new }
 {
     match str::from_utf8(pointer) {
         Ok(pointer) => {
             let _settled = replica.settle(alloc);
-            report_live(replica.get_text(alloc, pointer, limit), out, limit)
+            report_live(alloc, replica.get_text(alloc, pointer, limit), out, limit)
         }
-        Err(fault) => report_not_utf8(fault.valid_up_to(), out),
+        Err(fault) => report_not_utf8(alloc, fault.valid_up_to(), out),
     }
 }
 

@@ -4,7 +4,7 @@ ghost use Rattle.mp_replica.specs.PatchLog.{HeldLog, IsDecideFault};
 ghost use Rattle.mp_c.specs.OnLogs.{IsLeastNumber, IsUndecided};
 ghost use Rattle.mp_c.specs.Replies.{DecideReplies};
 
-use crate::replying::{MISSING, REFUSED, Reply, report_no_memory, report_places, write};
+use crate::replying::{Clash, MISSING, REFUSED, Reply, report_no_memory, report_places, write};
 use mp_replica::{DecideFault, Identity};
 use std::alloc::Global;
 
@@ -27,17 +27,14 @@ pub(crate) fn report_undecided(
             first,
             second,
             conflicts,
-        } => Reply {
-            first: number_of(first, chosen),
-            second: number_of(second, chosen),
-            ..report_places(
-                alloc,
-                conflicts.places.as_slice(),
-                conflicts.total,
-                out,
-                limit,
-            )
-        },
+        } => {
+            let clash = Clash {
+                numbers: Some((number_of(first, chosen), number_of(second, chosen))),
+                total: conflicts.total,
+                more: false,
+            };
+            report_places(alloc, clash, conflicts.places.as_slice(), out, limit)
+        }
         DecideFault::LastEpoch => write(REFUSED, 0, "no number is left for a start", out),
         DecideFault::OutOfMemory => report_no_memory(out),
     }

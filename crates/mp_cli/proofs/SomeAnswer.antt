@@ -11,14 +11,14 @@ use Rattle.mp_tree.specs.declared.fault.DocsFault.TheVariants.{NotJson, NotWhole
 use Rattle.mp_tree.proofs.Facts.{readable_items, readable_documents}
 use Rattle.mp_pointer.specs.declared.fault.PointerFault.{PointerFault}
 use Rattle.mp_pointer.specs.declared.fault.PointerFault.TheVariants.{NoSlash, BadTilde}
-use Rattle.mp_patch.specs.Texts.{cause_text}
 use Rattle.mp_patch.specs.declared.fault.FormFault.{FormFault}
 use Rattle.mp_patch.specs.declared.fault.FormFault.TheVariants.{Form}
 use Rattle.mp_pointer.specs.Part.{part}
 use Rattle.mp_patch.specs.Operation.{HaveDocuments, Operation}
 use Rattle.mp_patch.specs.declared.fault.ApplyFault.TheVariants.{Refused}
 use Rattle.mp_cli.specs.Answered.{merge_answer, IsPartAnswer, spelled, misspelled, IsGetAnswerTo, IsRunAnswer, ran, halted, IsPatchAnswer, malformed, formed, IsJoinAnswer, joined, none_joined, join_refused, IsReplayAnswer, replayed, replay_refused, IsRewriteAnswer, rewritten, IsPatchAnswerTo, IsReplayAnswerTo, IsRewriteAnswerTo, IsAnswerTo, IsChecked, IsAnswered}
-use Rattle.mp_cli.specs.Lines.{Output, result_line, conflict_line, form_fault, operation_line, part_line, spelling_fault, exit_no_result, no_patches, wrong_shape, input_fault}
+use Rattle.mp_texts.specs.Lines.{apply_line}
+use Rattle.mp_cli.specs.Lines.{Output, line, result_line, conflict_line, form_fault, part_line, spelling_fault, exit_no_result, no_patches, wrong_shape, input_fault}
 use Rattle.mp_cli.specs.Laws.{AnswerExists}
 use Rattle.mp_cli.specs.Private.LawsBelow.{PointerLaws, PatchLaws, MergeLaws, RewritingLaws}
 use Rattle.mp_cli.specs.declared.command.Command.{Command}
@@ -49,7 +49,7 @@ module _ (pointers : PointerLaws) (json : PatchLaws) (merges : MergeLaws) (rewri
   some_run : (d : Document) (operations : List Operation) → IsDocument d → HaveDocuments operations → Has (IsRunAnswer d operations)
   some_run d operations good values = elim (json.runs_or_is_refused d operations good values) [
     | inl run ↦ (result_line run.0, ran run.0 run.1 run.2 refl)
-    | inr refused ↦ (operation_line refused.0 (cause_text refused.1) exit_no_result, halted (Refused refused.0 refused.1) refused.2 refl)
+    | inr refused ↦ (line (apply_line (Refused refused.0 refused.1)) exit_no_result, halted (Refused refused.0 refused.1) refused.2 refl)
   ]
 
   some_patch : (d patch : Document) → IsDocument d → IsDocument patch → Has (IsPatchAnswer d patch)

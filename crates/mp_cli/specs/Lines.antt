@@ -1,20 +1,15 @@
 -- The lines of the program, each with its newline, and the status that goes with it.
 use Rattle.std.specs.Prelude.{ℕ, List, [], ◌∷◌, ◌++◌, codes, Option, None, Some}
-use Rattle.std.specs.List.{flat_map}
-use Rattle.mp_tree.specs.Document.{Document, string}
+use Rattle.mp_tree.specs.Document.{Document}
 use Rattle.mp_tree.specs.Look.{Path}
 use Rattle.mp_tree.specs.Text.{text as compact}
 use Rattle.mp_tree.specs.declared.fault.DocsFault.{DocsFault}
 use Rattle.mp_tree.specs.declared.fault.DocsFault.TheVariants.{NotJson, NotWhole}
-use Rattle.mp_pointer.specs.Part.{numeral}
-use Rattle.mp_pointer.specs.Spelling.{spell}
 use Rattle.mp_pointer.specs.declared.fault.PointerFault.{PointerFault}
-use Rattle.mp_pointer.specs.declared.fault.PointerFault.TheVariants.{NoSlash, BadTilde}
-use Rattle.mp_patch.specs.Texts.{cause_text, form_text}
 use Rattle.mp_patch.specs.declared.fault.ApplyFault.{ApplyFault}
-use Rattle.mp_patch.specs.declared.fault.ApplyFault.TheVariants.{Refused}
 use Rattle.mp_patch.specs.declared.fault.FormFault.{FormFault}
-use Rattle.mp_patch.specs.declared.fault.FormFault.TheVariants.{Form}
+use Rattle.mp_merge.specs.declared.fault.ListFault.TheVariants.{NoPatches}
+use Rattle.mp_texts.specs.Lines.{apply_line, conflict_text, form_line, list_text, missing, pointer_line}
 use Rattle.mp_cli.specs.declared.running.RunFault.{RunFault}
 use Rattle.mp_cli.specs.declared.running.RunFault.TheVariants as run_fails
 
@@ -66,52 +61,33 @@ input_fault NotWhole = Some (line (codes "input: number not whole") exit_refused
 input_fault DocsFault.NotAnArray = Some wrong_shape
 input_fault DocsFault.OutOfMemory = None
 
--- what is wrong with the spelling of a pointer, a tilde with its offset in plain decimals
-abbrev pub bad_tilde_line : ℕ → Output
-bad_tilde_line offset = line (codes "pointer: bad tilde at " ++ numeral offset) exit_refused
-
+-- what is wrong with the spelling of a pointer
 abbrev pub spelling_fault : PointerFault → Option Output
-spelling_fault NoSlash = Some (line (codes "pointer: no slash") exit_refused)
-spelling_fault (BadTilde offset) = Some (bad_tilde_line offset)
 spelling_fault PointerFault.OutOfMemory = None
+spelling_fault why = Some (line (pointer_line why) exit_refused)
 
 -- a part of a document, if there is one
 abbrev pub part_line : Option Document → Output
-part_line None = line (codes "missing") exit_no_result
+part_line None = line missing exit_no_result
 part_line (Some d) = result_line d
-
--- an operation by its number, and what is wrong with it
-abbrev pub operation_line : ℕ → List ℕ → ℕ → Output
-operation_line number words status = line (codes "operation " ++ numeral number ++ codes ": " ++ words) status
 
 -- what is wrong with the form of a patch
 abbrev pub form_fault : FormFault → Option Output
 form_fault FormFault.NotAnArray = Some wrong_shape
-form_fault (Form number cause) = Some (operation_line number (form_text cause) exit_refused)
 form_fault FormFault.OutOfMemory = None
+form_fault why = Some (line (form_line why) exit_refused)
 
 -- why a patch has no result
 abbrev pub apply_fault : ApplyFault → Option Output
-apply_fault (Refused number cause) = Some (operation_line number (cause_text cause) exit_no_result)
 apply_fault ApplyFault.OutOfMemory = None
-
--- a pointer as a JSON string
-abbrev pub pointer_text : Path → List ℕ
-pointer_text w = compact (string (spell w))
-
--- pointers in their order, with a comma and one space between two
-abbrev pub pointers_text : List Path → List ℕ
-pointers_text [] = []
-pointers_text (w ∷ ws) = pointer_text w ++ flat_map (λ u. codes ", " ++ pointer_text u) ws
+apply_fault why = Some (line (apply_line why) exit_no_result)
 
 -- the two patches by their numbers, and the pointers to all their conflicts
 abbrev pub conflict_line : ℕ → ℕ → List Path → Output
-conflict_line first second places =
-    line (codes "conflict: patches " ++ numeral first ++ codes " and " ++ numeral second
-    ++ codes " at " ++ pointers_text places) exit_no_result
+conflict_line first second places = line (conflict_text (Some (first, second)) places (Some 0)) exit_no_result
 
 abbrev pub no_patches : Output
-no_patches = line (codes "no patches") exit_no_result
+no_patches = line (list_text NoPatches) exit_no_result
 
 -- ---- the line for a run that gives no status
 

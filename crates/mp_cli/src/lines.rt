@@ -1,9 +1,9 @@
-//! The lines of the program, each with its status: the texts are here alone.
-ghost use Rattle.std.specs.Prelude.{◌≡◌, ◌++◌, IfOk, OnOk, option_map, string_bytes};
+//! The lines of the program, each with its status. Those of errors that a call over texts has too are `mp_texts`' own.
+ghost use Rattle.std.specs.Prelude.{◌≡◌, option_map, string_bytes};
 ghost use Rattle.mp_tree.specs.Values.{value_document};
-ghost use Rattle.mp_pointer.specs.Part.{numeral};
+ghost use Rattle.mp_texts.specs.Lines.{texts_line};
 ghost use Rattle.mp_cli.specs.Lines as lines;
-ghost use Rattle.mp_cli.specs.Lines.{line_of, pointers_text, status_of, exit_result};
+ghost use Rattle.mp_cli.specs.Lines.{line_of, status_of, exit_result};
 ghost use Rattle.mp_cli.specs.Private.Answers as answers;
 ghost use Rattle.mp_cli.specs.Private.Answers.{Gives, GivesLine};
 
@@ -11,8 +11,9 @@ use crate::answers::Answer;
 use crate::running::RunFault;
 use mp_merge::{Conflicts, ListFault};
 use mp_patch::{ApplyFault, FormFault};
-use mp_pointer::{Pointer, PointerFault};
-use mp_tree::{DocsFault, write_text, write_value};
+use mp_pointer::PointerFault;
+use mp_texts::{TextsFault, conflict_line};
+use mp_tree::{DocsFault, write_value};
 use serde_json::Value;
 use std::alloc::{AllocError, Global};
 
@@ -59,23 +60,20 @@ fn ended(mut text: String, status: u8) -> Result<Answer, AllocError>
     Ok(Answer { text, status })
 }
 
+// The line of an error that a call over texts has too, with its status.
+fn refused(alloc: Global, fault: TextsFault, status: u8) -> Result<Answer, AllocError>
+    ensures { Gives result (lines.line (texts_line fault) status) }
+{
+    ended(mp_texts::fault_line(alloc, &fault)?, status)
+}
+
 pub(crate) fn spelling_fault(alloc: Global, fault: PointerFault) -> Result<Answer, AllocError>
     ensures { GivesLine result (lines.spelling_fault fault) }
 {
     match fault {
-        PointerFault::NoSlash => line(alloc, "pointer: no slash", REFUSED),
-        PointerFault::BadTilde(offset) => bad_tilde_line(alloc, offset),
         PointerFault::OutOfMemory => Err(AllocError),
+        fault => refused(alloc, TextsFault::Pointer(fault), REFUSED),
     }
-}
-
-fn bad_tilde_line(alloc: Global, offset: usize) -> Result<Answer, AllocError>
-    ensures { Gives result (lines.bad_tilde_line offset) }
-{
-    ended(
-        with_number(alloc, "pointer: bad tilde at ", offset)?,
-        REFUSED,
-    )
 }
 
 pub(crate) fn part_line(alloc: Global, found: Option<&Value>) -> Result<Answer, AllocError>
@@ -84,7 +82,7 @@ pub(crate) fn part_line(alloc: Global, found: Option<&Value>) -> Result<Answer, 
 {
     match found {
         Some(value) => result_line(write_value(alloc, value)?),
-        None => line(alloc, "missing", NO_RESULT),
+        None => refused(alloc, TextsFault::Missing, NO_RESULT),
     }
 }
 
@@ -93,8 +91,8 @@ pub(crate) fn form_fault(alloc: Global, fault: FormFault) -> Result<Answer, Allo
 {
     match fault {
         FormFault::NotAnArray => wrong_shape(alloc),
-        FormFault::Form { op, cause } => operation_line(alloc, op, cause.as_str(), REFUSED),
         FormFault::OutOfMemory => Err(AllocError),
+        fault => refused(alloc, TextsFault::Form(fault), REFUSED),
     }
 }
 
@@ -102,77 +100,29 @@ pub(crate) fn apply_fault(alloc: Global, fault: ApplyFault) -> Result<Answer, Al
     ensures { GivesLine result (lines.apply_fault fault) }
 {
     match fault {
-        ApplyFault::Refused { op, cause } => operation_line(alloc, op, cause.as_str(), NO_RESULT),
         ApplyFault::OutOfMemory => Err(AllocError),
+        fault => refused(alloc, TextsFault::Refused(fault), NO_RESULT),
     }
-}
-
-fn operation_line(alloc: Global, op: usize, words: &str, status: u8) -> Result<Answer, AllocError>
-    ensures { Gives result (lines.operation_line op words.now status) }
-{
-    let mut text = with_number(alloc, "operation ", op)?;
-    text.push_str(": ")?;
-    text.push_str(words)?;
-    ended(text, status)
 }
 
 pub(crate) fn list_fault(alloc: Global, fault: ListFault<Conflicts>) -> Result<Answer, AllocError>
     ensures { GivesLine result (answers.list_fault fault) }
 {
     match fault {
-        ListFault::NoPatches => line(alloc, "no patches", NO_RESULT),
         ListFault::ConflictOf {
             first,
             second,
             places: Conflicts { places, total: _ },
-        } => conflict_line(alloc, first, second, places),
+        } => {
+            let numbers = Some((first, second));
+            let line = conflict_line(alloc, numbers, places.as_slice(), Some(0))?;
+            ended(line, NO_RESULT)
+        }
+        ListFault::NoPatches => {
+            refused(alloc, TextsFault::List(ListFault::NoPatches), NO_RESULT)
+        }
         ListFault::OutOfMemory => Err(AllocError),
     }
-}
-
-fn conflict_line(
-    alloc: Global,
-    first: usize,
-    second: usize,
-    places: Vec<Pointer>,
-) -> Result<Answer, AllocError>
-    ensures { Gives result (lines.conflict_line first second places.items) }
-{
-    let mut text = with_number(alloc, "conflict: patches ", first)?;
-    text.push_str(with_number(alloc, " and ", second)?.as_str())?;
-    text.push_str(" at ")?;
-    push_pointers(&mut text, places, alloc)?;
-    ended(text, NO_RESULT)
-}
-
-// With a comma and one space between two. Each is given back once it is printed, so the places and their text are
-// never there twice.
-fn push_pointers(text: &mut String, places: Vec<Pointer>, alloc: Global) -> Result<(), AllocError>
-    ensures { OnOk result
-        (string_bytes text.new ≡ string_bytes text.old ++ pointers_text places.items) }
-{
-    let mut left = places.into_iter();
-    if let Some(first) = left.next() {
-        text.push_str(pointer_text(alloc, &first)?.as_str())?;
-    }
-    for place in left {
-        text.push_str(", ")?;
-        text.push_str(pointer_text(alloc, &place)?.as_str())?;
-    }
-    Ok(())
-}
-
-fn pointer_text(alloc: Global, place: &Pointer) -> Result<String, AllocError>
-    ensures { IfOk result (λ text. string_bytes text ≡ lines.pointer_text place.now) }
-{
-    write_text(alloc, place.print(alloc)?.as_str())
-}
-
-// The text before a number, and the number in plain decimals.
-fn with_number(alloc: Global, before: &str, number: usize) -> Result<String, AllocError>
-    ensures { IfOk result (λ text. string_bytes text ≡ before.now ++ numeral number) }
-{
-    format!(in alloc; "{before}{number}")
 }
 
 pub(crate) fn result_line(text: String) -> Result<Answer, AllocError>

@@ -4,6 +4,7 @@ pub mod Joins
 pub mod Limited
 pub mod Listed
 pub mod Merging
+pub mod Named
 pub mod OneAnswer
 pub mod Places
 pub mod Readings

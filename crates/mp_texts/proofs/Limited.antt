@@ -3,7 +3,6 @@ use Rattle.std.proofs.Common.{ℕ, List}
 use Rattle.mp_tree.specs.Document.{Document}
 use Rattle.mp_patch.specs.Operation.{Operation}
 use Rattle.mp_patch.specs.Within.{IsApplyWithinFault}
-use Rattle.mp_patch.specs.Work.{no_limit}
 use Rattle.mp_patch.specs.declared.fault.ApplyWithinFault.{ApplyWithinFault}
 use Rattle.mp_patch.specs.declared.fault.ApplyWithinFault.TheVariants as stop
 use Rattle.mp_texts.specs.Faults.{IsRunFault, texts_fault_of_apply_within}

@@ -1,16 +1,17 @@
 -- How long the text of places is, and that of as many as fit.
-use Rattle.std.proofs.Common.{◌≡◌, ◌<◌, ◌≤◌, ◌+◌, ◌⊎◌, ◌∷◌, ◌++◌, [], ℕ, zero, suc, List, map, length, take, drop, inl, inr, Bool, true, false, nat_lt, get_or, refl, sym, ap, ◌∙◌, subst, arith, length-append}
+use Rattle.std.proofs.Common.{◌≡◌, ◌<◌, ◌≤◌, ◌+◌, ◌⊎◌, ◌∷◌, ◌++◌, [], ℕ, zero, suc, List, map, length, take, drop, inl, inr, Bool, true, false, nat_lt, nat_eq, get_or, refl, sym, ap, ◌∙◌, subst, arith, length-append}
 use Rattle.std.proofs.Math.Decide.{dec_le}
 use Rattle.std.proofs.Math.Nat.{lt_of_not-le}
-use Rattle.std.proofs.lemmas.Bool.{ltb-true, ltb-false}
+use Rattle.std.proofs.lemmas.Bool.{eqb-true, eqb-false, ltb-true, ltb-false}
 use Rattle.std.proofs.lemmas.List.{take-append-drop, take_more, drop_all, drop_more}
 use Rattle.serde_json.specs.Written.{items_text}
 use Rattle.mp_tree.specs.Elements.{items_of}
 use Rattle.mp_tree.specs.Text.{text as compact, items_data}
 use Rattle.mp_pointer.specs.Spelling.{Tokens}
-use Rattle.mp_texts.specs.Answers.{place_of, places_list}
-use Rattle.mp_texts.specs.Laws.{HasOnePlacesText, PlacesHaveText}
-use Rattle.mp_texts.specs.PlacesTexts.{IsPlacesText, IsTextOfFirst, listed}
+use Rattle.mp_texts.specs.Answers.{place_of}
+use Rattle.mp_patch.specs.Work.{no_limit}
+use Rattle.mp_texts.specs.Laws.{SomeAreShown, TheseAreShown}
+use Rattle.mp_texts.specs.PlacesTexts.{AreShown, IsLongestWithin, listed}
 
 -- of each place, with one byte more for what stands before it
 abbrev pub spelled : List Tokens → ℕ
@@ -37,7 +38,7 @@ pub listed-push : (ws : List Tokens) (w : Tokens) → listed (ws ++ w ∷ []) �
 listed-push [] w = omega (arith, listed_some w [])
 listed-push (v ∷ ws) w = omega (arith, listed_some v (ws ++ w ∷ []), spelled-append ws (w ∷ []))
 
--- ---- one text of as many as fit
+-- ---- one front, as long as fits
 
 -- us goes on after ws, as the rest of the list after ws does
 record GoesOn (ws us rest : List Tokens) : Type 0 where
@@ -74,63 +75,78 @@ too_long limit ws us rest g within (inr (next, more, is, over)) =
     listed-more [] v more = omega (arith, listed_some v more)
     listed-more (w ∷ ws) v more = omega (arith, listed_some w (ws ++ v ∷ more), spelled-append ws (v ∷ more))
 
-pub one_first_text : (limit : ℕ) (places : List Tokens) (a b : List ℕ) → IsTextOfFirst limit places a → IsTextOfFirst limit places b → a ≡ b
-one_first_text limit places a b one other =
-    let a_long : listed one.written ≤ limit = omega (arith, one.within, ap length one.is) in
-    let b_long : listed other.written ≤ limit = omega (arith, other.within, ap length other.is) in
-    elim (fronts one.written other.written one.rest other.rest (sym one.all ∙ other.all)) [
-      | inl same ↦ one.is ∙ ap (λ ws. compact (places_list ws)) same ∙ sym other.is
-      | inr (inl g) ↦ absurd (too_long limit one.written other.written one.rest g b_long one.longest)
-      | inr (inr g) ↦ absurd (too_long limit other.written one.written other.rest g a_long other.longest)
-    ]
+-- what has a place that goes on fits the limit by its length
+long : (limit : ℕ) (ws us : List Tokens) (v : Tokens) (more : List Tokens) → us ≡ ws ++ v ∷ more → (us ≡ []) ⊎ (listed us ≤ limit) → listed us ≤ limit
+long limit ws us v more is (inr within) = within
+long limit [] us v more is (inl none) = absurd (cc)
+long limit (w ∷ ws) us v more is (inl none) = absurd (cc)
 
-pub one_places_text : HasOnePlacesText
-one_places_text limit places a b (inl one) (inl other) = one.1 ∙ sym other.1
-one_places_text limit places a b (inl one) (inr other) = absurd (omega (arith, one.0, other.0))
-one_places_text limit places a b (inr one) (inl other) = absurd (omega (arith, one.0, other.0))
-one_places_text limit places a b (inr one) (inr other) = one_first_text limit places a b one.1 other.1
+one_longest : (limit : ℕ) (places ws us : List Tokens) → IsLongestWithin limit places ws → IsLongestWithin limit places us → ws ≡ us
+one_longest limit places ws us one other = elim (fronts ws us one.rest other.rest (sym one.all ∙ other.all)) [
+  | inl same ↦ same
+  | inr (inl g) ↦ absurd (too_long limit ws us one.rest g (long limit ws us g.next g.later g.us_is other.within) one.longest)
+  | inr (inr g) ↦ absurd (too_long limit us ws other.rest g (long limit us ws g.next g.later g.us_is one.within) other.longest)
+]
+
+pub these_are_shown : TheseAreShown
+these_are_shown limit places ws us (inl one) (inl other) = one.1 ∙ sym other.1
+these_are_shown limit places ws us (inl one) (inr other) = absurd (other.0 one.0)
+these_are_shown limit places ws us (inr one) (inl other) = absurd (one.0 other.0)
+these_are_shown limit places ws us (inr one) (inr other) = one_longest limit places ws us one.1 other.1
 
 -- ---- of as many as were counted
 
-pub first_text : (limit n : ℕ) (places : List Tokens) (answer : List ℕ) → 2 ≤ limit → listed (take n places) ≤ limit → (n < length places → limit < listed (take (n + 1) places))
-    → answer ≡ compact (places_list (take n places)) → IsPlacesText limit places answer
-first_text limit n places answer two within longest is = inr (
-  two,
-  record {
-    written = take n places;
-    rest = drop n places;
-    all = sym (take-append-drop n places);
-    is = is;
-    within = omega (arith, within, ap length is);
-    longest = by (nat_lt n (length places)) refl;
-  },
-)
+-- as many of the first places as fit, if so many fit
+pub record Longest (limit : ℕ) (places : List Tokens) : Type 0 where
+  pub count : ℕ
+  pub within : (take count places ≡ []) ⊎ (listed (take count places) ≤ limit)
+  pub longest : count < length places → limit < listed (take (count + 1) places)
+
+pub first_longest : (limit : ℕ) (places : List Tokens) (most : Longest limit places) → IsLongestWithin limit places (take most.count places)
+first_longest limit places most = record {
+  rest = drop n places;
+  all = sym (take-append-drop n places);
+  within = most.within;
+  longest = by (nat_lt n (length places)) refl;
+}
   where
+    n : ℕ
+    n = most.count
+
     by : (b : Bool) → nat_lt n (length places) ≡ b → (drop n places ≡ []) ⊎ ((next : Tokens) × (more : List Tokens) × (drop n places ≡ next ∷ more) × (limit < listed (take n places ++ next ∷ [])))
     by true less =
         let within = ltb-true n (length places) less in
-        inr (get_or places n [], drop (n + 1) places, drop_more places n [] within, subst (λ ws. limit < listed ws) (take_more places n [] within) (longest within))
+        inr (get_or places n [], drop (n + 1) places, drop_more places n [] within, subst (λ ws. limit < listed ws) (take_more places n [] within) (most.longest within))
     by false more = inl (drop_all n places (ltb-false n (length places) more))
+
+-- not even an array of none fits
+first_over : (limit : ℕ) (places : List Tokens) → limit < 2 → 0 < length places → limit < listed (take 1 places)
+first_over limit [] small less = absurd (omega arith)
+first_over limit (w ∷ ws) small less = omega (arith, small, listed_some w [])
+
+pub none_longest : (limit : ℕ) (places : List Tokens) → limit < 2 → IsLongestWithin limit places []
+none_longest limit places small = first_longest limit places (record { count = 0; within = inl refl; longest = first_over limit places small })
 
 -- ---- there is one
 
--- as many of the first places as fit, if so many fit
-record Longest (limit : ℕ) (places : List Tokens) : Type 0 where
-  count : ℕ
-  within : listed (take count places) ≤ limit
-  longest : count < length places → limit < listed (take (count + 1) places)
-
 grow : (limit : ℕ) (places : List Tokens) (left k : ℕ) → length places ≤ k + left → listed (take k places) ≤ limit → Longest limit places
-grow limit places zero k all within = record { count = k; within = within; longest = λ less. absurd (omega (arith, all, less)) }
+grow limit places zero k all within = record { count = k; within = inr within; longest = λ less. absurd (omega (arith, all, less)) }
 grow limit places (suc left) k all within = elim (dec_le (listed (take (k + 1) places)) limit) [
   | yes fits ↦ grow limit places left (k + 1) (omega (arith, all)) fits
-  | no over ↦ record { count = k; within = within; longest = λ less. lt_of_not-le over }
+  | no over ↦ record { count = k; within = inr within; longest = λ less. lt_of_not-le over }
 ]
 
-pub places_have_text : PlacesHaveText
-places_have_text limit places = elim (dec_le 2 limit) [
-  | yes two ↦
-      let most = grow limit places (length places) 0 (omega arith) two in
-      (compact (places_list (take most.count places)), first_text limit most.count places _ two most.within most.longest refl)
-  | no small ↦ ([], inl (lt_of_not-le small, refl))
+most_within : (limit : ℕ) (places : List Tokens) → Longest limit places
+most_within limit places = elim (dec_le 2 limit) [
+  | yes two ↦ grow limit places (length places) 0 (omega arith) two
+  | no small ↦ record { count = 0; within = inl refl; longest = first_over limit places (lt_of_not-le small) }
 ]
+
+pub some_are_shown : SomeAreShown
+some_are_shown limit places = by (nat_eq limit no_limit) refl
+  where
+    by : (b : Bool) → nat_eq limit no_limit ≡ b → (shown : List Tokens) × AreShown limit places shown
+    by true is = (places, inl (eqb-true limit no_limit is, refl))
+    by false not =
+        let most = most_within limit places in
+        (take most.count places, inr (eqb-false limit no_limit not, first_longest limit places most))

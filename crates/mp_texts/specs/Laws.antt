@@ -1,5 +1,5 @@
 -- Laws over texts. Each is the contract of a function of the module `laws` that runs nothing.
-use Rattle.std.specs.Prelude.{◌≡◌, ◌≢◌, ◌⊎◌, ◌≤◌, ◌+◌, ◌↔◌, ℕ, List, [], ◌∷◌, ◌++◌, Err}
+use Rattle.std.specs.Prelude.{◌≡◌, ◌≢◌, ◌⊎◌, ◌≤◌, ◌+◌, ◌↔◌, ℕ, List, [], ◌∷◌, ◌++◌, Err, Some, codes}
 use Rattle.std.specs.List.{Contains}
 use Rattle.mp_tree.specs.Document.{depth_limit}
 use Rattle.mp_tree.specs.Text.{document_in}
@@ -10,7 +10,9 @@ use Rattle.mp_patch.specs.Form.{deepest}
 use Rattle.mp_texts.specs.Answers.{IsJoinText, IsMergeText, IsPatchText, IsReplayText, IsRewriteText}
 use Rattle.mp_texts.specs.Calls.{Call, CallAnswer, IsCallAnswer, MayFail, seen_of}
 use Rattle.mp_texts.specs.FaultPlaces.{HasNoFaultPlace, IsFaultPlace}
-use Rattle.mp_texts.specs.PlacesTexts.{IsPlacesText}
+use Rattle.mp_texts.specs.Lines.{conflict_text, pointers_text}
+use Rattle.mp_texts.specs.PlacesTexts.{AreShown}
+use Rattle.mp_pointer.specs.Part.{numeral}
 use Rattle.mp_texts.specs.Reduces.{Parts, JoinsThrough, texts_in}
 use Rattle.mp_texts.specs.Texts.{AreCompatible, ReadTheSame}
 use Rattle.mp_texts.specs.declared.fault.TextsFault.{TextsFault}
@@ -124,13 +126,22 @@ abbrev pub NoPlaceIsNone : Type 0
 NoPlaceIsNone = (fault : ReadFault) (text : List ℕ) (place : Tokens)
     → HasNoFaultPlace fault text → ¬ IsFaultPlace fault text place
 
--- ---- the text of places within a limit
+-- ---- the places that are shown
 
--- there is one
-abbrev pub PlacesHaveText : Type 0
-PlacesHaveText = (limit : ℕ) (places : List Tokens) → (text : List ℕ) × IsPlacesText limit places text
+-- some are, of each list and within each limit
+abbrev pub SomeAreShown : Type 0
+SomeAreShown = (limit : ℕ) (places : List Tokens) → (shown : List Tokens) × AreShown limit places shown
 
--- and one alone
-abbrev pub HasOnePlacesText : Type 0
-HasOnePlacesText = (limit : ℕ) (places : List Tokens) (text other : List ℕ)
-    → IsPlacesText limit places text → IsPlacesText limit places other → text ≡ other
+-- and these alone
+abbrev pub TheseAreShown : Type 0
+TheseAreShown = (limit : ℕ) (places shown others : List Tokens)
+    → AreShown limit places shown → AreShown limit places others → shown ≡ others
+
+-- ---- the line of a conflict
+
+-- with all places it lists these, and nothing follows them
+abbrev pub AllPlacesAreListed : Type 0
+AllPlacesAreListed = (first second : ℕ) (place : Tokens) (places : List Tokens)
+    → conflict_text (Some (first, second)) (place ∷ places) (Some 0)
+    ≡ codes "conflict: patches " ++ numeral first ++ codes " and " ++ numeral second ++ codes " at "
+    ++ pointers_text (place ∷ places)

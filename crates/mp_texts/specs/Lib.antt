@@ -3,6 +3,7 @@ pub mod Calls
 pub mod FaultPlaces
 pub mod Faults
 pub mod Laws
+pub mod Lines
 pub mod PlacesTexts
 pub mod Private
 pub mod Reduces

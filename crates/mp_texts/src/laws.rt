@@ -1,5 +1,5 @@
 //! Laws over texts alone: each function runs nothing, and its contract is the law.
-ghost use Rattle.mp_texts.specs.Laws.{CallHasAnswer, CallHasOneAnswer, EachPartHasAJoin, FaultHasOnePlace, FaultHasPlace, FaultsShowTheAnswer, HasOnePlacesText, HasPlaceOrNone, NoPlaceIsNone, PlacesHaveText, JoinOfTwoJoins, JoinTextsAreShared, OneJoinText, OneReplayText, ReducesAgree, ReducesDecide, ReducesExist, ReducesGiveTheJoin, ReplayIsMerge, ReplayIsPatch};
+ghost use Rattle.mp_texts.specs.Laws.{AllPlacesAreListed, CallHasAnswer, CallHasOneAnswer, EachPartHasAJoin, FaultHasOnePlace, FaultHasPlace, FaultsShowTheAnswer, HasPlaceOrNone, NoPlaceIsNone, JoinOfTwoJoins, JoinTextsAreShared, OneJoinText, OneReplayText, ReducesAgree, ReducesDecide, ReducesExist, ReducesGiveTheJoin, ReplayIsMerge, ReplayIsPatch, SomeAreShown, TheseAreShown};
 ghost use Rattle.mp_texts.specs.Private.LawsBelow.{AnswerLaws, ExistenceLaws, JoinLaws, ReplayLaws};
 
 use mp_merge::laws as merge;
@@ -79,10 +79,15 @@ pub fn fault_places()
     ensures not_both { NoPlaceIsNone }
 {}
 
-/// Places have a text within whatever limit, and one alone: what `write_places_within` gives of them, unless memory runs out.
-pub fn places_texts()
-    ensures exists { PlacesHaveText }
-    ensures one { HasOnePlacesText }
+/// Places are shown: of each list of places, and within each limit, `places_within` shows some, and these alone.
+pub fn places_are_shown()
+    ensures some { SomeAreShown }
+    ensures these { TheseAreShown }
+{}
+
+/// The line of a conflict with all its places lists these, as the program prints it.
+pub fn all_places_are_listed()
+    ensures { AllPlacesAreListed }
 {}
 
 fn join_laws()

@@ -1,6 +1,5 @@
 //! The text of an answer within a limit, and that of a list of places.
-ghost use Rattle.std.specs.Prelude.{List, ◌≡◌, ◌<◌, ◌≤◌, ◌+◌, ◌⊎◌, length, take, Some, IfOk, MatchOption, MatchResult, string_bytes};
-ghost use Rattle.mp_pointer.specs.Spelling.{Tokens};
+ghost use Rattle.std.specs.Prelude.{◌≡◌, ◌<◌, ◌≤◌, ◌+◌, ◌⊎◌, length, take, Some, IfOk, MatchOption, MatchResult, string_bytes};
 ghost use Rattle.mp_tree.specs.Document.{depth, depth_limit};
 ghost use Rattle.mp_tree.specs.Text.{read, text as compact};
 ghost use Rattle.mp_tree.specs.Values.{value_document};
@@ -8,7 +7,7 @@ ghost use Rattle.mp_tree.specs.View.{document};
 ghost use Rattle.mp_patch.specs.Form.{shapes};
 ghost use Rattle.mp_patch.specs.View.{operations_of};
 ghost use Rattle.mp_texts.specs.Answers.{IsTextOf, place_of, places_list};
-ghost use Rattle.mp_texts.specs.PlacesTexts.{IsPlacesText, listed};
+ghost use Rattle.mp_texts.specs.PlacesTexts.{AreShown, listed};
 
 use crate::fault::TextsFault;
 use mp_patch::{JsonPatch, write_patch_within};
@@ -70,31 +69,26 @@ pub fn write_places(alloc: Global, places: &[Pointer]) -> Result<String, AllocEr
     Ok(write_doc(alloc, &Doc::Items(spellings))?)
 }
 
-/// As `write_places`, of as many of the first places as make a text of at most `limit` bytes. If not even an empty array fits,
-/// since the limit is 0 or 1, the text is empty. `AllocError` if memory ran out.
+/// As many of the first places as make an array of at most `limit` bytes, as `write_places` writes it: the others are not shown. None if
+/// not even the first fits, and all with `usize::MAX`, which is no limit.
 ///
-/// How many fit is counted first, by a walk that takes no memory; with `usize::MAX` nothing is counted.
+/// They are counted by a walk that takes no memory; without a limit nothing is counted.
 ///
 /// ```text
-/// write_places_within(alloc, &places, 10)  // ["/a"], where all would be ["/a","/b~1c"]
+/// places_within(&places, 10)  // /a, where all are /a and /b~1c
 /// ```
-pub fn write_places_within(
-    alloc: Global,
-    places: &[Pointer],
-    limit: usize,
-) -> Result<String, AllocError>
-    ensures first { IfOk result (λ text. IsPlacesText limit places.now (string_bytes text)) }
-    ensures reads_back { IfOk result (λ text. 2 ≤ limit
-        → (written : List Tokens) × IsTextOf (places_list written) (string_bytes text)) }
+pub fn places_within(places: &[Pointer], limit: usize) -> &[Pointer]
+    ensures { AreShown limit places.now result.now }
 {
     if limit == usize::MAX {
-        return write_places(alloc, places);
+        return places;
     }
-    if limit < 2 {
-        return Ok(String::new(alloc));
-    }
-    let count = count_within(places, limit);
-    write_places(alloc, &places[..count])
+    let count = if limit < 2 {
+        0
+    } else {
+        count_within(places, limit)
+    };
+    &places[..count]
 }
 
 // How many of the first places make a text of at most so many bytes.

@@ -15,6 +15,7 @@ import zipfile
 
 import pytest
 from calls import TOP
+from rows import clipped
 from server import quoted
 
 SERIAL: dict = {"workers": 0, "modes": {"Simple"}}
@@ -151,6 +152,24 @@ def test_two_patches_of_a_group_that_conflict_are_reported(server, outcomes, pla
         assert server.ask(PLANS[plan][0] + query.format(patch, conflicting), "-v", "VERBOSITY=sqlstate") == "ERROR:  MJ001\n"
 
 
+@pytest.fixture(name="torn", scope="module")
+def groups_that_conflict_at_one_place(server):
+    """Each document of the table `torn` says two things of one place, and has patches beside them."""
+    rows = [(document, json.dumps({f"k{number}": number} if number else {"x": {"y": value}})) for document in range(300)
+            for value in (1, 2) for number in range(4)]
+    random.Random(6).shuffle(rows)
+    load(server, "torn", rows)
+
+
+@pytest.mark.parametrize("plan", PLANS)
+def test_where_two_patches_of_a_group_conflict_is_shown_in_each_plan(server, torn, plan):
+    """Also if a worker has seen it."""
+    said = 'ERROR:  MJ001: conflict: two patches at "/x/y"\nDETAIL:  ["/x/y"]\n' \
+        "HINT:  mergejoin_conflict_agg(patch ORDER BY ..) returns the first two, and where they conflict.\n"
+    for patch in ("patch", "patch::jsonb"):
+        assert server.ask(f"{PLANS[plan][0]}SELECT document, mergejoin_agg({patch}) FROM torn GROUP BY document;\n") == said
+
+
 @pytest.mark.parametrize("aggregate", AGGREGATES)
 @pytest.mark.parametrize("plan", PLANS)
 def test_a_text_that_is_no_patch_is_reported(server, wrong, plan, aggregate):
@@ -161,12 +180,12 @@ def test_a_text_that_is_no_patch_is_reported(server, wrong, plan, aggregate):
 
 
 def test_a_report_has_the_first_text_that_is_no_patch(server, wrong):
-    """By its number among the rows that are not NULL, and by the words of an error."""
+    """By its number among the rows that are not NULL, and by the line of an error."""
     array = "mergejoin_join(VARIADIC array_agg(patch ORDER BY number) FILTER (WHERE patch IS NOT NULL))"
     queries = [f"SELECT {call} FROM wrong WHERE document = {document}" for document in wrong for call in (REPORT, array)]
     answers = server.ask_each(queries)
     for report, error in zip(answers[::2], answers[1::2]):
-        number, why = re.fullmatch(r"ERROR:  22032: patch (\d): (.*)\n", error).groups()
+        why, number = re.fullmatch(r"ERROR:  22032: (patch (\d): .*)\n", error).groups()
         assert json.loads(report) == {"bad": {"number": int(number), "why": why}}
 
 
@@ -175,17 +194,18 @@ def test_of_a_thousand_rows_one_that_is_no_patch_is_named_and_stops_no_other_gro
     load(server, "priced", rows)
     reports = server.ask("SELECT document, mergejoin_report_agg(patch ORDER BY number) FROM priced GROUP BY document;\n").splitlines()
     reports = {int(document): json.loads(report) for document, report in (line.split("|", 1) for line in reports)}
-    assert reports.pop(47) == {"bad": {"number": 7, "why": 'number not whole at "/k747"'}}
+    assert reports.pop(47) == {"bad": {"number": 7, "why": 'patch 7: number not whole at "/k747"'}}
     assert reports == {document: {"join": {f"k{number}": number for number in range(document, 1000, 100)}}
                        for document in range(100) if document != 47}
     assert server.ask("SELECT number - 1, patch FROM priced WHERE NOT mergejoin_is_patch(patch);\n") == '747|{"k747": 9.5}\n'
 
 
-@pytest.mark.parametrize("name", ["é" * 300, "x" + "é" * 300], ids=["200 bytes", "199 bytes, and half a character"])
+@pytest.mark.parametrize("name", ["é" * 300, "x" + "é" * 300, "é" * 500, "x" + "é" * 500], ids=[
+    "200 bytes", "199 bytes, and half a character", "half a character of the line", "and of the patch"])
 def test_the_beginning_of_a_text_that_is_no_patch_is_shown(server, name):
     text = json.dumps({name: 1.5}, ensure_ascii=False)
-    said = f'ERROR:  22032: patch of the group: number not whole at "/{name}"\nDETAIL:  The patch is {text[:101]}..\n' \
-        "HINT:  mergejoin_is_patch(patch) is false of such a row.\n"
+    line = f'patch 0: number not whole at "/{name}"'
+    said = f"ERROR:  22032: {clipped(line)}\nDETAIL:  The patch is {text[:101]}..\nHINT:  mergejoin_is_patch(patch) is false of such a row.\n"
     assert server.ask(f"SELECT mergejoin_agg(patch) FROM (VALUES ({quoted(text)}::json)) AS log (patch);\n") == said
 
 

@@ -107,9 +107,10 @@ def test_memory_that_is_not_there_is_no_conflict_at_many_places(attacked):
 
 @pytest.mark.parametrize(("table", "shown", "count"), [("wide", 100, 20000), ("deep", 0, 12000)])
 def test_a_conflict_shows_the_first_places(attacked, table, shown, count):
-    """No more than a hundred, and no more than 8 kB of them."""
+    """No more than a hundred, and no more than 8 kB of them. The message has as many as a thousand bytes of its line do."""
     said = attacked.ask(f"SELECT mergejoin_join(VARIADIC array_agg(patch)) FROM {table};\n")
-    assert len(json.loads(re.search("^DETAIL:  (.*)$", said, re.M)[1])) == shown and len(said) < 9000
+    assert len(json.loads(re.search("^DETAIL:  (.*)$", said, re.M)[1])) == shown and len(said) < 10_000
+    assert re.search(r'^ERROR:  MJ001: conflict: patches 0 and 1 at "/.*\.\.$', said, re.M) and len(said.partition("\n")[0]) == len("ERROR:  MJ001: ..") + 1000
     first = f"These are the first {shown} of {count} places" if shown else f"The first of {count} places is longer than 8192 bytes"
     assert f"HINT:  {first}; mergejoin_conflicts returns all.\n" in said
 
@@ -219,7 +220,7 @@ def test_a_report_names_a_patch_that_a_call_cannot_read(server, kind):
     values = ", ".join(f"({group}, {number}, {text})" for group, texts in enumerate(groups) for number, text in enumerate(texts))
     query = f"SELECT mergejoin_report_agg(patch ORDER BY number) FROM (VALUES {values}) AS log (doc, number, patch) GROUP BY doc ORDER BY doc;\n"
     reports = [next(iter(json.loads(line).values())) for line in server.ask(LITTLE + query).splitlines()]
-    bad = [{"number": 1, "why": "too large"}, {}, {"number": 1, "why": 'number not whole at ""'}, {"number": 0, "why": "too large"}]
+    bad = [{"number": 1, "why": "too large"}, {}, {"number": 1, "why": 'patch 1: number not whole at ""'}, {"number": 0, "why": "too large"}]
     assert reports == bad
 
 

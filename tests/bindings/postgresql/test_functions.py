@@ -7,7 +7,7 @@ import json
 import operator
 
 import pytest
-from rows import ROWS, line_of, vector_rows
+from rows import ROWS, clipped, line_of, vector_rows
 from server import quoted
 
 # The code of each status that is an error.
@@ -29,10 +29,8 @@ def wanted_of(status, first, second, text):
     """Gives what a session prints where the library answers this."""
     if status not in CODES:
         return "" if status == 4 else text
-    line = line_of(status, first, second, text)
-    if status == 1:
-        line = f"{line.partition(' at ')[0]}\nDETAIL:  {text}"
-    return f"ERROR:  {CODES[status]}: {line}"
+    detail = f"\nDETAIL:  {text}" if status == 1 else ""
+    return f"ERROR:  {CODES[status]}: {clipped(line_of(status, first, second, text))}{detail}"
 
 
 def refusal_of(kind, texts):
@@ -61,7 +59,7 @@ def cases():
 
 DEEPEST = "[" * 126 + "]" * 126
 GROUP = "(SELECT mergejoin_agg(patch{}) FROM (VALUES ('{{\"a\":1}}'::json), ('{{\"a\":2}}')) AS log (patch))"
-CONFLICT = "ERROR:  MJ001: conflict: two patches of the group\n" \
+CONFLICT = 'ERROR:  MJ001: conflict: two patches at "/a"\nDETAIL:  ["/a"]\n' \
     "HINT:  mergejoin_conflict_agg(patch ORDER BY ..) returns the first two, and where they conflict."
 # Null elements, what jsonb changes, the deepest documents, and the error of an aggregate.
 OTHERS = {

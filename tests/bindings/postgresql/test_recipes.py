@@ -138,8 +138,8 @@ def test_no_compaction_fails_but_those_that_are_ended(work):
 
 
 def test_documents_that_conflict_or_have_no_patch_stay_and_stop_no_other(server, work):
-    assert work.last == 'NOTICE:  "bad" stays: patch of the group: number not whole at "/price"\n' \
-        'NOTICE:  "late" stays: conflict: patches 0 and 1\nNOTICE:  "torn" stays: conflict: two patches of the group\n'
+    assert work.last == 'NOTICE:  "bad" stays: patch 0: number not whole at "/price"\n' \
+        'NOTICE:  "late" stays: conflict: patches 0 and 1 at "/v"\nNOTICE:  "torn" stays: conflict: two patches at "/v"\n'
     assert sorted(rows_of(server, "worked", "SELECT json_build_array(doc, patch) FROM log"), key=str) == sorted(map(list, STUCK), key=str)
     compacted = dict(rows_of(server, "worked", "SELECT json_build_array(doc, patch) FROM compacted"))
     assert compacted.pop("late") == {"v": 2} and set(compacted) == {document for document, _ in work.sent}
@@ -160,7 +160,7 @@ DEEPEST = "[" * 126 + "]" * 126
 STARTS = {"plain": '{"n": 1}', "torn": "{}", "bad": "{}", "deep": "{}", "strange": "{}", "alone": '{"n": 2}', "wrong": "1.5"}
 PATCHES = [("plain", '{"n": null, "m": 1}'), ("torn", '{"v": 1}'), ("torn", '{"v": 2}'), ("bad", "9.5"), ("deep", DEEPEST),
            ("strange", '{"a": "\\u0000"}')]
-SHOWN = {"plain": ('{"m":1}', ""), "torn": ("", "conflict: patches 0 and 1"), "bad": ("", 'patch 0: number not whole at ""'), "deep": (DEEPEST, ""),
+SHOWN = {"plain": ('{"m":1}', ""), "torn": ("", 'conflict: patches 0 and 1 at "/v"'), "bad": ("", 'patch 0: number not whole at ""'), "deep": (DEEPEST, ""),
          "strange": ('{"a":"\\u0000"}', ""), "alone": ('{"n":2}', ""), "wrong": ("", 'document: number not whole at ""')}
 
 

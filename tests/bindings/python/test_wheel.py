@@ -22,6 +22,8 @@ def shown(start: str, patches: list[bytes]) -> str:
             replica.receive(patch, limit=1_000)
         except mergejoin.Conflict as conflict:
             print(", ".join(conflict.places), conflict.total, "and more" if conflict.more else "")
+        except mergejoin.PatchError as error:
+            print(error.number + 1, error.cause.upper(), error.place or "")
     part: str | None = replica.get("/author", None)
     return part or replica.document(limit=1_000_000)
 

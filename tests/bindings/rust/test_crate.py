@@ -28,7 +28,7 @@ def test_with_the_shared_library_that_pkg_config_knows(cargo, shared):
     setting = {"MERGEJOIN_LIB": "", "PKG_CONFIG_PATH": str(shared / "pkgconfig"), "LD_LIBRARY_PATH": str(shared)}
     assert cargo("test", "--test", "live", "--test", "texts", **setting).count("test result: ok.") == 2
     program = program_of(cargo, "live", **setting)
-    assert "libmergejoin.so.1" in run(["readelf", "-dW", program])[1]
+    assert "libmergejoin.so.2" in run(["readelf", "-dW", program])[1]
 
 
 def program_of(cargo, name, **setting):

@@ -6,7 +6,7 @@ import itertools
 import json
 
 import pytest
-from rows import ROWS, line_of, many, text_of, vector_rows
+from rows import ROWS, clipped, line_of, many, text_of, vector_rows
 from sqlite_extension import connected, outcome
 
 # The code of each status that is an error, and what Python makes of it.
@@ -28,10 +28,7 @@ def wanted_of(status, first, second, text):
     """Gives what is answered where the library answers this."""
     if status not in CODES:
         return [(None if status == 4 else text,)]
-    line = line_of(status, first, second, text)
-    if status == 1:
-        line = f"{line.partition(' at ')[0]}: {text}"
-    return CODES[status], line
+    return CODES[status], clipped(line_of(status, first, second, text))
 
 
 @pytest.fixture(name="connections", scope="module")
@@ -118,29 +115,44 @@ def test_functions_may_stand_in_a_schema(connection):
     assert outcome(connection, "SELECT * FROM shown") == [('{"owner":"Ada"}',)]
 
 
-def test_the_first_places_of_a_conflict_are_shown(connection):
-    texts = [json.dumps({f"k{number:03}\\\"": value for number in range(250)}) for value in (1, 2)]
-    places = ",".join(f'"/k{number:03}\\\\\\""' for number in range(100))
-    wanted = f"conflict: patches 0 and 1: [{places}], the first 100 of 250 places"
-    assert asked(connection, "join", *texts) == ("SQLITE_CONSTRAINT_FUNCTION", wanted)
+@pytest.mark.parametrize("end", ["é" * 200, "x" + "é" * 200, "", "\U0001f600"], ids=["odd", "even", "short", "wide"])
+def test_the_first_places_of_a_conflict_are_shown(connection, end):
+    """As many bytes of the line as a message has, and no part of a character."""
+    names = [f"k{number:03}\\\"\n{end}" for number in range(250)]
+    texts = [json.dumps({name: value for name in names}) for value in (1, 2)]
+    line = line_of(1, 0, 1, text_of([f"/{name}" for name in names]))
+    assert 999 <= len(clipped(line).encode()) <= 1002
+    assert asked(connection, "join", *texts) == ("SQLITE_CONSTRAINT_FUNCTION", clipped(line))
 
 
-@pytest.mark.parametrize("count,words", [(3, "3 places"), (1, "1 place")])
-def test_of_places_that_are_all_too_long_the_number_is_shown(connection, count, words):
+@pytest.mark.parametrize("count", [1, 9, 50, 80])
+def test_a_line_that_fits_is_shown_as_it_is(connection, count):
+    """With all its places, and how many more there are if the length that a value may have is less than they weigh."""
+    names = [f"k{number:02}" for number in range(count)]
+    texts = [json.dumps({name: value for name in names}) for value in (1, 2)]
+    places = [f"/{name}" for name in names]
+    for limit, shown in ((10**9, count), (140 * 7, min(7, count))):
+        limited(connection, limit)
+        line = line_of(1, 0, 1, text_of(places[:shown]), count)
+        assert len(line) <= 1000 and asked(connection, "join", *texts) == ("SQLITE_CONSTRAINT_FUNCTION", line)
+
+
+@pytest.mark.parametrize("count", [3, 1])
+def test_of_places_that_are_all_too_long_the_number_is_shown(connection, count):
     texts = [json.dumps({f"k{number}": value for number in range(count)}) for value in (1, 2)]
     limited(connection, 100)
-    wanted = "SQLITE_CONSTRAINT_FUNCTION", f"conflict: patches 0 and 1: {words}"
+    wanted = "SQLITE_CONSTRAINT_FUNCTION", line_of(1, 0, 1, "[]", count)
     assert [asked(connection, export, *start, *texts) for export, start in (("join", []), ("replay", ["{}"]))] == [wanted] * 2
 
 
-def test_no_place_follows_64_kb_of_them(connection):
-    texts = [json.dumps({f"{number}{'x' * 40_000}": value for number in range(5)}) for value in (1, 2)]
-    places = ",".join(f'"/{number}{"x" * 40_000}"' for number in range(2))
-    wanted = f"conflict: patches 0 and 1: [{places}], the first 2 of 5 places"
-    assert asked(connection, "join", *texts) == ("SQLITE_CONSTRAINT_FUNCTION", wanted)
+def test_a_line_as_long_as_a_message_may_have_is_whole(connection):
+    for length in (1000, 1001):
+        name = "x" * (length - len('patch 0: number not whole at "/"'))
+        line = f'patch 0: number not whole at "/{name}"'
+        assert asked(connection, "join", json.dumps({name: 1.5})) == ("SQLITE_ERROR", line if length == 1000 else line[:1000] + "..")
 
 
-TOO_BIG = "SQLITE_TOOBIG", "string or blob too big"
+TOO_BIG, TOO_LARGE = (("SQLITE_TOOBIG", words) for words in ("string or blob too big", "too large"))
 
 
 def limited(connection, length):
@@ -154,7 +166,7 @@ def test_a_result_as_long_as_a_value_may_be_is_given(connection, export):
     start = [] if export == "join" else ["{}"]
     answer = f"{texts[0][:-1]},{texts[1][1:]}"
     assert asked(limited(connection, len(answer)), export, *start, *texts) == [(answer,)]
-    assert asked(limited(connection, len(answer) - 1), export, *start, *texts) == TOO_BIG
+    assert asked(limited(connection, len(answer) - 1), export, *start, *texts) == TOO_LARGE
 
 
 def test_a_group_whose_join_is_too_long_is_reported(connection):
@@ -162,7 +174,7 @@ def test_a_group_whose_join_is_too_long_is_reported(connection):
     limited(connection, 60)
     for call in "mergejoin_agg(patch)", "mergejoin_try_agg(patch)":
         assert outcome(connection, f"SELECT {call} FROM log WHERE number < 7") == [('{"k1":1,"k2":2,"k3":3,"k4":4,"k5":5,"k6":6}',)]
-        assert outcome(connection, f"SELECT {call} FROM log") == TOO_BIG
+        assert outcome(connection, f"SELECT {call} FROM log") == TOO_LARGE
     assert outcome(connection, "SELECT mergejoin_conflict_agg(patch) FROM log") == [(None,)]
 
 
@@ -178,10 +190,10 @@ def test_places_that_no_value_has_are_too_many(connection):
 def test_copies_that_double_a_document_end_soon(connection, document):
     """Also if the result itself would be short."""
     limited(connection, 100_000)
-    assert asked(connection, "patch", document, json.dumps(COPIES)) == TOO_BIG
+    assert asked(connection, "patch", document, json.dumps(COPIES)) == TOO_LARGE
     replaced = {"op": "replace", "path": "", "value": 1}
     assert asked(connection, "patch", document, json.dumps([*COPIES[:3], replaced])) == [("1",)]
-    assert asked(connection, "patch", document, json.dumps([*COPIES[:13], replaced])) == TOO_BIG
+    assert asked(connection, "patch", document, json.dumps([*COPIES[:13], replaced])) == TOO_LARGE
 
 
 # Two patches of a quarter of a megabyte, whose places have 720 MB together.
@@ -196,12 +208,12 @@ for call in "mergejoin_join(?, ?)", "mergejoin_replay('1', ?, ?)":
     try:
         connection.execute(f"SELECT {call}", texts)
     except sqlite3.Error as error:
-        print(error.sqlite_errorname, str(error)[:32], str(error)[-29:])
+        print(error.sqlite_errorname, str(error)[:36], len(str(error)), str(error)[-4:])
 """
 
 
 def test_a_wide_conflict_takes_little_memory(extension, run):
-    line = 'SQLITE_CONSTRAINT_FUNCTION conflict: patches 0 and 1: ["/~0 ], the first 1 of 6000 places\n'
+    line = 'SQLITE_CONSTRAINT_FUNCTION conflict: patches 0 and 1 at "/~0~0~ 1002 0~..\n'
     assert run(["/usr/bin/python3", "-I", "-c", ASKED_OF_LITTLE_MEMORY, extension]) == (0, 2 * line, "")
 
 

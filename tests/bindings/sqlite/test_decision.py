@@ -69,7 +69,7 @@ def test_of_no_patch_the_new_start_is_the_old_one(extension, machine):
     (START, PATCHES[1:], CHOSEN, "NOT NULL constraint failed: starts.start"),
     # another machine put a join in the place of two of them
     (START, ['{"author":"Ada","pages":7}', *PATCHES[1:]], CHOSEN, "NOT NULL constraint failed: starts.start"),
-    (START, [*PATCHES, BOB], f"{CHOSEN}, ('{BOB}')", "conflict: two patches of the group"),
+    (START, [*PATCHES, BOB], f"{CHOSEN}, ('{BOB}')", 'conflict: two patches at "/author"'),
 ], ids=["no start", "a patch is not stored", "a patch was shortened away", "conflict"])
 def test_an_error_ends_it_and_nothing_has_changed(extension, machine, start, patches, chosen, error):
     """Nor if a program goes on after it."""

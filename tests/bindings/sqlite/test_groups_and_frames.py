@@ -5,9 +5,11 @@ of groups with a text that is not a patch, of nothing, and of large groups. As w
 import itertools
 import json
 import random
+import re
 import time
 
 import pytest
+from rows import at_places, clipped
 from sqlite_extension import outcome
 
 AGGREGATES = ["mergejoin_agg", "mergejoin_try_agg", "mergejoin_conflict_agg"]
@@ -30,9 +32,8 @@ def joined(connection, texts):
     said = outcome(connection, f"SELECT mergejoin_join({', '.join('?' * len(texts))})", texts) if texts else [(None,)]
     if isinstance(said, list):
         return said[0][0], None
-    numbers, _, places = said[1].removeprefix("conflict: patches ").partition(": ")
-    first, second = numbers.split(" and ")
-    return None, f'{{"first":{first},"second":{second},"places":{places}}}'
+    first, second, places = re.fullmatch(r"conflict: patches (\d+) and (\d+) at (.*)", said[1]).groups()
+    return None, f'{{"first":{first},"second":{second},"places":[{places.replace(", ", ",")}]}}'
 
 
 @pytest.fixture(name="log")
@@ -60,7 +61,7 @@ def test_each_group_is_one_join(connection, log, table):
 
 def test_the_places_of_a_group_that_conflicts_are_shown(connection):
     query = "SELECT mergejoin_agg(column1) FROM (VALUES ('{\"a\":{\"b\":1},\"c\":1}'), ('{\"d\":1}'), ('{\"a\":1,\"c\":2}'))"
-    assert outcome(connection, query) == ("SQLITE_CONSTRAINT_FUNCTION", 'conflict: two patches of the group: ["/a","/c"]')
+    assert outcome(connection, query) == ("SQLITE_CONSTRAINT_FUNCTION", 'conflict: two patches at "/a", "/c"')
 
 
 @pytest.mark.parametrize("over", ["", " OVER ()", " FILTER (WHERE false)"])
@@ -77,7 +78,7 @@ def test_a_text_that_is_no_patch_is_reported_in_each_order(connection, name, wro
     for order in itertools.permutations([wrong, '{"a":1}', '{"a":2}']):
         for over in "", " OVER ()", " OVER (ORDER BY column1 IS NULL)":
             said = outcome(connection, f"SELECT {name}(column1){over} FROM (VALUES (?), (?), (?))", order)
-            assert said == ("SQLITE_ERROR", f"patch of the group: {WRONG[wrong]}")
+            assert said == ("SQLITE_ERROR", f"patch 0: {WRONG[wrong]}")
 
 
 # Frames, and whether rows leave them.
@@ -104,7 +105,7 @@ def test_a_frame_that_conflicts_is_an_error_and_others_are_not(connection):
     connection.execute("CREATE TABLE log AS SELECT value AS number, json_object('a', value / 4) AS patch FROM json_each('[0,1,2,3,4,5,6,7]')")
     query = "SELECT mergejoin_agg(patch) OVER (ORDER BY number ROWS BETWEEN {} PRECEDING AND CURRENT ROW) FROM log WHERE number {}"
     assert outcome(connection, query.format(3, "< 4")) == [('{"a":0}',)] * 4
-    assert outcome(connection, query.format(3, "< 8")) == ("SQLITE_CONSTRAINT_FUNCTION", 'conflict: two patches of the group: ["/a"]')
+    assert outcome(connection, query.format(3, "< 8")) == ("SQLITE_CONSTRAINT_FUNCTION", 'conflict: two patches at "/a"')
     assert outcome(connection, query.format(0, "< 8")) == [(f'{{"a":{number // 4}}}',) for number in range(8)]
 
 
@@ -122,29 +123,35 @@ def test_a_large_group_is_joined_in_much_less_time_than_text_by_text(connection)
 OF_TEXTS, OF_A_GROUP = "mergejoin_join(?, ?)", "mergejoin_agg(value) FROM (SELECT ? AS value UNION ALL SELECT ?)"
 
 
-def places_said(connection, call, names):
+WHICH = {OF_TEXTS: "patches 0 and 1", OF_A_GROUP: "two patches"}
+
+
+def conflict_said(connection, call, names):
     """What is said of two texts that conflict at a member of each of the names."""
     name, said = outcome(connection, f"SELECT {call}", [json.dumps({it: {"a": value} for it in names}) for value in (1, 2)])
     assert name == "SQLITE_CONSTRAINT_FUNCTION"
-    return said.partition(": ")[2].partition(": ")[2]
+    return said
 
 
-@pytest.mark.parametrize("name,place", [(30_000 * "~", 30_000 * "~0"), (60_000 * "\1", 60_000 * "\\u0001")], ids=["tildes", "controls"])
-@pytest.mark.parametrize("call", [OF_TEXTS, OF_A_GROUP])
+@pytest.mark.parametrize("name,place", [(30_000 * "~", 30_000 * "~0"), (60_000 * "\1", 60_000 * "\1")], ids=["tildes", "controls"])
+@pytest.mark.parametrize("call", WHICH)
 def test_a_long_place_of_a_conflict_is_shown(connection, call, name, place):
-    assert places_said(connection, call, [name]) == f'["/{place}/a"]'
+    """Its beginning, and no character is escaped in part."""
+    wanted = clipped(f"conflict: {WHICH[call]}{at_places([f'/{place}/a'], 1, False)}")
+    assert conflict_said(connection, call, [name]) == wanted and len(wanted) == 1002
 
 
 def test_a_group_says_if_there_are_more_places_than_it_holds(connection):
-    """It holds as many as weigh 64 kB: none that is longer, and 436 of these, of 150 each."""
-    assert places_said(connection, OF_TEXTS, [200_000 * "~"]) == f'["/{200_000 * "~0"}/a"]'
-    assert places_said(connection, OF_A_GROUP, [200_000 * "~"]) == "more than 0 places"
-    for count, words in ((99, ""), (100, ""), (101, "101"), (436, "436"), (437, "more than 436"), (1_000, "more than 436")):
-        names = [f"{number:03}" for number in range(count)]
-        shown = json.dumps([f"/{name}/a" for name in names[:100]], separators=(",", ":"))
-        assert places_said(connection, OF_A_GROUP, names) == shown + (f", the first 100 of {words} places" if words else "")
-    one = [30_000 * "~", 60_000 * "a"]
-    assert places_said(connection, OF_A_GROUP, one) == f'["/{one[1]}/a"], the first 1 of more than 1 places'
+    """It holds as many as weigh 64 kB, and none that is longer."""
+    long = [f"/{200_000 * '~0'}/a"]
+    assert conflict_said(connection, OF_TEXTS, [200_000 * "~"]) == clipped(f"conflict: patches 0 and 1{at_places(long, 1, False)}")
+    assert conflict_said(connection, OF_A_GROUP, [200_000 * "~"]) == "conflict: two patches"
+    for length, said in ((60_000, clipped(f'conflict: two patches at "/a/a", "/{60_000 * "b"}/a"')), (66_000, 'conflict: two patches at "/a/a" and more')):
+        assert conflict_said(connection, OF_A_GROUP, ["a", length * "b"]) == said
+    for count in (1, 30, 99, 1_000):
+        places = [f"/{number:03}/a" for number in range(count)]
+        wanted = f"conflict: two patches{at_places(places, count, False)}"
+        assert conflict_said(connection, OF_A_GROUP, [place[1:4] for place in places]) == clipped(wanted)
 
 
 # Two rows of 888,896 bytes, whose places have 40 GB together, and by how many bytes more than before are resident at the most.
@@ -168,7 +175,7 @@ print(resource.getrusage(resource.RUSAGE_SELF).ru_maxrss - before < 50_000)
 
 
 def test_a_group_of_a_wide_conflict_takes_little_memory(extension, run):
-    words = "888896 SQLITE_CONSTRAINT_FUNCTION conflict: two patches of the group: more than 0 places\n[(None,)]\nTrue\n"
+    words = "888896 SQLITE_CONSTRAINT_FUNCTION conflict: two patches\n[(None,)]\nTrue\n"
     assert run(["/usr/bin/python3", "-I", "-c", ROWS_OF_A_WIDE_CONFLICT, extension]) == (0, words, "")
 
 

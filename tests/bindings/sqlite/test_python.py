@@ -38,7 +38,7 @@ def test_the_package_loads_its_own(python, tmp_path):
     path, joined, other, refused, conflict = out.splitlines()
     assert path.startswith(str(python.parents[1])) and path.endswith(f"/mergejoin/lib/{NAME}") and joined == "1"
     assert other == "this Python's sqlite3 loads no extensions" and refused == "not authorized"
-    assert conflict == 'conflict: patches 0 and 1: [""] SQLITE_CONSTRAINT_FUNCTION 1'
+    assert conflict == 'conflict: patches 0 and 1 at "" SQLITE_CONSTRAINT_FUNCTION 1'
 
 
 def test_without_the_extension_the_package_says_where_it_is(wheel, tmp_path):

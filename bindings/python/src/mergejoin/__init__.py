@@ -39,20 +39,21 @@ Of what stays in memory, and of conflicts(), a limit bounds the answer alone: bo
 """
 
 from . import _library, objects
-from ._errors import Conflict, InputError, Malformed, MergejoinError, Missing, NoPatches, Pending, Refused, TooLarge
+from ._errors import (Conflict, DocumentError, FormError, InputError, MergejoinError, Missing, NoPatches, PatchError, Pending, PointerError,
+                      Refused, TooLarge)
 from ._live import Arrival, ConflictingPair, Identity, Patches, PatchLog, Replica
 from ._texts import conflicts, get, join, merge, patch, replay, rewrite
 
 __all__ = [
     "join", "replay", "merge", "rewrite", "patch", "get", "conflicts", "Replica", "Patches", "PatchLog", "Identity", "Arrival",
-    "ConflictingPair", "objects", "MergejoinError", "Conflict", "NoPatches", "Refused", "Malformed", "Missing", "InputError", "TooLarge",
-    "Pending",
+    "ConflictingPair", "objects", "MergejoinError", "Conflict", "NoPatches", "Refused", "Missing", "InputError", "DocumentError", "PatchError",
+    "FormError", "PointerError", "TooLarge", "Pending",
 ]
 
 __version__ = _library.VERSION
 
 # They are shown, and pickled, by the name that users know.
-for _it in (Replica, Patches, PatchLog, Identity, Arrival, ConflictingPair, MergejoinError, Conflict, NoPatches, Refused, Malformed,
-            Missing, InputError, TooLarge, Pending):
-    _it.__module__ = __name__
-del _it
+for _name in __all__:
+    if isinstance(globals()[_name], type):
+        globals()[_name].__module__ = __name__
+del _name

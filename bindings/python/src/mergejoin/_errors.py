@@ -2,19 +2,28 @@
 
 import json
 from collections.abc import Mapping, Set
-from typing import Any, Iterable, List, Optional, Tuple, TypeVar, Union
+from typing import Any, Dict, Iterable, List, Optional, Tuple, Type, TypeVar, Union
 
 from . import _library
 
 _Item = TypeVar("_Item")
-_OF_A_DECISION = "no number is left for a start"
+_Error = TypeVar("_Error", bound="MergejoinError")
 
 
 class MergejoinError(Exception):
     """What all errors of this package are, but MemoryError and TypeError.
 
-    Patches and operations are numbered from 0.
+    The text of one is a line, with places as JSON strings. Patches and operations are numbered from 0.
     """
+
+    _line = ""
+
+    def _carry(self, line: str, **carried: object) -> None:
+        self.args = tuple(carried.values())
+        vars(self).update(carried, _line=line)
+
+    def __str__(self) -> str:
+        return self._line or super().__str__()
 
 
 class Conflict(MergejoinError):
@@ -35,25 +44,15 @@ class Conflict(MergejoinError):
 
     def __init__(self, first: Optional[int], second: Optional[int], places: List[str], total: Optional[int] = None,
                  more: bool = False) -> None:
+        which = "two patches" if first is None else f"patches {first} and {second}"
         total = len(places) if total is None else total
-        super().__init__(first, second, places, total, more)
-        self.first, self.second, self.places, self.total, self.more = first, second, places, total, more
-
-    def __str__(self) -> str:
-        which = "two patches" if self.first is None else f"patches {self.first} and {self.second}"
-        places = [json.dumps(place, ensure_ascii=False) for place in self.places]
-        if self.more:
-            places += ["more"] if places else []
-        elif self.total > len(places):
-            places.append(f"{self.total - len(places):,} {'more' if places else 'places' if self.total > 1 else 'place'}")
-        return f"conflict: {which}" + (f" at {', '.join(places)}" if places else "")
+        self._carry(f"conflict: {which}", first=first, second=second, places=places, total=total, more=more)
 
 
 class NoPatches(MergejoinError):
     """There are no patches to join."""
 
-    def __str__(self) -> str:
-        return "no patches"
+    _line = "no patches"
 
 
 class Refused(MergejoinError):
@@ -61,36 +60,14 @@ class Refused(MergejoinError):
 
     operation is its number, and cause is "into itself", "remove of root", "missing", "no place", "too deep" or "test failed".
 
-    Of PatchLog.decide() there is no operation: its number is 0, and cause "no number is left for a start".
+    Of PatchLog.decide() there is no operation: it is None, and cause "no number is left for a start".
     """
 
-    operation: int
+    operation: Optional[int]
     cause: str
 
-    def __init__(self, operation: int, cause: str) -> None:
-        super().__init__(operation, cause)
-        self.operation, self.cause = operation, cause
-
-    def __str__(self) -> str:
-        return self.cause if self.cause == _OF_A_DECISION else f"operation {self.operation}: {self.cause}"
-
-
-class Malformed(MergejoinError):
-    """What is given as a JSON Patch is a document, but not a JSON Patch.
-
-    cause is "not an array", and operation 0; or operation is the number of what is not an operation, and cause "not an object",
-    "no op", "unknown op", "no path", "no from", "bad pointer" or "no value".
-    """
-
-    operation: int
-    cause: str
-
-    def __init__(self, operation: int, cause: str) -> None:
-        super().__init__(operation, cause)
-        self.operation, self.cause = operation, cause
-
-    def __str__(self) -> str:
-        return self.cause if self.cause == "not an array" else f"operation {self.operation}: {self.cause}"
+    def __init__(self, operation: Optional[int], cause: str) -> None:
+        self._carry(cause, operation=operation, cause=cause)
 
 
 class Missing(MergejoinError, LookupError):
@@ -102,11 +79,7 @@ class Missing(MergejoinError, LookupError):
     number: int
 
     def __init__(self, number: int = 0) -> None:
-        super().__init__(number)
-        self.number = number
-
-    def __str__(self) -> str:
-        return "missing"
+        self._carry("missing", number=number)
 
 
 class TooLarge(MergejoinError):
@@ -121,11 +94,7 @@ class TooLarge(MergejoinError):
     key: Any = None
 
     def __init__(self, number: int = 0) -> None:
-        super().__init__(number)
-        self.number = number
-
-    def __str__(self) -> str:
-        return "too large" if self.key is None else f"conflicts of {self.key!r}: too large"
+        self._carry("too large", number=number)
 
 
 class Pending(MergejoinError):
@@ -133,44 +102,68 @@ class Pending(MergejoinError):
     call shows it.
     """
 
-    def __str__(self) -> str:
-        return "pending"
+    _line = "pending"
 
 
 class InputError(MergejoinError, ValueError):
-    """What is given is not a document, not a patch or not a pointer.
+    """What is given is not a document, not a patch, not a JSON Patch or not a pointer: each has its own error. cause says why."""
 
-    what is "document", "patch" or "pointer". number is that of the patch, and of a pointer the offset in bytes at which it
-    goes wrong; of a document it is 0.
+    cause: str
 
-    why is "not JSON", "number not whole" (a text has whole numbers from -2**63 to 2**64 - 1) or "too deep" (it has at most 126 levels); of
-    a pointer it is "no slash", "bad tilde" or "not UTF-8".
+
+class DocumentError(InputError):
+    """What is given as a document, or as a start, is not one.
+
+    cause is "not JSON", "number not whole" (a text has whole numbers from -2**63 to 2**64 - 1) or "too deep" (it has at most 126 levels).
 
     place is the JSON Pointer of the first number that is not whole, or of the first part that is too deep; else it is None. If
-    mergejoin.objects found the error before the call, it is the place of the value that is wrong, and why may be "name not text" too,
+    mergejoin.objects found the error before the call, it is the place of the value that is wrong, and cause may be "name not text" too,
     of the object at that place.
+    """
+
+    place: Optional[str]
+
+    def __init__(self, cause: str, place: Optional[str] = None) -> None:
+        self._carry(f"document: {cause}", cause=cause, place=place)
+
+
+class PatchError(InputError):
+    """A patch is not a document. number is that of the patch, and cause and place are as those of a DocumentError.
 
     key is that of the patch, if mergejoin.dask met it, and else None.
     """
 
-    what: str
     number: int
-    why: str
     place: Optional[str]
     key: Any = None
 
-    def __init__(self, what: str, number: int, why: str, place: Optional[str] = None) -> None:
-        super().__init__(what, number, why, place)
-        self.what, self.number, self.why, self.place = what, number, why, place
+    def __init__(self, number: int, cause: str, place: Optional[str] = None) -> None:
+        self._carry(f"patch {number}: {cause}", number=number, cause=cause, place=place)
 
-    def __str__(self) -> str:
-        if self.what == "pointer":
-            return f"pointer: {self.why}" + ("" if self.why == "no slash" else f" at {self.number}")
-        if self.key is not None:
-            which = f"patch of {self.key!r}"
-        else:
-            which = f"patch {self.number}" if self.what == "patch" else self.what
-        return f"{which}: {self.why}" + ("" if self.place is None else f" at {json.dumps(self.place, ensure_ascii=False)}")
+
+class FormError(InputError):
+    """What is given as a JSON Patch is a document, but not a JSON Patch.
+
+    cause is "not an array", and operation 0; or operation is the number of what is not an operation, and cause "not an object",
+    "no op", "unknown op", "no path", "no from", "bad pointer" or "no value".
+    """
+
+    operation: int
+
+    def __init__(self, operation: int, cause: str) -> None:
+        self._carry(cause, operation=operation, cause=cause)
+
+
+class PointerError(InputError):
+    """What is given as a JSON Pointer is not one.
+
+    offset is where it goes wrong, in bytes, and cause is "no slash", "bad tilde" or "not UTF-8".
+    """
+
+    offset: int
+
+    def __init__(self, offset: int, cause: str) -> None:
+        self._carry(f"pointer: {cause}", offset=offset, cause=cause)
 
 
 def ordered(given: Iterable[_Item], what: str) -> Iterable[_Item]:
@@ -180,27 +173,38 @@ def ordered(given: Iterable[_Item], what: str) -> Iterable[_Item]:
     return given
 
 
-def _words_and_place(text: str, length: int) -> Tuple[str, Optional[str]]:
-    """Why a text is not a document, and the place after it, if there is one: the words have so many bytes then, each of which is a
-    character.
+def with_line(error: _Error, line: str) -> _Error:
+    """Return the error, whose text is this line."""
+    error._line = line
+    return error
+
+
+def of_patch(error: PatchError, which: str, number: int = 0) -> PatchError:
+    """Return the same error of a patch of another number, or of a key: its line begins otherwise."""
+    return with_line(PatchError(number, error.cause, error.place), which + str(error)[str(error).index(": "):])
+
+
+def error_of(status: int, first: int, second: int, total: int, line: str, array: str, more: bool) -> Exception:
+    """Return the error of a reply without a result: of its line, and of the JSON array of places at the end of its text. A conflict has
+    neither if memory ran out for them.
     """
-    return (text[:length], text[length + len(" at "):]) if length else (text, None)
-
-
-def error_of(status: int, first: int, second: int, total: int, text: str, more: int = 0) -> Exception:
-    """Return the error of a reply without a result."""
-    if status == _library.CONFLICT:
-        is_of_list = first != second
-        return Conflict(first if is_of_list else None, second if is_of_list else None, json.loads(text) if text else [], total,
-                        bool(more))
-    if status in (_library.DOCUMENT, _library.PATCH):
-        return InputError("document" if status == _library.DOCUMENT else "patch", first, *_words_and_place(text, total))
-    if status in (_library.REFUSED, _library.FORM):
-        return (Refused if status == _library.REFUSED else Malformed)(first, text)
-    if status == _library.POINTER:
-        return InputError("pointer", first, text)
-    if status in (_library.MISSING, _library.TOO_LARGE):
-        return (Missing if status == _library.MISSING else TooLarge)(first)
-    if status in (_library.NO_PATCHES, _library.PENDING):
-        return NoPatches() if status == _library.NO_PATCHES else Pending()
-    return RuntimeError(f"mergejoin returns status {status}: {text}")
+    before, _, after = line.partition(": ")
+    cause, places = (after or before).partition(" at ")[0], json.loads(array or "[]")
+    pair, place = (first, second) if first != second else (None, None), places[0] if places else None
+    made: Dict[int, Tuple[Type[MergejoinError], Tuple[Any, ...]]] = {
+        _library.CONFLICT: (Conflict, (*pair, places, total, more)),
+        _library.NO_PATCHES: (NoPatches, ()),
+        _library.REFUSED: (Refused, (first if after else None, cause)),
+        _library.MISSING: (Missing, (first,)),
+        _library.DOCUMENT: (DocumentError, (cause, place)),
+        _library.PATCH: (PatchError, (first, cause, place)),
+        _library.FORM: (FormError, (first, cause)),
+        _library.POINTER: (PointerError, (first, cause)),
+        _library.PENDING: (Pending, ()),
+        _library.TOO_LARGE: (TooLarge, (first,)),
+    }
+    if status not in made:
+        return RuntimeError(f"mergejoin returns status {status}: {line}")
+    kind, carried = made[status]
+    error = kind(*carried)
+    return with_line(error, line or str(error))

@@ -83,13 +83,13 @@ class Replica:
     __hash__ = None  # type: ignore[assignment]  # it changes
 
     def __init__(self, start: Given) -> None:
-        """Begin with a start. InputError is raised if it is not a document."""
+        """Begin with a start. DocumentError is raised if it is not a document."""
         self._held = _library.Replica(start)
 
     def receive(self, patch: Given, *, limit: Optional[int] = None) -> None:
         """Receive a merge patch, which is shown then. One that was received before changes nothing.
 
-        InputError is raised if it is not a document, and Conflict if it conflicts with what was received: with all places, or with
+        PatchError is raised if it is not a document, and Conflict if it conflicts with what was received: with all places, or with
         the first ones that fit into the limit. If memory runs out, it is MemoryError, or Pending if the patch is received all the
         same. After all but Pending nothing has changed.
         """
@@ -116,7 +116,7 @@ class Replica:
     def get(self, pointer: Given, default: object = _ABSENT, *, limit: Optional[int] = None) -> object:
         """Return the part of the document that a JSON Pointer names, or default if the document has no part there.
 
-        InputError is raised if it is not a pointer, Missing if no default is given, and TooLarge.
+        PointerError is raised if it is not a pointer, Missing if no default is given, and TooLarge.
         """
         try:
             return self._held.get(pointer, limit)
@@ -167,12 +167,12 @@ class Patches:
     '{"author":"Ada","title":null}'
 
     If two patches conflict, a Patches still takes patches, and reads them, so that a text which is not a patch raises
-    InputError in every order. It is text() that raises Conflict, in each order too:
+    PatchError in every order. It is text() that raises Conflict, in each order too:
 
     >>> one.add('{"author": "Bob"}')
     >>> one.add('{"author": ')
     Traceback (most recent call last):
-    mergejoin.InputError: patch 0: not JSON
+    mergejoin.PatchError: patch 0: not JSON
     >>> one.text()
     Traceback (most recent call last):
     mergejoin.Conflict: conflict: two patches at "/author"
@@ -191,7 +191,7 @@ class Patches:
     def add(self, text: Given) -> None:
         """Take one more merge patch.
 
-        If it is not a document, InputError is raised, and this stays as it was. If memory runs out, it is Pending if
+        If it is not a document, PatchError is raised, and this stays as it was. If memory runs out, it is Pending if
         the patch is taken, and MemoryError if not: add it again, since a repeat changes nothing.
         """
         self._held.add(text)
@@ -298,7 +298,7 @@ class PatchLog:
     __slots__ = ("_held", "__weakref__")
 
     def __init__(self, epoch: int, start: Given) -> None:
-        """Begin with a start of this number, from 0 to 2**64 - 1. InputError is raised if the start is not a document."""
+        """Begin with a start of this number, from 0 to 2**64 - 1. DocumentError is raised if the start is not a document."""
         self._held = _library.PatchLog(epoch, start)
 
     def __repr__(self) -> str:
@@ -315,7 +315,7 @@ class PatchLog:
     def receive(self, epoch: int, identity: Tuple[int, int], patch: Given) -> Arrival:
         """Receive a message: a merge patch, its identity, and the number of the start that it was made for.
 
-        InputError is raised if the patch is not a document, whatever the message is of. Then, and if memory runs out, nothing has
+        PatchError is raised if the patch is not a document, whatever the message is of. Then, and if memory runs out, nothing has
         changed. What a patch costs that conflicts with nothing depends on the patch; one that does may cost all that is stored.
         """
         return Arrival(self._held.receive(epoch, *identity, patch))
@@ -326,7 +326,7 @@ class PatchLog:
 
     def count(self) -> int:
         """Return how many patches are stored. What a log takes and costs is bounded by this and by the lengths of the patches."""
-        return self._held.count()
+        return int(self._held.count())
 
     def conflicts(self, *, limit: Optional[int] = None) -> List[ConflictingPair]:
         """Return each two patches that conflict, once, in the order of their identities.

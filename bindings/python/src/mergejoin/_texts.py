@@ -4,7 +4,7 @@ import json
 from typing import Iterable, List, Optional, Tuple, TypeVar, Union, overload
 
 from . import _library
-from ._errors import InputError, Missing, TooLarge, ordered
+from ._errors import Missing, PatchError, TooLarge, of_patch, ordered
 
 Given = Union[str, bytes, bytearray, memoryview]
 Pair = Tuple[int, int, List[str]]
@@ -28,7 +28,7 @@ def join(texts: Iterable[Given], *, limit: Optional[int] = None) -> str:
     Traceback (most recent call last):
     mergejoin.Conflict: conflict: patches 0 and 2 at "/author"
 
-    InputError is looked for first, then NoPatches, Conflict and TooLarge.
+    PatchError is looked for first, then NoPatches, Conflict and TooLarge.
     """
     return _library.join(texts, limit)
 
@@ -41,7 +41,7 @@ def replay(start: Given, texts: Iterable[Given], *, limit: Optional[int] = None)
     >>> replay('{"title": "Notes"}', ['{"author": "Ada"}', '{"title": null}'])
     '{"author":"Ada"}'
 
-    InputError is looked for first, of the start and then of the patches, and then Conflict and TooLarge.
+    DocumentError is looked for first, then PatchError, Conflict and TooLarge.
     """
     return _library.replay(start, texts, limit)
 
@@ -54,7 +54,7 @@ def merge(document: Given, texts: Iterable[Given], *, limit: Optional[int] = Non
     >>> merge('{"title": "Notes"}', ['{"title": "Draft"}', '{"title": "Book"}'])
     '{"title":"Book"}'
 
-    InputError is raised of the document first, and then of the patches; then TooLarge.
+    DocumentError is looked for first, then PatchError and TooLarge.
     """
     return _library.merge(document, texts, limit)
 
@@ -68,7 +68,7 @@ def rewrite(document: Given, patch: Given, *, limit: Optional[int] = None) -> st
     >>> rewrite('{"title": "Notes"}', '{"title": "Book"}')
     '[{"op":"test","path":"/title","value":"Notes"},{"op":"replace","path":"/title","value":"Book"}]'
 
-    InputError is raised of the document first, and then of the patch; then TooLarge.
+    DocumentError is looked for first, then PatchError and TooLarge.
     """
     return _library.rewrite(document, patch, limit)
 
@@ -89,7 +89,7 @@ def patch(document: Given, json_patch: Given, *, limit: Optional[int] = None) ->
     Traceback (most recent call last):
     mergejoin.TooLarge: too large
 
-    InputError is looked for first, of the document and then of the patch, then Malformed, Refused and TooLarge.
+    DocumentError is looked for first, then PatchError, FormError, Refused and TooLarge.
     """
     return _library.patch(document, json_patch, limit)
 
@@ -105,7 +105,7 @@ def get(document: Given, pointer: Given, default: object = _ABSENT, *, limit: Op
     '"b"'
     >>> get('{"tags": ["a", "b"]}', '/tags/2', None)
 
-    InputError is looked for first, of the document and then of the pointer, and then Missing if no default is given.
+    DocumentError is looked for first, then PointerError, and then Missing if no default is given.
     """
     try:
         return _library.get(document, pointer, limit)
@@ -123,7 +123,7 @@ def conflicts(texts: Iterable[Given], *, limit: Optional[int] = None) -> List[Pa
     >>> conflicts(['{"a": 1, "b": {"c": 2}}', '{"d": 3}', '{"a": 4, "b": 5}'])
     [(0, 2, ['/a', '/b'])]
 
-    A text that conflicts with no other costs what it is long; one that does may cost what all texts are long. InputError is raised if a
+    A text that conflicts with no other costs what it is long; one that does may cost what all texts are long. PatchError is raised if a
     text is not a document, and TooLarge if the list takes more than the limit, as PatchLog.first_conflicts() counts it. With a limit that is
     looked at each time that the texts are twice as many. So it is seen early, if the texts are in no order.
     """
@@ -131,8 +131,8 @@ def conflicts(texts: Iterable[Given], *, limit: Optional[int] = None) -> List[Pa
     for number, text in enumerate(ordered(texts, "texts")):
         try:
             log.receive(0 if fault is None else _EARLY, number, 0, text)
-        except InputError as error:
-            raise InputError("patch", number, error.why, error.place) from None
+        except PatchError as error:
+            raise of_patch(error, f"patch {number}", number) from None
         if limit is not None and number in _LOOKED_AT and fault is None:
             fault = _too_large(log, limit)
     if fault:

@@ -32,7 +32,8 @@ from dask.bag import Bag
 from dask.base import tokenize
 from dask.highlevelgraph import HighLevelGraph
 
-from . import Conflict, InputError, TooLarge, conflicts, join
+from . import Conflict, PatchError, TooLarge, conflicts, join
+from ._errors import of_patch, with_line
 
 _Given = Union[str, bytes]
 # The texts of a key that were not read, in one piece; or a str, their join, if they were joined before they moved.
@@ -71,7 +72,7 @@ def join_by_key(bag: Bag, split_out: Optional[int] = None, split_every: Optional
     [('a', '{"x":1,"y":null}'), ('b', None)]
 
     Nothing depends on how the texts lie in partitions, on the order in which Dask joins them, on a text that arrives twice,
-    or on a task that is run again. A text that is not a document raises InputError, with its key, when the bag is computed. So
+    or on a task that is run again. A text that is not a document raises PatchError, with its key, when the bag is computed. So
     it does if patches of that key conflict too. Its number is 0, since texts have no order.
 
     The result has split_out partitions, the shares: without it as many as the bag has, and at most 32. The texts and the
@@ -98,7 +99,7 @@ def conflicts_by_key(bag: Bag, split_out: Optional[int] = None, limit: Optional[
     >>> conflicts_by_key(dask.bag.from_sequence(log, npartitions=3)).compute(scheduler="synchronous")
     [('b', [('{"x": 2}', '{"x": 3}', ['/x'])])]
 
-    As with join_by_key(), nothing depends on partitions, orders and repeats, a text that is not a document raises InputError with
+    As with join_by_key(), nothing depends on partitions, orders and repeats, a text that is not a document raises PatchError with
     its key, and the result has split_out partitions.
 
     Of n patches that all conflict there are n * (n - 1) / 2 pairs. So TooLarge is raised, with the key, if the pairs of a key are longer
@@ -275,7 +276,7 @@ def _separators(text: str) -> int:
 
 
 def _refuse_separators(pieces: Dict[Any, str], more: Dict[Any, List[str]]) -> None:
-    """Raises the InputError of a text that has a separator in it."""
+    """Raises the PatchError of a text that has a separator in it."""
     for key, piece in pieces.items():
         if _separators(piece) != len(more.get(key, ())):
             _with_key(join, key, [piece])
@@ -324,10 +325,10 @@ def _with_key(call: Callable[[List[_Text]], _Made], key: Any, texts: List[_Text]
     """Calls with the texts of a key, which an error has then, and the number 0: that in one of many orders says nothing."""
     try:
         return call(texts)
-    except InputError as error:
-        of_key: Union[InputError, TooLarge] = InputError(error.what, 0, error.why, error.place)
-    except TooLarge:
-        of_key = TooLarge()
+    except PatchError as error:
+        of_key: Union[PatchError, TooLarge] = of_patch(error, f"patch of {key!r}")
+    except TooLarge as error:
+        of_key = with_line(TooLarge(), f"conflicts of {key!r}: {error}")
     of_key.key = key
     raise of_key
 

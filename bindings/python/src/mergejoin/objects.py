@@ -4,14 +4,14 @@
 >>> objects.replay({"title": "Notes"}, [{"author": "Ada"}, {"title": None}])
 {'author': 'Ada'}
 
-A tuple is an array too. What is not a document is refused before the call, by an InputError that has its place: a float,
+A tuple is an array too. What is not a document is refused before the call, by an error that has its place: a float,
 also a whole one, and an int out of -2**63 to 2**64 - 1 as "number not whole"; a dict with a key that is not a str as "name
 not text"; 127 levels and more, as of what contains itself, as "too deep"; and all else, as bytes or half of a surrogate pair, as
 "not JSON".
 
 >>> objects.join([{"price": 5}, {"items": [{"price": 9.5}]}])
 Traceback (most recent call last):
-mergejoin.InputError: patch 1: number not whole at "/items/0/price"
+mergejoin.PatchError: patch 1: number not whole at "/items/0/price"
 
 The errors are those of mergejoin, and limit bounds what it bounds there. Texts are faster: what is read from a file or from a network
 need not become objects.
@@ -21,7 +21,7 @@ import json
 from typing import Any, Iterable, Iterator, List, Optional, Tuple
 
 from . import _library, _texts
-from ._errors import InputError, Missing, ordered
+from ._errors import DocumentError, Missing, PatchError, ordered, with_line
 from ._texts import Given, Pair
 
 __all__ = ["join", "replay", "merge", "rewrite", "patch", "get", "conflicts"]
@@ -49,7 +49,7 @@ def replay(start: object, patches: Iterable[object], *, limit: Optional[int] = N
     >>> replay({"k": 0}, [{"a": 1}, {"k": None}])
     {'a': 1}
     """
-    return _read(_library.replay(_written(start, "document"), _all_written(patches), limit))[0]
+    return _read(_library.replay(_written(start), _all_written(patches), limit))[0]
 
 
 def merge(document: object, patches: Iterable[object], *, limit: Optional[int] = None) -> Any:
@@ -58,7 +58,7 @@ def merge(document: object, patches: Iterable[object], *, limit: Optional[int] =
     >>> merge({"k": 0}, [{"k": 1}, {"k": 2}])
     {'k': 2}
     """
-    return _read(_library.merge(_written(document, "document"), _all_written(patches), limit))[0]
+    return _read(_library.merge(_written(document), _all_written(patches), limit))[0]
 
 
 def rewrite(document: object, patch: object, *, limit: Optional[int] = None) -> List[Any]:
@@ -67,7 +67,7 @@ def rewrite(document: object, patch: object, *, limit: Optional[int] = None) -> 
     >>> rewrite({}, {"k": 1})
     [{'op': 'add', 'path': '/k', 'value': 1}]
     """
-    edits: List[Any] = _read(_library.rewrite(_written(document, "document"), _written(patch, "patch"), limit))[0]
+    edits: List[Any] = _read(_library.rewrite(_written(document), _written(patch, 0), limit))[0]
     return edits
 
 
@@ -77,7 +77,7 @@ def patch(document: object, json_patch: object, *, limit: Optional[int] = None) 
     >>> patch([1], [{"op": "add", "path": "/-", "value": 2}])
     [1, 2]
     """
-    return _read(_library.patch(_written(document, "document"), _written(json_patch, "patch"), limit))[0]
+    return _read(_library.patch(_written(document), _written(json_patch, 0), limit))[0]
 
 
 def get(document: object, pointer: Given, default: Any = _ABSENT, *, limit: Optional[int] = None) -> Any:
@@ -89,7 +89,7 @@ def get(document: object, pointer: Given, default: Any = _ABSENT, *, limit: Opti
     'c'
     """
     try:
-        return _read(_library.get(_written(document, "document"), pointer, limit))[0]
+        return _read(_library.get(_written(document), pointer, limit))[0]
     except Missing:
         if default is _ABSENT:
             raise
@@ -108,16 +108,17 @@ def conflicts(patches: Iterable[object], *, limit: Optional[int] = None) -> List
 def _all_written(patches: Iterable[object]) -> List[bytes]:
     if not isinstance(patches, (list, tuple)):
         patches = ordered(patches, "patches")
-    return [_written(patch, "patch", number) for number, patch in enumerate(patches)]
+    return [_written(patch, number) for number, patch in enumerate(patches)]
 
 
-def _written(value: object, what: str, number: int = 0) -> bytes:
-    """Gives the text of a value, or raises what is wrong with it."""
+def _written(value: object, number: Optional[int] = None) -> bytes:
+    """Gives the text of a document, or of the patch of a number, or raises what is wrong with it."""
     text = _library.written(value)
     if text is None:
-        why, steps = _fault(value, 0) or ("not JSON", [])
+        cause, steps = _fault(value, 0) or ("not JSON", [])
         place = "".join("/" + step.replace("~", "~0").replace("/", "~1") for step in reversed(steps))
-        raise InputError(what, number, why, place)
+        error = DocumentError(cause, place) if number is None else PatchError(number, cause, place)
+        raise with_line(error, f"{error} at {json.dumps(place, ensure_ascii=False)}")
     return text
 
 

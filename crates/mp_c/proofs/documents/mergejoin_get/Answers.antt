@@ -2,8 +2,8 @@ use Rattle.std.proofs.Common.{ℕ, subst, sym}
 use Rattle.std.specs.Str.{IsValidUpTo}
 use Rattle.mp_tree.specs.View.{document as meaning_of}
 use Rattle.mp_texts.specs.Faults.{IsRead}
-use Rattle.mp_c.specs.Answered.{IsPart, not_utf8}
-use Rattle.mp_c.proofs.Exports.{no_document, part_replied, renamed}
+use Rattle.mp_c.specs.Answered.{IsPart}
+use Rattle.mp_c.proofs.Exports.{no_document, not_utf8_replied, part_replied, renamed}
 use Rattle.mp_c.proofs.documents.mergejoin_get.Goals as goal
 use Rattle.mp_c.proofs.documents.mergejoin_get.Goals.{in-Ok-read_doc, in-Err-read_doc}
 
@@ -26,8 +26,9 @@ returns-after-read_doc c =
       | in-Ok-read_doc w ↦
           let read : IsRead document = (meaning_of w.in-Ok-read_doc.field-0, w.in-Ok-read_doc.ensures.document) in
           let report = w.report_not_utf8 in
+          let valid = subst (λ (n : ℕ). IsValidUpTo pointer n) (sym w.valid_up_to.ensures) c.in-Err.ensures.cases.1 in
           renamed (IsPart c.args.limit document pointer) reply report.result before after report.new.out w.result-is w.out-is
-          (not_utf8 w.valid_up_to.result, (read, subst (λ (n : ℕ). IsValidUpTo pointer n) (sym w.valid_up_to.ensures) c.in-Err.ensures.cases.1), report.ensures)
+          (not_utf8_replied c.args.limit document pointer w.valid_up_to.result report.result before report.new.out (read, valid) report.ensures)
       | in-Err-read_doc w ↦
           let arm = w.in-Err-read_doc in
           let report = w.report_unread in

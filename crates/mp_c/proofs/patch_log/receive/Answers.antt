@@ -1,6 +1,6 @@
 use Rattle.mp_c.specs.OnHandles.{handle_text}
 use Rattle.mp_c.specs.OnLogs.{ArrivesAs, SaysArrival}
-use Rattle.mp_c.specs.Report.{status_patch}
+use Rattle.mp_c.specs.Report.{a_patch}
 use Rattle.mp_c.proofs.Started.{reported_unread}
 use Rattle.mp_c.proofs.patch_log.receive.Goals as goal
 
@@ -13,5 +13,5 @@ returns-in-Ok c =
 
 pub returns-in-Err : goal.returns-in-Err
 returns-in-Err c =
-    reported_unread c.args.limit status_patch (λ a. SaysArrival c.args.epoch c.args.identity c.args.patch.now c.args.log.now a c.receive_text.new.self) c.report_unread_text.result c.args.out.now c.report_unread_text.new.out
-    c.args.patch.now c.in-Err.fault c.in-Err.ensures.fault c.report_unread_text.ensures (λ total said says. (says, c.in-Err.ensures.unchanged)) c.in-Err.ensures.unchanged
+    reported_unread c.args.limit a_patch (λ a. SaysArrival c.args.epoch c.args.identity c.args.patch.now c.args.log.now a c.receive_text.new.self) c.report_unread_text.result c.args.out.now c.report_unread_text.new.out
+    c.args.patch.now c.in-Err.fault c.in-Err.ensures.fault c.report_unread_text.ensures (λ why place says. (says, c.in-Err.ensures.unchanged)) c.in-Err.ensures.unchanged

@@ -3,7 +3,7 @@ use Rattle.mp_replica.specs.Held.{HeldPatches}
 use Rattle.mp_replica.specs.declared.fault.LiveFault.TheVariants.{OutOfMemory}
 use Rattle.mp_c.specs.OnHandles.{HasCombined, handle_fault, patches_in}
 use Rattle.mp_c.specs.Replies.{HandleReplies}
-use Rattle.mp_c.specs.Report.{status_document}
+use Rattle.mp_c.specs.Report.{a_document}
 use Rattle.mp_c.proofs.OnPatches.{combined_as}
 use Rattle.mp_c.proofs.patches.combine_into.Goals as goal
 
@@ -19,8 +19,8 @@ returns c =
     let other = c.deref_mut.result.now in
     let after = c.combine-added.new.self in
     let left = c.combine-added.new.other in
-    let combined = combined_as c.args.limit status_document before after c.report_added.result c.args.out.now c.report_added.new.out other left c.combine-added.result c.combine-added.ensures.texts c.combine-added.ensures.conflict c.report_added.ensures in
+    let combined = combined_as c.args.limit a_document before after c.report_added.result c.args.out.now c.report_added.new.out other left c.combine-added.result c.combine-added.ensures.texts c.combine-added.ensures.conflict c.report_added.ensures in
     let owned : other ≡ patches_in c.args.other.now.value = c.deref_mut.ensures.value ∙ c.in-Ok.ensures in
     let put : patches_in c.put.new.self.value ≡ left = ap patches_in c.put.ensures in
-    subst (λ (o : HeldPatches). HandleReplies c.args.limit status_document (λ a. HasCombined c.args.limit before o a after (patches_in c.put.new.self.value)) c.report_added.result c.args.out.now c.report_added.new.out) owned
-    (subst (λ (l : HeldPatches). HandleReplies c.args.limit status_document (λ a. HasCombined c.args.limit before other a after l) c.report_added.result c.args.out.now c.report_added.new.out) (sym put) combined)
+    subst (λ (o : HeldPatches). HandleReplies c.args.limit a_document (λ a. HasCombined c.args.limit before o a after (patches_in c.put.new.self.value)) c.report_added.result c.args.out.now c.report_added.new.out) owned
+    (subst (λ (l : HeldPatches). HandleReplies c.args.limit a_document (λ a. HasCombined c.args.limit before other a after l) c.report_added.result c.args.out.now c.report_added.new.out) (sym put) combined)

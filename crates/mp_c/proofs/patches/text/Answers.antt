@@ -1,7 +1,7 @@
 use Rattle.std.proofs.Common.{List, ℕ, string_bytes, subst}
 use Rattle.mp_c.specs.OnHandles.{SettlesPatches, handle_text}
 use Rattle.mp_c.specs.Replies.{IsReply}
-use Rattle.mp_c.specs.Report.{report_of_text, status_document}
+use Rattle.mp_c.specs.Report.{report_of_text, a_document}
 use Rattle.mp_c.proofs.OnPatches.{not_joined, still_taken}
 use Rattle.mp_c.proofs.patches.text.Goals as goal
 
@@ -19,4 +19,4 @@ returns-in-Err c =
     let before = c.args.patches.now in
     let after = c.settle-settled.new.self in
     let settles : SettlesPatches before after = (still_taken before after c.settle-settled.ensures.taken, c.settle-settled.ensures.unchanged) in
-    not_joined c.args.limit status_document before after c.report_no_join.result c.args.out.now c.report_no_join.new.out c.in-Err.fault settles c.in-Err.ensures.joined c.in-Err.ensures.join c.report_no_join.ensures
+    not_joined c.args.limit a_document before after c.report_no_join.result c.args.out.now c.report_no_join.new.out c.in-Err.fault settles c.in-Err.ensures.joined c.in-Err.ensures.join c.report_no_join.ensures

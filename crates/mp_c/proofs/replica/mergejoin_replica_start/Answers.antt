@@ -1,14 +1,14 @@
 use Rattle.std.proofs.Common.{[], refl, rules}
 use Rattle.mp_replica.specs.declared.fault.LiveFault.TheVariants.{OutOfMemory}
 use Rattle.mp_c.specs.OnHandles.{IsStarted, handle_fault, handle_text}
-use Rattle.mp_c.specs.Report.{status_document}
+use Rattle.mp_c.specs.Report.{a_document}
 use Rattle.mp_c.proofs.Started.{reported_unread}
 use Rattle.mp_c.proofs.replica.mergejoin_replica_start.Goals as goal
 
 pub returns-in-Err : goal.returns-in-Err
 returns-in-Err c =
-    reported_unread c.args.limit status_document (λ a. IsStarted c.args.start.now c.args.replica.now.value a c.args.replica.now.value) c.report_unread_text.result c.args.out.now c.report_unread_text.new.out c.args.start.now c.in-Err.fault
-    c.in-Err.ensures.fault c.report_unread_text.ensures (λ total said says. (says, refl)) refl
+    reported_unread c.args.limit a_document (λ a. IsStarted c.args.start.now c.args.replica.now.value a c.args.replica.now.value) c.report_unread_text.result c.args.out.now c.report_unread_text.new.out c.args.start.now c.in-Err.fault
+    c.in-Err.ensures.fault c.report_unread_text.ensures (λ why place says. (says, refl)) refl
 
 pub returns-in_default : goal.returns-in_default
 returns-in_default c = (handle_fault OutOfMemory, refl, c.report_no_memory.ensures)

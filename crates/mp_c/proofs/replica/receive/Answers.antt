@@ -2,7 +2,7 @@ use Rattle.std.proofs.Common.{[], refl, rules, subst}
 use Rattle.mp_replica.specs.declared.fault.LiveFault.TheVariants.{OutOfMemory, Pending}
 use Rattle.mp_replica.specs.declared.replica.Received.{Received}
 use Rattle.mp_c.specs.OnHandles.{HasReceived, Receives, StillFollows, handle_fault, handle_text}
-use Rattle.mp_c.specs.Report.{status_patch}
+use Rattle.mp_c.specs.Report.{a_patch}
 use Rattle.mp_c.proofs.OnReplicas.{refuses}
 use Rattle.mp_c.proofs.Started.{reported_unread}
 use Rattle.mp_c.proofs.replica.receive.Goals as goal
@@ -12,8 +12,8 @@ returns-in-Err c =
     let before = c.args.replica.now in
     let after = c.receive_text.new.self in
     let still : StillFollows before after = search rules in
-    reported_unread c.args.limit status_patch (λ a. HasReceived c.args.limit c.args.patch.now before a after) c.report_unread_text.result c.args.out.now c.report_unread_text.new.out c.args.patch.now c.in-Err.fault c.in-Err.ensures.fault
-    c.report_unread_text.ensures (λ total said says. (says, c.in-Err.ensures.unchanged)) still
+    reported_unread c.args.limit a_patch (λ a. HasReceived c.args.limit c.args.patch.now before a after) c.report_unread_text.result c.args.out.now c.report_unread_text.new.out c.args.patch.now c.in-Err.fault c.in-Err.ensures.fault
+    c.report_unread_text.ensures (λ why place says. (says, c.in-Err.ensures.unchanged)) still
 
 pub returns-in-Taken : goal.returns-in-Taken
 returns-in-Taken c =

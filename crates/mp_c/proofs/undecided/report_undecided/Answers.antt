@@ -1,9 +1,9 @@
-use Rattle.std.proofs.Common.{List, refl, subst}
+use Rattle.std.proofs.Common.{List, subst}
 use Rattle.std.proofs.lemmas.Option.{get_or_from_slice_get, slice_get_within}
 use Rattle.mp_tree.specs.Look.{Path}
 use Rattle.mp_replica.specs.PatchLog.{IsDecideFault, IsFirstPair, stored_of}
 use Rattle.mp_replica.specs.declared.fault.DecideFault.{DecideFault}
-use Rattle.mp_c.specs.OnHandles.{IsPlacesTextOrNone}
+use Rattle.mp_c.specs.OnHandles.{AreShownOrNone}
 use Rattle.mp_c.specs.OnLogs.{HasNoPatchAt, decide_conflict, decide_last, decide_missing}
 use Rattle.mp_c.proofs.undecided.report_undecided.Goals as goal
 
@@ -22,8 +22,8 @@ returns-in-Conflict c log fault =
     let chosen = c.args.chosen.now in
     let why = subst (λ (why : DecideFault). IsDecideFault c.args.limit why log chosen) c.in-Conflict.is fault in
     let is_first : IsFirstPair (stored_of log) chosen c.in-Conflict.first c.in-Conflict.second = why.2 in
-    let (array, text, r) = c.report_places.ensures in (
-      decide_conflict c.number_of-in-Conflict.result c.number_of-in-Conflict-2.result c.in-Conflict.conflicts.total array,
+    let (said, shown, replied) = c.report_places.ensures in (
+      decide_conflict c.number_of-in-Conflict.result c.number_of-in-Conflict-2.result c.in-Conflict.conflicts.total said,
       (
         why.0,
         why.1,
@@ -35,10 +35,10 @@ returns-in-Conflict c log fault =
           at_second = c.number_of-in-Conflict-2.ensures is_first.chosen_second;
           places = c.in-Conflict.conflicts.places.items;
           conflicts = why.3;
-          text = subst (λ (places : List Path). IsPlacesTextOrNone c.args.limit places array) c.as_slice.ensures.value text;
+          shown = subst (λ (places : List Path). AreShownOrNone c.args.limit places said) c.as_slice.ensures.value shown;
         },
       ),
-      record { status = r.status; first = refl; second = refl; total = r.total; spare = r.spare; flags = r.flags; whole = r.whole; buffer = r.buffer },
+      replied,
     )
 
 pub returns-in-LastEpoch : goal.returns-in-LastEpoch

@@ -1,6 +1,6 @@
 use Rattle.std.proofs.Common.{◌<◌, ◌^◌, arith, rules}
 use Rattle.mp_pointer.proofs.Facts.{numeral-decimal}
-use Rattle.mp_cli.proofs.lines.with_number.Goals as goal
+use Rattle.mp_texts.proofs.lines.with_number.Goals as goal
 
 pub returns : goal.returns
 returns c =

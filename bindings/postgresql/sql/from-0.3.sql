@@ -1,0 +1,1 @@
+-- Version 0.3 has each name that this one has. What is of a name is replaced.
